@@ -21,7 +21,7 @@ use Rattle.published_parts.specs.Holdings.{demanded, tokens}
 use Rattle.held_seats.specs.Choices.{may_choose}
 use Rattle.published_parts.specs.Markets.{Market, names_in, seats_in, tables_in}
 use Rattle.published_parts.specs.Journals.{IsJournalOf}
-use Rattle.published_parts.specs.Offers.{IsProvedBest, IsProvedDemand, all_sections, offer_to}
+use Rattle.published_parts.specs.Offers.{IsProvedBest, IsProvedDemand, all_sections, offer_to, student_in}
 use Rattle.published_parts.proofs.Asked.{budget_at, nobody, zip_at}
 use Rattle.published_market.specs.Publishing.{IsOutcome, IsPublishedText, Lengths, terms_at}
 use Rattle.published_market.specs.Turns.{IsPublishedTurn, offer_at}
@@ -31,7 +31,7 @@ use Rattle.published_market.proofs.Sentences.{stage_two_within}
 use Rattle.published_market.proofs.Turning.{made_each, same_held}
 use Rattle.certificate_checker.specs.Certificates.{HoldsOf, IsAccepted, IsUseTold}
 use Rattle.certificate_checker.specs.Firsts.{AllBelow}
-use Rattle.certificate_checker.specs.Students.{IsProvedBundle, offer_in, proved_in, student_in}
+use Rattle.certificate_checker.specs.Students.{IsProvedBundle, offer_in, proved_in}
 use Rattle.certificate_checker.specs.Terms.{TermsData}
 use Rattle.certificate_checker.specs.Turns.{EndsQuietly, HasQuietPass, IsDue, IsQuietTurn, IsRightTurn, held_before, order_in, turn_in, turn_offer}
 use Rattle.certificate_checker.proofs.Progressing.{next_pass}

@@ -19,8 +19,9 @@ use std::test::Fail;
 use std::thread::Threads;
 use student_roll::Roll;
 use worked_terms::{
-    BEYOND_ONE_ENVY, EQUAL_ENVY, EQUAL_ROLL, FOUR_ENVY, FOUR_ROLL, LOWER_BASE_ENVY, NOBODY_ROLL,
-    ONE_SEAT_CATALOGUE, ORDINARY_ENVY, ORDINARY_ROLL,
+    BEYOND_ONE_ENVY, EQUAL_ENVY, EQUAL_ROLL, FOUR_ENVY, FOUR_ROLL, LOWER_BASE_ENVY,
+    LOWER_BASE_ROLL, NOBODY_ROLL, ONE_SEAT_CATALOGUE, ORDINARY_ENVY, ORDINARY_ROLL,
+    THREE_SECTIONS_CATALOGUE,
 };
 
 // A section that is rated, its course, and the rating; each has one credit.
@@ -204,7 +205,7 @@ fn equal_budgets_envy_after_the_aftermarket(rt: HostRuntime) -> Result<(), Fail>
 
 const CARRIED: Case = Case {
     catalogue: ONE_SEAT_CATALOGUE,
-    roll: b"student,budget,credits,courses,carry\nu,100,10,1,0\nv,90,10,1,15\n",
+    roll: LOWER_BASE_ROLL,
     students: &[(100, 1, WANTS_A, &[], &[0]), (105, 1, WANTS_A, &[], &[0])],
     settled: &[&[], &[A]],
     last: &[&[], &[A]],
@@ -220,7 +221,7 @@ fn carried_tokens_count_for_higher_and_lower(rt: HostRuntime) -> Result<(), Fail
 const TWO_NAMES: &[u8] = b"student,budget,credits,courses\nu,300,10,3\nv,100,10,3\n";
 
 const BEYOND: Case = Case {
-    catalogue: b"section,course,seats,credits,meetings\nA,AA,1,1,\nB,BB,1,1,\nC,CC,1,1,\n",
+    catalogue: THREE_SECTIONS_CATALOGUE,
     roll: TWO_NAMES,
     students: &[
         (300, 3, &[(0, 0, 50), (1, 1, 50), (2, 2, 10)], &[], &[0; 3]),
@@ -343,12 +344,9 @@ fn try_gate<R: Abort>(rt: &R, gate: &MeetingGate) {
     let (first_starts, _) = gate.first_worker.counts();
     let (second_starts, _) = gate.second_worker.counts();
     assert_eq!(rt; first_starts.saturating_add(second_starts), 2);
-    let sessions = [
-        gate.first.counts(),
-        gate.second.counts(),
-        gate.third.counts(),
-    ];
-    assert!(rt; sessions == [(0, 0); 3]);
+    for session in [&gate.first, &gate.second, &gate.third] {
+        assert_eq!(rt; session.counts(), (0, 0));
+    }
     assert_eq!(rt; gate.others(), 0);
 }
 

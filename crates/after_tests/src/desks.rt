@@ -5,81 +5,55 @@ ghost use Rattle.dropadd_desk.specs.HallView.{market_of, room_of};
 use crate::tables::tables_of;
 use bundle_rules::Bundle;
 use course_catalog::Catalog;
-use dropadd_desk::{HallCommand, HallDesk, HallReply};
+use dropadd_desk::{HallCommand, HallDesk};
 use dropadd_hall::read_request;
 use held_seats::are_below;
-use market_units::{SectionNo, StudentNo};
+use market_units::SectionNo;
 use std::alloc::Global;
 use std::process::Abort;
+use std::test::Fail;
 use student_roll::Roll;
 use worked_terms::{FIVE_SECTIONS_TERM, FIVE_STUDENTS_TERM, WorkedTerm};
 
-// A line of a request, and its reply.
-pub(crate) type Said = (&'static [u8], HallReply);
-
-// Each reply, where u holds A.
-const EACH: [Said; 24] = [
-    (b"drop", HallReply::Unreadable),
-    (b"add z Q", HallReply::NoStudent),
-    (b"add u Q", HallReply::NoSection),
-    (b"leave z A", HallReply::NoStudent),
-    (b"add u A", HallReply::Holding),
-    (b"add u B", HallReply::Clash { with: SectionNo(0) }),
-    (b"add u C", HallReply::Credits),
-    (b"add u D", HallReply::Added),
-    (b"add u E", HallReply::Courses),
-    (b"add v A", HallReply::Queued { ahead: 0 }),
-    (b"add v A", HallReply::Waiting),
-    (b"add w A", HallReply::Queued { ahead: 1 }),
-    (b"leave w B", HallReply::NotWaiting),
-    (b"drop v B", HallReply::NotHolding),
-    (
-        b"drop u A",
-        HallReply::Dropped {
-            lapsed: 0,
-            next: Some(StudentNo(1)),
-        },
-    ),
-    (b"add u A", HallReply::Queued { ahead: 1 }),
-    (
-        b"drop v A",
-        HallReply::Dropped {
-            lapsed: 0,
-            next: Some(StudentNo(2)),
-        },
-    ),
-    (b"leave w A", HallReply::NotWaiting),
-    (b"leave u A", HallReply::Left),
-    (b"add w D", HallReply::Added),
-    (b"add w E", HallReply::Courses),
-    (b"add w B", HallReply::Clash { with: SectionNo(0) }),
-    (
-        b"drop w D",
-        HallReply::Dropped {
-            lapsed: 0,
-            next: None,
-        },
-    ),
-    (b"add w C", HallReply::Credits),
-];
+// Requests with each reply, one after the other, where u holds A.
+const EACH: &str = "\
+drop => Unreadable
+add z Q => NoStudent
+add u Q => NoSection
+leave z A => NoStudent
+add u A => Holding
+add u B => Clash { with: SectionNo(0) }
+add u C => Credits
+add u D => Added
+add u E => Courses
+add v A => Queued { ahead: 0 }
+add v A => Waiting
+add w A => Queued { ahead: 1 }
+leave w B => NotWaiting
+drop v B => NotHolding
+drop u A => Dropped { lapsed: 0, next: Some(StudentNo(1)) }
+add u A => Queued { ahead: 1 }
+drop v A => Dropped { lapsed: 0, next: Some(StudentNo(2)) }
+leave w A => NotWaiting
+leave u A => Left
+add w D => Added
+add w E => Courses
+add w B => Clash { with: SectionNo(0) }
+drop w D => Dropped { lapsed: 0, next: None }
+add w C => Credits
+";
 
 // Two who took what clashes in the meantime lapse, and the third is next.
-const LAPSE: [Said; 8] = [
-    (b"add v A", HallReply::Queued { ahead: 0 }),
-    (b"add w A", HallReply::Queued { ahead: 1 }),
-    (b"add x A", HallReply::Queued { ahead: 2 }),
-    (b"add y A", HallReply::Queued { ahead: 3 }),
-    (b"add v B", HallReply::Added),
-    (b"add w B", HallReply::Added),
-    (
-        b"drop u A",
-        HallReply::Dropped {
-            lapsed: 2,
-            next: Some(StudentNo(3)),
-        },
-    ),
-    (b"add u A", HallReply::Queued { ahead: 1 }),
-];
+const LAPSE: &str = "\
+add v A => Queued { ahead: 0 }
+add w A => Queued { ahead: 1 }
+add x A => Queued { ahead: 2 }
+add y A => Queued { ahead: 3 }
+add v B => Added
+add w B => Added
+drop u A => Dropped { lapsed: 2, next: Some(StudentNo(3)) }
+add u A => Queued { ahead: 1 }
+";
 
 // What so many students hold, of whom the first holds the first section.
 fn opening_of(rt: &impl Abort, alloc: Global, students: u16) -> Vec<Bundle> {
@@ -116,23 +90,30 @@ fn open(rt: &impl Abort, alloc: Global, term: &WorkedTerm) -> HallDesk {
 }
 
 // Each request has the reply beside it.
-fn say_each(rt: &impl Abort, desk: &mut HallDesk, said: &[Said]) {
-    for (line, reply) in said {
-        let request = read_request(line).unwrap_or(HallCommand::Unreadable);
+fn say_each(rt: &impl Abort, alloc: Global, desk: &mut HallDesk, said: &str) -> Result<(), Fail> {
+    for row in said.split_terminator('\n') {
+        let Some((line, wanted)) = row.split_once(" => ") else {
+            return Err(Fail::from("a request without a reply"));
+        };
+        let request = read_request(line.as_bytes()).unwrap_or(HallCommand::Unreadable);
         assert!(rt; desk.room() >= 1);
-        assert!(rt; desk.take(request) == *reply);
+        let reply = desk.take(request);
+        let told = format!(in alloc; "{reply:?}")?;
+        assert_eq!(rt; told.as_str(), wanted, "{line}");
     }
+    Ok(())
 }
 
 #[test]
-fn each_reply(rt: HostRuntime) {
+fn each_reply(rt: HostRuntime) -> Result<(), Fail> {
     let mut desk = open(&rt, rt.alloc(), &FIVE_SECTIONS_TERM);
-    say_each(&rt, &mut desk, &EACH);
+    say_each(&rt, rt.alloc(), &mut desk, EACH)?;
     assert_eq!(rt; desk.room(), 0);
+    Ok(())
 }
 
 #[test]
-fn two_lapse(rt: HostRuntime) {
+fn two_lapse(rt: HostRuntime) -> Result<(), Fail> {
     let mut desk = open(&rt, rt.alloc(), &FIVE_STUDENTS_TERM);
-    say_each(&rt, &mut desk, &LAPSE);
+    say_each(&rt, rt.alloc(), &mut desk, LAPSE)
 }

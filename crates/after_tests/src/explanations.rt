@@ -86,12 +86,12 @@ fn best_of_four(menu: &Menu, prices: &[Tokens], budget: Tokens) -> Bundle
 
 // How the check of this text ends, in the place of the tree of what was proved.
 fn checked(
+    text: &[u8],
     menu: &Menu,
     prices: &[Tokens],
     budget: Tokens,
     section: SectionNo,
     proved: &Proved,
-    text: &[u8],
 ) -> Result<(), u32>
     requires prices { HasPrices menu.now prices.now }
     requires menu { All (λ rated. rated.section.0 < 4) menu.now.places }
@@ -119,18 +119,18 @@ fn fails_where_spoiled<R: Abort>(
 {
     let whole = proved.tree.as_slice();
     assert!(rt; whole.len() < 100);
-    assert!(rt; checked(menu, prices, budget, section, proved, whole).is_ok());
+    assert!(rt; checked(whole, menu, prices, budget, section, proved).is_ok());
     for at in 0..whole.len() {
         let mut spoiled = whole.to_vec(alloc).expect(rt, "memory");
         spoiled[at] = b'?';
         let end = Err(at as u32);
-        assert!(rt; checked(menu, prices, budget, section, proved, &spoiled) == end);
-        assert!(rt; checked(menu, prices, budget, section, proved, &whole[..at]) == end);
+        assert!(rt; checked(&spoiled, menu, prices, budget, section, proved) == end);
+        assert!(rt; checked(&whole[..at], menu, prices, budget, section, proved) == end);
     }
     let mut longer = whole.to_vec(alloc).expect(rt, "memory");
     longer.push(b'*').expect(rt, "memory");
     let end = Err(whole.len() as u32);
-    assert!(rt; checked(menu, prices, budget, section, proved, &longer) == end);
+    assert!(rt; checked(&longer, menu, prices, budget, section, proved) == end);
 }
 
 // The student of the case is told its text, and the tree is that of the best bundle with the
@@ -164,144 +164,113 @@ fn try_case<R: Abort>(rt: &R, alloc: Global, case: &Case) {
 
 const FREE: &[Tokens] = &[Tokens(0), Tokens(0), Tokens(0), Tokens(0)];
 
-const ALONE: [Case; 3] = [
+// A student who rates the first two sections alike is asked for the second one.
+const TWO: Case = Case {
+    places: &[(0, 50, 1), (1, 50, 1)],
+    pairs: &[],
+    clashes: &[0, 0],
+    caps: (10, 2),
+    prices: FREE,
+    budget: 0,
+    student: b"ann",
+    section: 1,
+    text: "",
+};
+
+// One with three sections of several credits, of which at most four are allowed.
+fn tight(section: u16, text: &'static str) -> Case {
     Case {
+        places: &[(0, 50, 3), (1, 40, 2), (2, 99, 5)],
+        clashes: &[0; 3],
+        caps: (4, 2),
+        section,
+        text,
+        ..TWO
+    }
+}
+
+#[test]
+fn limits_alone(rt: HostRuntime) {
+    let price = Case {
         places: &[(0, 50, 1), (2, 40, 1)],
         pairs: &[(0, 1, 10)],
-        clashes: &[0, 0],
-        caps: (10, 2),
         prices: &[Tokens(104), Tokens(0), Tokens(0), Tokens(0)],
         budget: 103,
         student: b"bob",
         section: 0,
         text: "bob A alone price\n",
-    },
-    Case {
-        places: &[(0, 50, 3), (1, 40, 2), (2, 99, 5)],
-        pairs: &[],
-        clashes: &[0, 0, 0],
-        caps: (4, 2),
-        prices: FREE,
-        budget: 0,
-        student: b"ann",
-        section: 2,
-        text: "ann C alone credits\n",
-    },
-    Case {
+        ..TWO
+    };
+    try_case(&rt, rt.alloc(), &price);
+    try_case(&rt, rt.alloc(), &tight(2, "ann C alone credits\n"));
+    let courses = Case {
         places: &[(1, 9, 2)],
-        pairs: &[],
         clashes: &[0],
         caps: (4, 0),
-        prices: FREE,
-        budget: 0,
         student: b"bob",
-        section: 1,
         text: "bob B alone courses\n",
-    },
-];
-
-#[test]
-fn limits_alone(rt: HostRuntime) {
-    for case in ALONE {
-        try_case(&rt, rt.alloc(), &case);
-    }
+        ..TWO
+    };
+    try_case(&rt, rt.alloc(), &courses);
 }
-
-const BESIDE: [Case; 3] = [
-    Case {
-        places: &[(0, 60, 1), (1, 59, 1)],
-        pairs: &[],
-        clashes: &[0, 0],
-        caps: (10, 2),
-        prices: &[Tokens(101), Tokens(101), Tokens(0), Tokens(0)],
-        budget: 150,
-        student: b"w",
-        section: 1,
-        text: "w B beside price\nbest [B] 59\nlost 1\ntree +x!*\n",
-    },
-    Case {
-        places: &[(0, 50, 3), (1, 40, 2), (2, 99, 5)],
-        pairs: &[],
-        clashes: &[0, 0, 0],
-        caps: (4, 2),
-        prices: FREE,
-        budget: 0,
-        student: b"ann",
-        section: 1,
-        text: "ann B beside credits\nbest [B] 40\nlost 10\ntree +x!-*\n",
-    },
-    Case {
-        places: &[(0, 50, 1), (1, 50, 1)],
-        pairs: &[],
-        clashes: &[0, 0],
-        caps: (10, 1),
-        prices: FREE,
-        budget: 0,
-        student: b"ann",
-        section: 1,
-        text: "ann B beside courses\nbest [B] 50\nlost 0\ntree +x!*\n",
-    },
-];
 
 #[test]
 fn limits_beside_the_bundle(rt: HostRuntime) {
-    for case in BESIDE {
-        try_case(&rt, rt.alloc(), &case);
-    }
+    let price = Case {
+        places: &[(0, 60, 1), (1, 59, 1)],
+        prices: &[Tokens(101), Tokens(101), Tokens(0), Tokens(0)],
+        budget: 150,
+        student: b"w",
+        text: "w B beside price\nbest [B] 59\nlost 1\ntree +x!*\n",
+        ..TWO
+    };
+    try_case(&rt, rt.alloc(), &price);
+    let credits = tight(
+        1,
+        "ann B beside credits\nbest [B] 40\nlost 10\ntree +x!-*\n",
+    );
+    try_case(&rt, rt.alloc(), &credits);
 }
+
+// What is told of one of two sections, with these caps.
+const OF_TWO: [((u16, u8), u16, &str); 3] = [
+    (
+        (10, 1),
+        1,
+        "ann B beside courses\nbest [B] 50\nlost 0\ntree +x!*\n",
+    ),
+    ((10, 1), 0, "ann A held\n"),
+    ((10, 0), 2, "ann C unrated\n"),
+];
 
 // The section that is not rated, and the one that clashes, pass the cap on courses too: the first
 // reason that applies is told.
-const OTHERS: [Case; 4] = [
-    Case {
-        places: &[(0, 50, 1), (1, 50, 1)],
-        pairs: &[],
-        clashes: &[0, 0],
-        caps: (10, 1),
-        prices: FREE,
-        budget: 0,
-        student: b"ann",
-        section: 0,
-        text: "ann A held\n",
-    },
-    Case {
-        places: &[(0, 50, 1), (1, 50, 1)],
-        pairs: &[],
-        clashes: &[0, 0],
-        caps: (10, 0),
-        prices: FREE,
-        budget: 0,
-        student: b"ann",
-        section: 2,
-        text: "ann C unrated\n",
-    },
-    Case {
+#[test]
+fn other_reasons(rt: HostRuntime) {
+    for (caps, section, text) in OF_TWO {
+        let case = Case {
+            caps,
+            section,
+            text,
+            ..TWO
+        };
+        try_case(&rt, rt.alloc(), &case);
+    }
+    let clash = Case {
         places: &[(0, 20, 1), (3, 45, 1)],
-        pairs: &[],
         clashes: &[2, 1],
         caps: (10, 1),
-        prices: FREE,
         budget: 102,
         student: b"cat",
         section: 0,
         text: "cat A clash D\nbest [A] 20\nlost 25\ntree !-*\n",
-    },
-    Case {
-        places: &[(0, 50, 1), (1, 50, 1)],
+        ..TWO
+    };
+    try_case(&rt, rt.alloc(), &clash);
+    let less = Case {
         pairs: &[(0, 1, -200)],
-        clashes: &[0, 0],
-        caps: (10, 2),
-        prices: FREE,
-        budget: 0,
-        student: b"ann",
-        section: 1,
         text: "ann B less\nbest [B] 50\nlost 0\ntree +!n!*\n",
-    },
-];
-
-#[test]
-fn other_reasons(rt: HostRuntime) {
-    for case in OTHERS {
-        try_case(&rt, rt.alloc(), &case);
-    }
+        ..TWO
+    };
+    try_case(&rt, rt.alloc(), &less);
 }

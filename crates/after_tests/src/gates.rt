@@ -3,7 +3,7 @@ ghost use Rattle.std.specs.Prelude.{◌≤◌};
 
 use crate::opened_halls::hall_of;
 use crate::told_audits::audited;
-use made_run::made_summary;
+use made_run::{Numbers, made_summary};
 use market_edge::{Gate, Stop};
 use market_units::MAX_WORKERS;
 use std::alloc::Global;
@@ -11,7 +11,7 @@ use std::process::Abort;
 use std::sync::Wait;
 use std::sync::atomic::{AtomicU64, Ordering};
 use std::thread::Threads;
-use worked_terms::{EQUAL_ENVY, EQUAL_MARKET, EQUAL_TERM};
+use worked_terms::{EQUAL_ENVY, EQUAL_MARKET};
 
 // Counts the stops of sessions, the starts of the worker of one number, and those of workers of
 // greater numbers.
@@ -65,7 +65,7 @@ fn add_one(counter: &AtomicU64) {
 #[test]
 fn a_hall_passes_the_gate(rt: HostRuntime) {
     let watch = Watch::of(1);
-    let hall = hall_of(&rt, rt.alloc(), EQUAL_TERM.text.as_bytes(), &watch);
+    let hall = hall_of(&rt, rt.alloc(), EQUAL_MARKET.term.text.as_bytes(), &watch);
     assert!(rt; hall.is_ok());
     assert_eq!(rt; watch.counts(), (5, 0, 0));
 }
@@ -95,7 +95,13 @@ fn try_made<R: Abort + Threads + Wait + Sync>(rt: &R, alloc: Global, workers: u1
     requires { (1 ≤ workers) × (workers ≤ MAX_WORKERS) }
 {
     let watch = Watch::of(workers);
-    let made = made_summary(rt, alloc, workers, 7, 2, 2, 0, &watch);
+    let numbers = Numbers {
+        seed: 7,
+        students: 2,
+        sections: 2,
+        accept: 0,
+    };
+    let made = made_summary(rt, alloc, workers, numbers, &watch);
     assert!(rt; made.is_ok());
     let (sessions, starts, beyond) = watch.counts();
     assert!(rt; starts > 0, "{workers} workers");

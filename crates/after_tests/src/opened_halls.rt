@@ -1,10 +1,8 @@
 // Published texts with which a hall opens, and others.
-ghost use Rattle.std.specs.Prelude.{◌≤◌, length};
-
+use crate::halls::stream_of;
 use crate::tables::tables_of;
 use certificate_checker::{CheckEnd, Finding};
-use dropadd_desk::HallCommand;
-use dropadd_hall::{published_hall, read_requests};
+use dropadd_hall::published_hall;
 use market_certificate::LineFault;
 use market_edge::{Gate, OpenGate};
 use market_units::SectionNo;
@@ -12,32 +10,18 @@ use std::alloc::Global;
 use std::process::Abort;
 use std::sync::Wait;
 use std::thread::Threads;
-use worked_terms::EQUAL_TERM;
+use worked_terms::DROPPED_SEAT_HALL;
 
 // How the term's text ends.
 const END: &[u8] = b"final u [X]\nfinal v []\nused X 1 1\nend\n";
 
-const REQUESTS: &[u8] = b"add v X\ndrop u X\nadd u X\ndrop v X\n";
-
 // The text of two students and the one seat, which ends so.
 fn text_of<R: Abort>(rt: &R, alloc: Global, end: &[u8]) -> Vec<u8> {
-    let front = EQUAL_TERM
-        .text
-        .as_bytes()
-        .strip_suffix(END)
-        .expect(rt, "an end");
+    let whole = DROPPED_SEAT_HALL.term.text.as_bytes();
+    let front = whole.strip_suffix(END).expect(rt, "an end");
     let mut text = front.to_vec(alloc).expect(rt, "memory");
     text.extend_from_slice(end).expect(rt, "memory");
     text
-}
-
-// The four requests.
-fn requests_of<R: Abort>(rt: &R, alloc: Global) -> Vec<HallCommand>
-    ensures { length result.items ≤ 100 }
-{
-    let requests = read_requests(alloc, REQUESTS, 100).expect(rt, "requests");
-    assert!(rt; requests.len() <= 100);
-    requests
 }
 
 /// What is told of the four requests of one session where a hall opens with this text of the two
@@ -49,8 +33,9 @@ pub(crate) fn hall_of<R: Abort + Threads + Wait + Sync, G: Gate + Sync>(
     gate: &G,
 ) -> Result<Vec<u8>, CheckEnd> {
     assert!(rt; text.len() < 10_000);
-    let (catalog, roll) = tables_of(rt, alloc, EQUAL_TERM.catalogue, EQUAL_TERM.roll);
-    let requests = requests_of(rt, alloc);
+    let term = DROPPED_SEAT_HALL.term;
+    let (catalog, roll) = tables_of(rt, alloc, term.catalogue, term.roll);
+    let requests = stream_of(rt, alloc, DROPPED_SEAT_HALL.requests);
     published_hall(rt, alloc, &catalog, &roll, text, &[requests], gate)
 }
 
@@ -64,17 +49,9 @@ fn found<R: Abort + Threads + Wait + Sync>(rt: &R, alloc: Global, end: &[u8]) ->
 
 #[test]
 fn a_dropped_seat_goes_to_the_first_who_waits(rt: HostRuntime) {
-    let told: &[u8] = b"entry 1 add v X: queued 0
-entry 1 drop u X: dropped 0 to v
-entry 1 add u X: queued 0
-entry 1 drop v X: dropped 0 to u
-final u [X]
-final v []
-used X 1 1
-";
     let text = text_of(&rt, rt.alloc(), END);
     let hall = hall_of(&rt, rt.alloc(), &text, &OpenGate).expect(&rt, "a hall");
-    assert!(rt; hall.as_slice() == told);
+    assert!(rt; hall.as_slice() == DROPPED_SEAT_HALL.told.as_bytes());
 }
 
 #[test]

@@ -34,7 +34,7 @@ pub(crate) fn settings_of<R: Abort>(rt: &R, alloc: Global, text: &[u8]) -> Setti
     ensures { (result.spread ≤ MAX_SPREAD) × (result.raise ≤ MAX_RAISE) }
 {
     let settings = read_settings(alloc, text).expect(rt, "settings");
-    assert!(rt; settings.spread <= 49 && settings.raise <= 50);
+    assert!(rt; settings.spread <= MAX_SPREAD && settings.raise <= MAX_RAISE);
     settings
 }
 

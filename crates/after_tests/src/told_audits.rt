@@ -7,6 +7,7 @@ use certificate_checker::{CheckEnd, Finding};
 use fairness_audit::published_audit;
 use market_edge::{Gate, OpenGate};
 use market_units::{MAX_WORKERS, SectionNo};
+use published_parts::Market;
 use std::alloc::Global;
 use std::process::Abort;
 use std::sync::Wait;
@@ -33,9 +34,12 @@ pub(crate) fn audited<R: Abort + Threads + Wait + Sync, G: Gate + Sync>(
     let settings = settings_of(rt, alloc, market.settings);
     let streams = streams_of(rt, alloc, market.session);
     let text = text.to_vec(alloc).expect(rt, "memory");
-    published_audit(
-        rt, alloc, workers, &catalog, &roll, &settings, &streams, text, gate,
-    )
+    let said = Market {
+        catalog: &catalog,
+        roll: &roll,
+        settings: &settings,
+    };
+    published_audit(rt, alloc, workers, &said, &streams, text, gate)
 }
 
 // Tries the audit with 1, 2 and 16 workers.

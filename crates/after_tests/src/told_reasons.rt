@@ -6,6 +6,7 @@ use certificate_checker::{CheckEnd, Finding};
 use explain_desk::published_reason;
 use market_certificate::LineFault;
 use market_units::{SectionNo, StudentNo};
+use published_parts::Market;
 use std::alloc::Global;
 use std::process::Abort;
 use std::test::Fail;
@@ -27,16 +28,13 @@ fn told<R: Abort>(
     let text = text.to_vec(alloc).expect(rt, "memory");
     assert!(rt; student < roll.len());
     assert!(rt; section < catalog.len());
-    published_reason(
-        alloc,
-        &catalog,
-        &roll,
-        &settings,
-        &streams,
-        text,
-        StudentNo(student),
-        SectionNo(section),
-    )
+    let said = Market {
+        catalog: &catalog,
+        roll: &roll,
+        settings: &settings,
+    };
+    let student = StudentNo(student);
+    published_reason(alloc, &said, &streams, text, student, SectionNo(section))
 }
 
 #[test]

@@ -12,7 +12,7 @@ ghost use Rattle.aftermarket_stage.specs.Runs.{IsBestAt};
 use budget_draw::raised;
 use bundle_rules::{Bundle, Rated};
 use demand_api::Crowd;
-use demand_oracle::{Workspace, demand};
+use demand_oracle::{Workspace, demand_from};
 use market_units::{MAX_RAISE, MAX_SECTIONS, NoMemory, SectionNo, SectionSet, Tokens};
 use std::alloc::Global;
 
@@ -75,7 +75,8 @@ impl Chooser {
             return held[place];
         }
         let budget = raised(crowd.budgets[place], raise);
-        let bundle = demand(&mut self.workspace, menu, prices, budget, allowed);
+        let mine = &held[place];
+        let bundle = demand_from(&mut self.workspace, menu, prices, budget, allowed, mine);
         self.known[place] = Some(*allowed);
         bundle
     }

@@ -1,12 +1,14 @@
 -- The greatest of each course, added up from the last prospect to the first.
-use Rattle.std.proofs.Common.{◌≡◌, ℕ, ◌+◌, ◌-◌, ◌*◌, ◌<◌, ◌≤◌, ◌≢◌, max, subst, Bool, true, false, ◌==◌, ◌||◌, List, ◌∷◌, length, get_or, set, get_or-set_same, get_or-set_other, drop, drop-cons, add-one, refl, sym, ap, ◌∙◌, arith, inl, inr}
+use Rattle.std.proofs.Common.{◌≡◌, ℕ, zero, suc, ◌+◌, ◌-◌, ◌*◌, ◌<◌, ◌≤◌, ◌≢◌, max, true, false, ◌==◌, ◌||◌, List, [], ◌∷◌, length, get_or, take, drop, drop-cons, add-one, refl, sym, ap, ◌∙◌, arith, inl, inr}
 use Rattle.std.specs.Prelude.{if◌then◌else◌}
-use Rattle.std.proofs.lemmas.Bool.{cases_Bool, cases_order, eq-eqb, ne_eqb}
+use Rattle.std.specs.Int.{bit_at}
+use Rattle.std.proofs.lemmas.Bool.{cases_Bool, cases_eq, eq-eqb, ne_eqb}
 use Rattle.bundle_bounds.specs.declared.prospects.Prospect.{Prospect}
+use Rattle.bundle_bounds.specs.declared.prospects.Resource.{Resource}
 use Rattle.bundle_bounds.specs.declared.prospects.Resource.TheVariants.{Count}
-use Rattle.bundle_bounds.specs.Courses.{has_course, greatest, by_course}
+use Rattle.bundle_bounds.specs.Courses.{takes_of, has_course, greatest, by_course}
 use Rattle.bundle_bounds.specs.Bounds.{over_price}
-use Rattle.bundle_bounds.proofs.Steps.{by_course-step}
+use Rattle.bundle_bounds.proofs.Steps.{by_course-step, greatest_none}
 
 pub drop_here : (ps : List Prospect) (i : ℕ) (d : Prospect) → i < length ps → drop i ps ≡ get_or ps i d ∷ drop (i + 1) ps
 drop_here ps i d low = rw (add-one, drop-cons ps i d) refl
@@ -45,25 +47,56 @@ added_front f ps i sum more d low sum_is more_is =
     let goal : sum + more ≡ whole = omega arith in goal
 
 -- one more course is there
-pub there_more : (seen : List Bool) (ps : List Prospect) (i at : ℕ) (d : Prospect) → i < length ps → length seen ≡ 60 → at ≡ (get_or ps i d).course → at < 60
-    → ((course : ℕ) → course < 60 → get_or seen course false ≡ has_course (drop (i + 1) ps) course)
-    → (course : ℕ) → course < 60 → get_or (set seen at true) course false ≡ has_course (drop i ps) course
-there_more seen ps i at d low whole at_is small there course within =
-    let rest : Bool = has_course (drop (i + 1) ps) course in
+pub courses_more : (courses more : ℕ) (ps : List Prospect) (i at : ℕ) (d : Prospect) → i < length ps → at ≡ (get_or ps i d).course → bit_at more at ≡ 1
+    → ((other : ℕ) → other ≢ at → bit_at more other ≡ bit_at courses other)
+    → ((course : ℕ) → (bit_at courses course == 1) ≡ has_course (drop (i + 1) ps) course)
+    → (course : ℕ) → (bit_at more course == 1) ≡ has_course (drop i ps) course
+courses_more courses more ps i at d low at_is here others there course =
     let split : has_course (drop i ps) course ≡ ((get_or ps i d).course == course || has_course (drop (i + 1) ps) course) =
     ap (λ l. has_course l course) (drop_here ps i d low) in
-    elim (cases_order at course) [
+    elim (cases_eq course at) [
       | inl same ↦
-          let equal : ((get_or ps i d).course == course) ≡ true = eq-eqb (get_or ps i d).course course (sym at_is ∙ same) in
-          let inside : at < length seen = omega arith in
-          subst (λ n. get_or (set seen at true) n false ≡ has_course (drop i ps) course) same
-          (let read : get_or (set seen at true) at false ≡ true = rw get_or-set_same refl in read ∙ sym (split ∙ rw equal refl))
+          let equal : ((get_or ps i d).course == course) ≡ true = eq-eqb (get_or ps i d).course course (sym at_is ∙ sym same) in
+          let read : bit_at more course ≡ 1 = ap (bit_at more) same ∙ here in
+          ap (λ n. n == 1) read ∙ sym (split ∙ rw equal refl)
       | inr other ↦
-          let apart : at ≢ course = elim other [ inl below ↦ (λ e. absurd (omega arith)) | inr above ↦ (λ e. absurd (omega arith)) ] in
-          let differ : ((get_or ps i d).course == course) ≡ false = ne_eqb (get_or ps i d).course course (λ e. apart (at_is ∙ e)) in
-          let read : get_or (set seen at true) course false ≡ get_or seen course false = get_or-set_other seen at course true false (λ e. apart (sym e)) in
-          read ∙ there course within ∙ sym (split ∙ rw differ refl)
+          let differ : ((get_or ps i d).course == course) ≡ false = ne_eqb (get_or ps i d).course course (λ e. other (sym e ∙ sym at_is)) in
+          ap (λ n. n == 1) (others course other) ∙ there course ∙ sym (split ∙ rw differ refl)
     ]
+
+-- the highest of a course, one more of it in front
+pub peak_front : (f : Prospect → ℕ) (ps : List Prospect) (i own most high : ℕ) (d : Prospect) → i < length ps → own ≡ f (get_or ps i d)
+    → most ≡ greatest f (get_or ps i d).course (drop (i + 1) ps) → high ≡ max own most → high ≡ greatest f (get_or ps i d).course (drop i ps)
+peak_front f ps i own most high d low own_is most_is high_is =
+    let p = get_or ps i d in
+    let same : (p.course == p.course) ≡ true = eq-eqb p.course p.course refl in
+    let front : greatest f p.course (p ∷ drop (i + 1) ps) ≡ max (f p) (greatest f p.course (drop (i + 1) ps)) = rw same refl in
+    high_is ∙ (λ j. max (own_is j) (most_is j)) ∙ sym (ap (greatest f p.course) (drop_here ps i d low) ∙ front)
+
+-- none of a course from a prospect on
+pub none_from : (ps : List Prospect) (i c : ℕ) (d : Prospect) → i < length ps → ((get_or ps i d).course == c) ≡ false
+    → has_course (drop (i + 1) ps) c ≡ false → has_course (drop i ps) c ≡ false
+none_from ps i c d low other none = ap (λ l. has_course l c) (drop_here ps i d low) ∙ rw other none
+
+-- the greatest of a course is among the first ones, where none of it is behind them
+pub greatest_firsts : (f : Prospect → ℕ) (ps : List Prospect) (n c : ℕ) → has_course (drop n ps) c ≡ false → greatest f c (take n ps) ≡ greatest f c ps
+greatest_firsts f [] zero c none = refl
+greatest_firsts f [] (suc n) c none = refl
+greatest_firsts f (p ∷ ps) zero c none = sym (greatest_none f (p ∷ ps) c none)
+greatest_firsts f (p ∷ ps) (suc n) c none =
+    elim (cases_Bool (p.course == c)) [
+      | inl same ↦ rw same (ap (λ g. max (f p) g) (greatest_firsts f ps n c none))
+      | inr other ↦ rw other (greatest_firsts f ps n c none)
+    ]
+
+-- what is left over the next price
+pub over_next : (resource : Resource) (price : ℕ) (p : Prospect) → over_price resource (price + 1) p ≡ over_price resource price p - takes_of resource p
+over_next resource price p =
+    let t : ℕ = takes_of resource p in
+    let a : ℕ = price * t in
+    let split : (price + 1) * t ≡ a + t = omega arith in
+    let w : ℕ = 1000 * p.worth in
+    rw split (let goal : w - (a + t) ≡ (w - a) - t = omega arith in goal)
 
 -- the sum of all is what the first adds and the sum of the others
 pub record IsWithout (sum here rest : ℕ) : Type 0 where

@@ -17,6 +17,7 @@ pub mod Lines
 pub mod LeafPlaces
 pub mod Knowing
 pub mod Adding
+pub mod Without
 pub mod Prefixes
 pub mod StayingOpen
 pub mod Stemming

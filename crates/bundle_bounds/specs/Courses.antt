@@ -1,5 +1,5 @@
 -- Of each course only one section can be taken.
-use Rattle.std.specs.Prelude.{ℕ, ◌||◌, ◌==◌, max, if◌then◌else◌, Bool, false, List, [], ◌∷◌}
+use Rattle.std.specs.Prelude.{ℕ, ◌≡◌, ◌||◌, ◌==◌, max, if◌then◌else◌, Bool, false, List, [], ◌∷◌}
 use Rattle.market_units.specs.Totals.{total}
 use Rattle.bundle_bounds.specs.declared.prospects.Prospect.{Prospect}
 use Rattle.bundle_bounds.specs.declared.prospects.Resource.{Resource}
@@ -30,3 +30,7 @@ greatest f course (p ∷ ps) =
 -- for each course the greatest f, added up
 abbrev pub by_course : (Prospect → ℕ) → List Prospect → ℕ
 by_course f ps = total (λ course. greatest f course ps) (courses_of ps)
+
+-- all of this course among these are among the first of them
+abbrev pub HasAllOfCourse : List Prospect → List Prospect → ℕ → Type 0
+HasAllOfCourse firsts ps course = (f : Prospect → ℕ) → greatest f course firsts ≡ greatest f course ps

@@ -4,6 +4,7 @@ pub mod Opens
 pub mod Views
 pub mod Rests
 pub mod Bounds
+pub mod Peaks
 pub mod Laws
 pub mod Props
 pub mod Modest

@@ -16,6 +16,7 @@ mod pruning;
 mod sifting;
 mod stems;
 mod tangents;
+mod words;
 
 pub use nodes::{Leaf, Node, bound, bound_closes, is_open};
 pub use offer::Offer;

@@ -1,10 +1,12 @@
 // What is known of open places, and what one of each course can add at most.
-ghost use Rattle.std.specs.Prelude.{◌≡◌, ◌≤◌, ◌*◌, ◌+◌, ◌-◌, ◌==◌, if◌then◌else◌, false, IsTrue, length, All};
+ghost use Rattle.std.specs.Prelude.{◌≡◌, ◌≤◌, ◌*◌, ◌+◌, ◌-◌, ◌==◌, if◌then◌else◌, max, false, IsTrue, length, All};
 ghost use Rattle.market_units.specs.declared.limits.TheConstants.{MAX_RATINGS};
 ghost use Rattle.bundle_bounds.specs.Courses.{takes_of, has_course, greatest, by_course};
 ghost use Rattle.bundle_bounds.specs.Bounds.{over_price, at_price};
 ghost use Rattle.bundle_bounds.specs.Modest.{IsModest};
+ghost use Rattle.bundle_bounds.specs.Peaks.{IsPeak};
 
+use crate::words::{is_in, with};
 use market_units::{MAX_PRICE, MAX_RATINGS};
 
 /// What a bundle takes of: the budget, the credits, the number of sections.
@@ -15,8 +17,8 @@ pub(crate) enum Resource {
     Count,
 }
 
-/// An open place: the first place of its course, the most that it can add to the utility, its price
-/// and its credits.
+/// An open place: the first place of its course, by which courses are told apart, the most that it
+/// can add to the utility, its price and its credits.
 #[derive(Clone, Copy, Debug)]
 pub(crate) struct Prospect {
     pub(crate) place: u8,
@@ -34,18 +36,14 @@ pub(crate) struct Prospects<'p> {
     ghost few: { length list.now ≤ MAX_RATINGS },
 }
 
-// Courses are told apart by a place of the menu. These are at most 60, so that a small array has a
-// mark for each course; course numbers have no such bound.
-const COURSES: usize = MAX_RATINGS;
-
 // Room for what is known of the open places of a menu.
-pub(crate) const NO_PROSPECTS: [Prospect; COURSES] = [Prospect {
+pub(crate) const NO_PROSPECTS: [Prospect; MAX_RATINGS] = [Prospect {
     place: 0,
     course: 0,
     worth: 0,
     price: 0,
     credits: 0,
-}; COURSES];
+}; MAX_RATINGS];
 
 /// How much the place takes of a resource: its price in tokens, its credits, or 1 section.
 pub(crate) fn takes(prospect: &Prospect, resource: Resource) -> u64
@@ -71,33 +69,43 @@ pub(crate) fn over_price(prospect: &Prospect, resource: Resource, price: u64) ->
     (1000 * u64::from(prospect.worth)).saturating_sub(price * takes(prospect, resource))
 }
 
+/// What is left over a price by a prospect, or at most by those of its course; and what is left over
+/// the next price.
+#[derive(Clone, Copy)]
+pub(crate) struct Peak {
+    pub(crate) course: u8,
+    pub(crate) here: u64,
+    pub(crate) after: u64,
+}
+
+/// What is left over the price by a prospect.
+#[inline(always)]
+pub(crate) fn peak_of(prospect: &Prospect, resource: Resource, price: u64) -> Peak
+    requires modest { IsModest prospect.now }
+    requires price { price ≤ 20000000 }
+    ensures course { result.course ≡ prospect.now.course }
+    ensures here { result.here ≡ over_price resource price prospect.now }
+    ensures after { result.after ≡ over_price resource (price + 1) prospect.now }
+    ensures high { result.here ≤ 20000000 }
+    ensures after_high { result.after ≤ 20000000 }
+{
+    let here = over_price(prospect, resource, price);
+    Peak {
+        course: prospect.course,
+        here,
+        after: here.saturating_sub(takes(prospect, resource)),
+    }
+}
+
 /// The price times what is left of the resource, and for each course the greatest `over_price` of
 /// its open places, added up.
+#[inline(always)]
 pub(crate) fn at_price(all: &Prospects, resource: Resource, rest: u32, price: u64) -> u64
     requires price { price ≤ 20000000 }
     ensures value { result ≡ at_price resource rest price all.now.list.now }
     ensures high { result ≤ 20000000 * rest + 20000000 * MAX_RATINGS }
 {
-    price * u64::from(rest) + add_up(all, resource, price)
-}
-
-// For each course the most that is left over the price, added up.
-fn add_up(all: &Prospects, resource: Resource, price: u64) -> u64
-    requires price { price ≤ 20000000 }
-    ensures value { result ≡ by_course (over_price resource price) all.now.list.now }
-    ensures high { result ≤ 20000000 * length all.now.list.now }
-{
-    let list = all.list;
-    let mut is_there = [false; COURSES];
-    let mut sum = 0;
-    for index in (0..list.len()).rev() {
-        let prospect = &list[index];
-        let course = usize::from(prospect.course);
-        let is_alone = !is_there[course];
-        sum += added(prospect, &list[index + 1..], resource, price, is_alone);
-        is_there[course] = true;
-    }
-    sum
+    at_two_prices(all, resource, rest, price).0
 }
 
 /// What `at_price` gives at this price, and what it gives at the price that is greater by 1.
@@ -128,79 +136,102 @@ fn add_up_twice(all: &Prospects, resource: Resource, price: u64) -> (u64, u64)
     ensures after_high { result.1 ≤ 20000000 * length all.now.list.now }
 {
     let list = all.list;
-    let mut is_there = [false; COURSES];
+    let mut courses = 0;
+    let mut last = Peak {
+        course: 0,
+        here: 0,
+        after: 0,
+    };
     let mut sum = 0;
     let mut next = 0;
     for index in (0..list.len()).rev() {
         let prospect = &list[index];
-        let course = usize::from(prospect.course);
-        let is_alone = !is_there[course];
         let more = &list[index + 1..];
-        let (here, after) = added_twice(prospect, more, resource, price, is_alone);
-        sum += here;
-        next += after;
-        is_there[course] = true;
+        let is_new = !is_in(courses, prospect.course);
+        let most = peak_behind(more, resource, price, prospect.course, is_new, last);
+        let own = peak_of(prospect, resource, price);
+        sum += own.here.saturating_sub(most.here);
+        next += own.after.saturating_sub(most.after);
+        last = higher(own, most);
+        courses = with(courses, prospect.course);
     }
     (sum, next)
 }
 
-/// How much a prospect in front of others adds to the sum of each course's greatest `over_price`:
-/// what it has more than the greatest of its course behind it, or 0. One that is alone has none of
-/// its course behind it.
-pub(crate) fn added(
-    prospect: &Prospect,
+// The peak of a course among those behind a prospect, where that of the first one's course is at
+// hand. Of a new course there are none. Sections of one course mostly stand side by side.
+#[inline(always)]
+fn peak_behind(
     more: &[Prospect],
     resource: Resource,
     price: u64,
-    is_alone: bool,
-) -> u64
-    requires one_modest { IsModest prospect.now }
+    course: u8,
+    is_new: bool,
+    last: Peak,
+) -> Peak
     requires modest { All IsModest more.now }
-    requires price { price ≤ 20000001 }
-    requires alone { IsTrue is_alone → has_course more.now prospect.now.course ≡ false }
-    ensures value { result
-        ≡ over_price resource price prospect.now
-        - greatest (over_price resource price) prospect.now.course more.now }
-    ensures high { result ≤ 20000000 }
+    requires price { price ≤ 20000000 }
+    requires none { IsTrue is_new → has_course more.now course ≡ false }
+    requires last { IsPeak resource price more.now last }
+    ensures course { result.course ≡ course }
+    ensures peak { IsPeak resource price more.now result }
 {
-    let value = over_price(prospect, resource, price);
-    if is_alone {
-        return value;
+    if course == last.course {
+        return last;
     }
-    value.saturating_sub(greatest_of(more, resource, price, prospect.course))
+    if is_new {
+        return Peak {
+            course,
+            here: 0,
+            after: 0,
+        };
+    }
+    Peak {
+        course,
+        here: greatest_of(more, resource, price, course),
+        after: greatest_of(more, resource, price + 1, course),
+    }
 }
 
-// What `added` is at this price, and what it is at the next.
+// The higher one of two peaks of one course, at each of the two prices.
 #[inline(always)]
-fn added_twice(
+fn higher(own: Peak, most: Peak) -> Peak
+    ensures course { result.course ≡ own.course }
+    ensures here { result.here ≡ max own.here most.here }
+    ensures after { result.after ≡ max own.after most.after }
+{
+    Peak {
+        course: own.course,
+        here: own.here.max(most.here),
+        after: own.after.max(most.after),
+    }
+}
+
+/// How much a prospect in front of others adds to the sum of each course's greatest `over_price`:
+/// what it has more than the greatest of its course behind it, or 0; and the same at the next price.
+#[inline(always)]
+pub(crate) fn added_twice(
     prospect: &Prospect,
     more: &[Prospect],
     resource: Resource,
     price: u64,
-    is_alone: bool,
 ) -> (u64, u64)
     requires one_modest { IsModest prospect.now }
     requires modest { All IsModest more.now }
     requires price { price ≤ 20000000 }
-    requires alone { IsTrue is_alone → has_course more.now prospect.now.course ≡ false }
     ensures here { result.0
         ≡ over_price resource price prospect.now
         - greatest (over_price resource price) prospect.now.course more.now }
     ensures after { result.1
         ≡ over_price resource (price + 1) prospect.now
         - greatest (over_price resource (price + 1)) prospect.now.course more.now }
-    ensures high { result.0 ≤ 20000000 }
-    ensures after_high { result.1 ≤ 20000000 }
 {
-    let here = over_price(prospect, resource, price);
-    let after = over_price(prospect, resource, price + 1);
-    if is_alone {
-        return (here, after);
-    }
-    let course = prospect.course;
+    let own = peak_of(prospect, resource, price);
+    let most = greatest_of(more, resource, price, prospect.course);
+    let most_after = greatest_of(more, resource, price + 1, prospect.course);
     (
-        here.saturating_sub(greatest_of(more, resource, price, course)),
-        after.saturating_sub(greatest_of(more, resource, price + 1, course)),
+        own.here.saturating_sub(most),
+        own.after.saturating_sub(most_after),
     )
 }
 

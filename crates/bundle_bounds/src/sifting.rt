@@ -37,13 +37,10 @@ fn stays_open(menu: &Menu, rests: Rests, place: u8, one: &Prospect) -> bool
         && (nat_le one.now.price rests.budget
         && (nat_le one.now.credits rests.credits && nat_le 1 rests.courses))) }
 {
-    if menu.clash(one.place, place) {
+    if rests.courses < 1 || one.price > rests.budget {
         return false;
     }
-    if one.price > rests.budget {
-        return false;
-    }
-    u32::from(one.credits) <= rests.credits && 1 <= rests.courses
+    u32::from(one.credits) <= rests.credits && !menu.clash(one.place, place)
 }
 
 // The open place beside these chosen places and before these open ones.

@@ -14,7 +14,7 @@ ghost use Rattle.bundle_bounds.specs.Views.{data_of};
 use crate::Offer;
 use crate::base::Base;
 use crate::chosen::Chosen;
-use crate::leaving::{plain_after, tangents_after};
+use crate::leaving::leave;
 use crate::nodes::{Leaf, Node};
 use crate::opens::{Rests, collect, rests_of};
 use crate::places::adjustments_with;
@@ -166,8 +166,7 @@ impl Stem {
         }
         let list = &self.room[self.start..];
         let all = Prospects { list };
-        let plain = plain_after(&all, self.plain);
-        let tangents = tangents_after(&all, self.tangents);
+        let (plain, tangents) = leave(&all, self.plain, self.tangents);
         self.plain = plain;
         self.tangents = tangents;
         self.start += 1;

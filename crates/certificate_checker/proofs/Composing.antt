@@ -1,16 +1,11 @@
 -- The parts of a check put together.
 use Rattle.std.proofs.Common.{ℕ, suc, ◌≡◌, ◌<◌, ◌≤◌, ◌∙◌, List, [], ◌∷◌, length, map, get_or, refl, ap, sym, subst, arith}
-use Rattle.std.specs.Prelude.{Result, Ok, Err, IfErr, IfOk}
+use Rattle.std.specs.Prelude.{Result, Ok, Err, IfErr, IfOk, IsErrAnd, OnOk}
 use Rattle.course_catalog.specs.Sections.{Section}
 use Rattle.student_roll.specs.Students.{Student}
 use Rattle.demand_api.specs.Crowds.{CrowdData, Student as Asked}
 use Rattle.demand_api.proofs.Parts.{students_length}
 use Rattle.market_certificate.specs.Publications.{IsPublication, Publication}
-use Rattle.market_certificate.specs.declared.refusals.TextRefusal.{TextRefusal}
-use Rattle.market_certificate.specs.declared.refusals.TextRefusal.TheVariants.{Defect}
-use Rattle.market_certificate.specs.declared.refusals.TextRefusal.TheVariants as refusals
-use Rattle.market_certificate.specs.Finding.{Finds, OnDefect}
-use Rattle.market_certificate.specs.Texts.{ArePublished, IsPublished}
 use Rattle.market_crowd.proofs.CrowdFacts.{menus_length}
 use Rattle.utility_language.specs.declared.commands.Command.{Command}
 use Rattle.published_parts.specs.Crowds.{IsCrowdAfter}
@@ -22,8 +17,8 @@ use Rattle.certificate_checker.specs.declared.findings.CheckEnd.TheVariants as e
 use Rattle.certificate_checker.specs.declared.findings.Finding.{Finding}
 use Rattle.certificate_checker.specs.declared.findings.Finding.TheVariants.{Journal, Text}
 use Rattle.certificate_checker.specs.declared.terms.Terms.{Terms}
-use Rattle.certificate_checker.specs.Certificates.{IsAccepted, IsAllocated, IsTextOf}
-use Rattle.certificate_checker.specs.Findings.{IsFirstFinding, IsFirstIn, IsFirstOf, OnFound, end_of}
+use Rattle.certificate_checker.specs.Certificates.{IsAllocated, IsTextOf}
+use Rattle.certificate_checker.specs.Findings.{IsFirstFinding, IsFirstIn, IsFirstOf, OnFound}
 use Rattle.certificate_checker.specs.Firsts.{AllBelow}
 use Rattle.certificate_checker.specs.Orders.{IsOrderFinding}
 use Rattle.certificate_checker.specs.Parts.{CanCheck}
@@ -92,16 +87,11 @@ pub err_found : {A : Type 0} {P Q : Finding → Type 0} (r : Result A CheckEnd) 
 err_found (Ok x) then is = tt
 err_found {A} {P} {Q} (Err e) then is = on_found P Q e then is
 
--- the first defect of a text that is no publication's is the first finding, and such a text is not accepted
-pub defect_first : (market : Market) (streams : List (List Command)) (text : List ℕ) (refusal : TextRefusal)
-    → OnDefect refusal (Finds (ArePublished (tables_in market)) 1 text) → OnFound (end_of refusal) (IsFirstFinding market streams text)
-defect_first market streams text (Defect line kind) is = is
-defect_first market streams text refusals.NoMemory is = tt
-
-pub defect_refused : (market : Market) (streams : List (List Command)) (text : List ℕ) (refusal : TextRefusal)
-    → OnDefect refusal (λ _ _. ¬ IsPublished (tables_in market) text) → OnFound (end_of refusal) (λ _. ¬ IsAccepted market streams text)
-defect_refused market streams text (Defect line kind) is = λ accepted. is (accepted.publication, accepted.is_text.is_publication, accepted.is_text.written)
-defect_refused market streams text refusals.NoMemory is = tt
+-- what a failed part of a check answers
+pub answered_wrong : {A : Type 0} (X : Type 0) (P : Finding → Type 0) (r : Result A Finding) (e : Finding) → IsErrAnd r (λ x. x ≡ e) → P e
+    → OnOk r X × IfErr r P
+answered_wrong X P (Ok a) e is p = absurd is
+answered_wrong X P (Err x) e is p = (tt, subst P (sym is) p)
 
 -- lists with the same items are one
 same_items : (xs ys : List (List ℕ)) → length xs ≡ length ys → ((k : ℕ) → k < length xs → get_or xs k [] ≡ get_or ys k []) → xs ≡ ys

@@ -15,4 +15,5 @@ pub mod ByPass
 pub mod Optimal
 pub mod OneText
 pub mod Naming
+pub mod Refusals
 pub mod Telling

@@ -4,17 +4,14 @@ use Rattle.std.specs.Prelude.{option_map, slice_get}
 use Rattle.std.proofs.lemmas.List.{get_or-map}
 use Rattle.course_catalog.specs.Sections.{Section, no_section, section_at, section_names}
 use Rattle.student_roll.specs.Students.{Student, names_of}
-use Rattle.market_certificate.specs.Tables.{Tables, name_at}
-use Rattle.market_certificate.specs.declared.refusals.TextRefusal.{TextRefusal}
-use Rattle.market_certificate.specs.declared.refusals.TextRefusal.TheVariants.{Defect}
-use Rattle.market_certificate.specs.declared.refusals.TextRefusal.TheVariants as refusals
+use Rattle.market_certificate.specs.Tables.{name_at}
 use Rattle.utility_language.specs.declared.commands.Command.{Command}
 use Rattle.demand_api.specs.Crowds.{CrowdData}
 use Rattle.published_parts.specs.Crowds.{IsCrowdAfter}
 use Rattle.published_parts.specs.Markets.{Market, tables_in}
 use Rattle.certificate_checker.specs.declared.findings.Finding.{Finding}
 use Rattle.certificate_checker.specs.declared.findings.Finding.TheVariants.{Allocation, Budget, Infeasible, Journal, NotQuiet, Seats, Text, Tree, Turn, Unaffordable, Used}
-use Rattle.certificate_checker.specs.Findings.{IsFirstFinding, OnFound, end_of}
+use Rattle.certificate_checker.specs.Findings.{IsFirstFinding}
 use Rattle.certificate_checker.specs.Words.{IsNamedIn}
 use Rattle.certificate_checker.proofs.Composing.{crowd_length}
 use Rattle.certificate_checker.proofs.Reading.{length_map}
@@ -52,8 +49,3 @@ named_in market streams text (Turn turn fault) is = tt
 named_in market streams text (NotQuiet turns) is = tt
 named_in market streams text (Allocation student) (p, of, (crowd, after, first)) = on_roll market streams p.order crowd student.0 after first.found.within
 named_in market streams text (Used section) (p, of, (crowd, after, first)) = in_catalog market streams p.order crowd section.0 after first.found.within
-
--- a defect of a text names nobody
-pub defect_named : (tables : Tables) (refusal : TextRefusal) → OnFound (end_of refusal) (IsNamedIn tables)
-defect_named tables (Defect line kind) = tt
-defect_named tables refusals.NoMemory = tt

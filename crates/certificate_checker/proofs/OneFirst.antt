@@ -29,7 +29,8 @@ use Rattle.certificate_checker.specs.Findings.{HasTurnFault, HoldsBefore, IsFirs
 use Rattle.certificate_checker.specs.Firsts.{AllBelow, FailsFirstAt}
 use Rattle.certificate_checker.specs.Laws.{OneFirstFinding}
 use Rattle.certificate_checker.specs.Orders.{FailsToMerge, HasCommand}
-use Rattle.certificate_checker.specs.Students.{HasBudget, IsAffordable, IsProvedBundle, MayTake, offer_in, proved_in, student_in}
+use Rattle.certificate_checker.specs.Students.{HasBudget, IsAffordable, IsProvedBundle, MayTake, offer_in, proved_in}
+use Rattle.published_parts.specs.Offers.{student_in}
 use Rattle.certificate_checker.specs.Terms.{TermsData, terms_in}
 use Rattle.certificate_checker.specs.Turns.{EndsQuietly, IsRightTurn, turn_in, turn_offer}
 use Rattle.certificate_checker.proofs.OneDefect.{one_defect}

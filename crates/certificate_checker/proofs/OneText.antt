@@ -12,12 +12,12 @@ use Rattle.published_parts.specs.Crowds.{IsCrowdAfter}
 use Rattle.published_parts.specs.Holdings.{demanded, held_after}
 use Rattle.held_seats.specs.Choices.{may_choose}
 use Rattle.published_parts.specs.Markets.{Market, seats_in, tables_in}
-use Rattle.published_parts.specs.Offers.{IsProvedBest, offer_to}
+use Rattle.published_parts.specs.Offers.{IsProvedBest, offer_to, student_in}
 use Rattle.published_parts.proofs.OneBests.{one_best, one_proof}
 use Rattle.published_parts.proofs.OneCrowds.{one_crowd_after}
 use Rattle.certificate_checker.specs.Certificates.{IsAccepted}
 use Rattle.certificate_checker.specs.Laws.{HaveSamePrices, OneTextForPrices}
-use Rattle.certificate_checker.specs.Students.{offer_in, proved_in, student_in}
+use Rattle.certificate_checker.specs.Students.{offer_in, proved_in}
 use Rattle.certificate_checker.specs.Terms.{terms_in}
 use Rattle.certificate_checker.specs.Turns.{HasQuietPass, IsDue, IsQuietTurn, held_before, order_in, turn_in, turn_offer}
 use Rattle.certificate_checker.proofs.Optimal.{allocated, best_at, best_in_stage_two, budgets_are_those, printed, sections, students}

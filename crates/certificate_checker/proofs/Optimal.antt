@@ -30,13 +30,13 @@ use Rattle.published_parts.specs.Passes.{ComeInPasses}
 use Rattle.held_seats.specs.Choices.{may_choose}
 use Rattle.published_parts.specs.Journals.{wishes_in}
 use Rattle.published_parts.specs.Markets.{Market, seats_in, tables_in}
-use Rattle.published_parts.specs.Offers.{all_sections}
+use Rattle.published_parts.specs.Offers.{all_sections, student_in}
 use Rattle.published_parts.proofs.Asked.{menu_says, nobody}
 use Rattle.published_parts.proofs.Passing.{come_in_passes}
 use Rattle.published_parts.proofs.Resting.{is_allocation}
 use Rattle.certificate_checker.specs.Certificates.{HoldsOf, IsAccepted}
 use Rattle.certificate_checker.specs.Laws.{AcceptedIsOptimal}
-use Rattle.certificate_checker.specs.Students.{IsAffordable, IsOffered, MayTake, offer_in, proved_in, student_in}
+use Rattle.certificate_checker.specs.Students.{IsAffordable, IsOffered, MayTake, offer_in, proved_in}
 use Rattle.certificate_checker.specs.Terms.{terms_in}
 use Rattle.certificate_checker.specs.Turns.{held_before, order_in, turn_in, turn_offer}
 use Rattle.certificate_checker.proofs.Composing.{allocation_is, crowd_length}

@@ -1,5 +1,5 @@
 -- What stands at a place of the terms and of a publication.
-use Rattle.std.proofs.Common.{ℕ, zero, suc, ◌≡◌, ◌≢◌, ◌<◌, ◌≤◌, ◌∙◌, Bool, true, false, true≢false, nat_eq, List, [], ◌∷◌, length, map, get_or, refl, ap, sym, subst, inl, inr, arith}
+use Rattle.std.proofs.Common.{ℕ, suc, ◌≡◌, ◌≢◌, ◌<◌, ◌≤◌, ◌∙◌, Bool, true, false, true≢false, nat_eq, List, [], ◌∷◌, length, map, get_or, refl, ap, sym, subst, inl, inr, arith}
 use Rattle.std.specs.Prelude.{All, IsTrue, nat_lt, not, slice_index}
 use Rattle.std.specs.FinSet as set
 use Rattle.std.specs.Ordering.{nat_cmp}
@@ -22,7 +22,8 @@ use Rattle.market_certificate.specs.Views.{proved_of, publication_of}
 use Rattle.certificate_checker.specs.declared.terms.Terms.{Terms}
 use Rattle.certificate_checker.specs.Firsts.{AllBelow}
 use Rattle.certificate_checker.specs.Parts.{CanCheck}
-use Rattle.certificate_checker.specs.Students.{offer_in, proved_in, student_in}
+use Rattle.certificate_checker.specs.Students.{offer_in, proved_in}
+use Rattle.published_parts.specs.Offers.{student_in}
 
 -- two tests of numbers
 pub are_apart : (x y : ℕ) → not (nat_eq x y) ≡ true → x ≢ y

@@ -34,7 +34,8 @@ use Rattle.certificate_checker.specs.Certificates.{Holds, HoldsOf, IsAccepted, I
 use Rattle.certificate_checker.specs.Findings.{HasTurnFault, IsFirstIn, IsFirstOf}
 use Rattle.certificate_checker.specs.Laws.{NoFindingInAccepted}
 use Rattle.certificate_checker.specs.Orders.{FailsToMerge, HasCommand, commands_in, said}
-use Rattle.certificate_checker.specs.Students.{offer_in, proved_in, student_in}
+use Rattle.certificate_checker.specs.Students.{offer_in, proved_in}
+use Rattle.published_parts.specs.Offers.{student_in}
 use Rattle.certificate_checker.specs.Terms.{TermsData, terms_in}
 use Rattle.certificate_checker.specs.Turns.{IsRightTurn, turn_in, turn_offer}
 use Rattle.certificate_checker.proofs.Replaying.{said_own}

@@ -32,7 +32,7 @@ use Rattle.held_seats.specs.Choices.{may_choose}
 use Rattle.certificate_checker.specs.declared.progress.Progress.{Progress}
 use Rattle.certificate_checker.specs.declared.terms.Terms.{Terms}
 use Rattle.certificate_checker.specs.Parts.{CanCheck, IsDueTurn, IsProgress, MadeChange}
-use Rattle.certificate_checker.specs.Students.{student_in}
+use Rattle.published_parts.specs.Offers.{student_in}
 use Rattle.certificate_checker.specs.Turns.{IsDue, held_before, order_in, turn_in, turn_offer}
 use Rattle.certificate_checker.specs.Views.{terms_of}
 use Rattle.certificate_checker.proofs.Progressing.{next_pass}
@@ -155,6 +155,18 @@ pub before_length : (terms : Terms) (publication : declared.Publication) (k : �
     → length (held_before (publication_of publication) k) ≡ length terms.crowd.menus.items
 before_length terms publication k is = after_length terms publication (take k (publication_of publication).turns) is
 
+-- after all turns that is held which is held behind the last
+pub held_whole : (p : Publication) (k : ℕ) → length p.turns ≤ k → held_before p k ≡ held_after (demanded p) p.turns
+held_whole p k past = ap (held_after (demanded p)) (take_all k p.turns past)
+
+-- the bundles of the second stage, as they are read
+pub stage_two_held : (publication : declared.Publication) (i : ℕ) (bundles lent : List Bundle) → lent ≡ bundles
+    → map sections_of bundles ≡ map (λ (proved : Proved). proved.bundle) (map proved_of (take i publication.bundles.items))
+    → length publication.bundles.items ≤ i → map sections_of lent ≡ demanded (publication_of publication)
+stage_two_held publication i bundles lent same made all =
+    ap (map sections_of) same ∙ made
+    ∙ ap (λ items. map (λ (proved : Proved). proved.bundle) (map proved_of items)) (take_all i publication.bundles.items all)
+
 -- the bundles of the second stage are within the catalogue
 pub stage_two_fits : (terms : Terms) (publication : declared.Publication) (i : ℕ) (bundles lent : List Bundle) (seats : List ℕ)
     → CanCheck terms (publication_of publication) → seats ≡ terms.seats.items → lent ≡ bundles
@@ -162,8 +174,7 @@ pub stage_two_fits : (terms : Terms) (publication : declared.Publication) (i : �
     → length publication.bundles.items ≤ i → AreBelow (length seats) (map sections_of lent)
 stage_two_fits terms publication i bundles lent seats is listed same made all =
     let whole : map sections_of lent ≡ demanded (publication_of publication) =
-    ap (map sections_of) same ∙ made
-    ∙ ap (λ items. map (λ (proved : Proved). proved.bundle) (map proved_of items)) (take_all i publication.bundles.items all) in
+    stage_two_held publication i bundles lent same made all in
     let size : terms.crowd.sections ≡ length seats = sym is.seats ∙ ap length (sym listed) in
     subst {A = ℕ × List (List ℕ)} (λ both. AreBelow both.0 both.1) (λ j. (size j, sym whole j)) (before_below terms publication 0 is)
 
@@ -174,8 +185,7 @@ pub stage_two_few : (terms : Terms) (publication : declared.Publication) (i : �
     → length publication.bundles.items ≤ i → length lent ≤ 2000
 stage_two_few terms publication i bundles lent is same made all =
     let whole : map sections_of lent ≡ demanded (publication_of publication) =
-    ap (map sections_of) same ∙ made
-    ∙ ap (λ items. map (λ (proved : Proved). proved.bundle) (map proved_of items)) (take_all i publication.bundles.items all) in
+    stage_two_held publication i bundles lent same made all in
     let each : length (map sections_of lent) ≡ length terms.crowd.menus.items = ap length whole ∙ after_length terms publication [] is in
     omega (arith, length_map sections_of lent, each, menus_few terms.crowd)
 

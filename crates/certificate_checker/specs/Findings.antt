@@ -1,5 +1,5 @@
 -- The first finding on a text. What is looked at before a finding is as it should be.
-use Rattle.std.specs.Prelude.{ℕ, ⊤, ◌≡◌, ◌<◌, ◌+◌, List, length, slice_index}
+use Rattle.std.specs.Prelude.{ℕ, ⊤, ◌≡◌, ◌<◌, ◌+◌, IfErr, List, OnOk, Result, length, slice_index}
 use Rattle.demand_api.specs.Crowds.{CrowdData, holders}
 use Rattle.market_certificate.specs.declared.refusals.TextRefusal.{TextRefusal}
 use Rattle.market_certificate.specs.declared.refusals.TextRefusal.TheVariants.{Defect}
@@ -152,6 +152,13 @@ HoldsBefore terms p (Used section) = HoldsToAllocation terms p
 pub record IsFirstIn (terms : TermsData) (p : Publication) (finding : Finding) : Type 0 where
   pub before : HoldsBefore terms p finding
   pub found : IsFound terms p finding
+
+-- a part of a check is answered: it and the parts before it are as they should be, or the first
+-- finding is told
+abbrev pub IsAnswered : {A : Type 0} → (TermsData → Publication → Type 0) → TermsData → Publication
+    → Result A Finding → Type 0
+IsAnswered Holds terms p result =
+    OnOk result (Holds terms p) × IfErr result (IsFirstIn terms p)
 
 -- the first finding on a publication: on its order, or on what is printed, by the crowd after the
 -- order's journal

@@ -9,3 +9,4 @@ pub mod Laws
 pub mod Views
 pub mod Parts
 pub mod Words
+pub mod Refusals

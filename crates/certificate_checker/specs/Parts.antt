@@ -1,12 +1,17 @@
 -- What the parts of a check go by.
-use Rattle.std.specs.Prelude.{ℕ, ◌≡◌, ◌<◌, ◌≤◌, ◌+◌, ◌*◌, true, false, Bool, List, Some, length, slice_get}
+use Rattle.std.specs.Prelude.{ℕ, ◌≡◌, ◌<◌, ◌≤◌, ◌+◌, ◌-◌, ◌*◌, ◌^◌, true, false, Bool, List, Some, length, slice_get}
 use Rattle.market_units.specs.declared.limits.TheConstants.{MAX_RAISE}
 use Rattle.market_certificate.specs.Publications.{IsPublication, ProvedTurn, Publication}
 use Rattle.market_certificate.specs.Tables.{Tables}
+use Rattle.market_certificate.specs.Views.{publication_of}
+use Rattle.market_certificate.specs.declared.publication.Publication as declared
+use Rattle.demand_api.specs.Views.{data_of}
+use Rattle.held_seats.specs.Floors.{IsFloor, held_on}
+use Rattle.held_seats.specs.declared.floor.Floor.{Floor}
 use Rattle.certificate_checker.specs.declared.progress.Progress.{Progress}
 use Rattle.certificate_checker.specs.declared.terms.Terms.{Terms}
 use Rattle.certificate_checker.specs.Firsts.{AllBelow}
-use Rattle.certificate_checker.specs.Turns.{HasQuietPass, IsQuietTurn}
+use Rattle.certificate_checker.specs.Turns.{HasQuietPass, IsQuietTurn, order_in}
 
 -- A publication may be looked at by these terms: seats for each section, a raise of at most 50
 -- percent, and a publication with a line for each student and each section.
@@ -32,6 +37,22 @@ pub record IsProgress (students : ℕ) (p : Publication) (turns : ℕ)
       → AllBelow progress.place (λ place. IsQuietTurn p (progress.pass * students + place))
   pub is_over : progress.over ≡ true → HasQuietPass students p turns
   pub goes_on : 0 < students → progress.over ≡ false → ¬ HasQuietPass students p turns
+
+-- a floor of these seats, on which these bundles are held
+pub record AreHeldOn (seats : List ℕ) (bundles : List (List ℕ)) (floor : Floor) : Type 0 where
+  pub is_floor : IsFloor seats floor
+  pub held : held_on floor ≡ bundles
+
+-- The turn of a number may be looked at: the publication may, it has fewer than 2 ^ 32 - 1 turns,
+-- and the passes, in which the students stand in this order, have come so far.
+pub record IsNextTurn (terms : Terms) (publication : declared.Publication) (order : List ℕ)
+    (progress : Progress) (place : ℕ) : Type 0 where
+  pub can : CanCheck terms (publication_of publication)
+  pub few : length publication.turns.items < 2 ^ 32 - 1
+  pub low : place < length publication.turns.items
+  pub order_is : order ≡ order_in (data_of terms.crowd)
+  pub so_far : IsProgress (length terms.crowd.menus.items) (publication_of publication) place
+      progress
 
 -- whether a turn made a change
 pub record MadeChange (p : Publication) (turn : ℕ) (moved : Bool) : Type 0 where

@@ -5,20 +5,10 @@ use Rattle.bundle_bounds.specs.Offers.{OfferData}
 use Rattle.bundle_rules.specs.Menus.{wishes_of}
 use Rattle.market_units.specs.Members.{has}
 use Rattle.bundle_rules.specs.Wishes.{IsFeasible}
-use Rattle.demand_api.specs.Crowds.{CrowdData, Student}
+use Rattle.demand_api.specs.Crowds.{CrowdData}
 use Rattle.market_certificate.specs.Publications.{Proved, Publication}
 use Rattle.proof_tree.specs.Texts.{IsTreeText}
-use Rattle.published_parts.specs.Offers.{all_sections, offer_to}
-
--- the student of a number; a number that no student has stands for one that wants nothing and has a
--- budget of 0
-abbrev pub student_in : CrowdData → ℕ → Student
-student_in crowd student =
-    slice_index_or crowd.students student
-    (record {
-      menu = record { places = []; pairs = []; clashes = []; credits = 0; courses = 0 };
-      budget = 0;
-    })
+use Rattle.published_parts.specs.Offers.{all_sections, offer_to, student_in}
 
 -- the bundle and the tree that are printed for it in the second stage
 abbrev pub proved_in : Publication → ℕ → Proved

@@ -9,10 +9,10 @@ use Rattle.market_certificate.specs.Publications.{ProvedTurn, Publication}
 use Rattle.proof_tree.specs.Texts.{IsTreeText}
 use Rattle.published_parts.specs.Holdings.{demanded, held_after}
 use Rattle.held_seats.specs.Choices.{may_choose}
-use Rattle.published_parts.specs.Offers.{offer_to}
+use Rattle.published_parts.specs.Offers.{offer_to, student_in}
 use Rattle.certificate_checker.specs.Terms.{TermsData}
 use Rattle.certificate_checker.specs.Firsts.{AllBelow}
-use Rattle.certificate_checker.specs.Students.{IsAffordable, IsOffered, MayTake, student_in}
+use Rattle.certificate_checker.specs.Students.{IsAffordable, IsOffered, MayTake}
 
 -- the printed turn of a number
 abbrev pub turn_in : Publication → ℕ → ProvedTurn

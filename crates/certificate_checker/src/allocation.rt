@@ -1,10 +1,8 @@
 // The final bundles.
-ghost use Rattle.std.specs.Prelude.{◌≡◌, IfErr, OnOk};
 ghost use Rattle.market_certificate.specs.Views.{publication_of};
 ghost use Rattle.published_parts.specs.Holdings.{demanded, held_after};
-ghost use Rattle.certificate_checker.specs.Findings.{HoldsToAllocation, HoldsToTheEnd, IsFirstIn};
-ghost use Rattle.certificate_checker.specs.Parts.{CanCheck};
-ghost use Rattle.held_seats.specs.Floors.{held_on};
+ghost use Rattle.certificate_checker.specs.Findings.{HoldsToAllocation, HoldsToTheEnd, IsAnswered};
+ghost use Rattle.certificate_checker.specs.Parts.{AreHeldOn, CanCheck};
 ghost use Rattle.certificate_checker.specs.Views.{terms_of};
 
 use crate::Finding;
@@ -22,12 +20,11 @@ pub(crate) fn check_allocation(
 ) -> Result<(), Finding>
     requires terms { CanCheck terms.now (publication_of publication.now) }
     requires before { HoldsToTheEnd (terms_of terms.now) (publication_of publication.now) }
-    requires held { held_on floor.now
-        ≡ held_after (demanded (publication_of publication.now))
-        (publication_of publication.now).turns }
-    ensures ok { OnOk result
-        (HoldsToAllocation (terms_of terms.now) (publication_of publication.now)) }
-    ensures first { IfErr result (IsFirstIn (terms_of terms.now) (publication_of publication.now)) }
+    requires floor { AreHeldOn terms.now.seats.items
+        (held_after (demanded (publication_of publication.now))
+        (publication_of publication.now).turns) floor.now }
+    ensures { IsAnswered HoldsToAllocation (terms_of terms.now) (publication_of publication.now)
+        result }
 {
     for place in 0..publication.allocation.len() {
         if publication.allocation[place] != floor.held[place] {

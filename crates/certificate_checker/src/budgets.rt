@@ -1,7 +1,6 @@
 // The printed budgets.
-ghost use Rattle.std.specs.Prelude.{IfErr, OnOk};
 ghost use Rattle.market_certificate.specs.Views.{publication_of};
-ghost use Rattle.certificate_checker.specs.Findings.{HoldsToBudgets, IsFirstIn};
+ghost use Rattle.certificate_checker.specs.Findings.{HoldsToBudgets, IsAnswered};
 ghost use Rattle.certificate_checker.specs.Parts.{CanCheck};
 ghost use Rattle.certificate_checker.specs.Views.{terms_of};
 
@@ -14,9 +13,8 @@ use market_units::StudentNo;
 /// first student of whom it is not so.
 pub(crate) fn check_budgets(terms: &Terms, publication: &Publication) -> Result<(), Finding>
     requires { CanCheck terms.now (publication_of publication.now) }
-    ensures ok { OnOk result
-        (HoldsToBudgets (terms_of terms.now) (publication_of publication.now)) }
-    ensures first { IfErr result (IsFirstIn (terms_of terms.now) (publication_of publication.now)) }
+    ensures { IsAnswered HoldsToBudgets (terms_of terms.now) (publication_of publication.now)
+        result }
 {
     for place in 0..publication.budgets.len() {
         if publication.budgets[place] != terms.crowd.budgets[place] {

@@ -8,7 +8,7 @@ ghost use Rattle.bundle_rules.specs.Demand.{IsPriced, price_in};
 ghost use Rattle.bundle_rules.specs.Ordinals.{ordinals};
 ghost use Rattle.bundle_bounds.specs.Offers.{offer_of};
 ghost use Rattle.market_certificate.specs.Views.{publication_of};
-ghost use Rattle.certificate_checker.specs.Findings.{HoldsToBudgets, HoldsToBundles, IsBundleFinding, IsFirstIn};
+ghost use Rattle.certificate_checker.specs.Findings.{HoldsToBudgets, HoldsToBundles, IsAnswered, IsBundleFinding};
 ghost use Rattle.certificate_checker.specs.Parts.{CanCheck};
 ghost use Rattle.certificate_checker.specs.Students.{IsAffordable, IsOffered, IsProvedBundle};
 ghost use Rattle.certificate_checker.specs.Views.{terms_of};
@@ -25,9 +25,8 @@ use proof_tree::check_tree;
 pub(crate) fn check_bundles(terms: &Terms, publication: &Publication) -> Result<(), Finding>
     requires terms { CanCheck terms.now (publication_of publication.now) }
     requires before { HoldsToBudgets (terms_of terms.now) (publication_of publication.now) }
-    ensures ok { OnOk result
-        (HoldsToBundles (terms_of terms.now) (publication_of publication.now)) }
-    ensures first { IfErr result (IsFirstIn (terms_of terms.now) (publication_of publication.now)) }
+    ensures { IsAnswered HoldsToBundles (terms_of terms.now) (publication_of publication.now)
+        result }
 {
     let all = SectionSet::full(terms.crowd.sections);
     for student in 0..publication.bundles.len() {

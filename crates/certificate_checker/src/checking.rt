@@ -5,15 +5,15 @@ ghost use Rattle.market_certificate.specs.Publications.{IsPublication};
 ghost use Rattle.market_certificate.specs.Tables.{tables_of};
 ghost use Rattle.market_certificate.specs.Texts.{ArePublished, IsPublished, text_of};
 ghost use Rattle.market_certificate.specs.Views.{publication_of};
-ghost use Rattle.held_seats.specs.Floors.{IsFloor, held_on};
 ghost use Rattle.published_parts.specs.Holdings.{demanded};
-ghost use Rattle.published_parts.specs.Markets.{market_of};
+ghost use Rattle.published_parts.specs.Markets.{market_of, tables_in};
+ghost use Rattle.published_parts.specs.Views.{market_in};
 ghost use Rattle.certificate_checker.specs.Certificates.{HoldsBy, HoldsOf, IsAccepted, IsTextOf};
-ghost use Rattle.certificate_checker.specs.Findings.{IsFirstFinding, IsFirstIn, IsFirstOf, OnFound, end_of};
-ghost use Rattle.certificate_checker.specs.Parts.{CanCheck};
+ghost use Rattle.certificate_checker.specs.Findings.{IsFirstIn, IsFirstOf, OnFound, end_of};
+ghost use Rattle.certificate_checker.specs.Parts.{AreHeldOn, CanCheck};
 ghost use Rattle.demand_api.specs.Views.{data_of};
 ghost use Rattle.certificate_checker.specs.Views.{terms_of};
-ghost use Rattle.certificate_checker.specs.Words.{IsNamedIn};
+ghost use Rattle.certificate_checker.specs.Refusals.{IsRefused};
 
 use crate::allocation::check_allocation;
 use crate::budgets::check_budgets;
@@ -27,6 +27,7 @@ use held_seats::Floor;
 use market_certificate::{Publication, TextRefusal, read_publication};
 use market_settings::Settings;
 use market_units::{MAX_RAISE, MAX_SPREAD, NoMemory};
+use published_parts::Market;
 use std::alloc::Global;
 use student_roll::Roll;
 use utility_language::Command;
@@ -51,47 +52,38 @@ pub fn check(
     ensures accepted { OnOk result
         (IsAccepted (market_of catalog.now roll.now settings.now)
         (map (λ stream. stream.items) streams.now) text.now) }
-    ensures first { IfErr result
-        (λ end. OnFound end
-        (IsFirstFinding (market_of catalog.now roll.now settings.now)
-        (map (λ stream. stream.items) streams.now) text.now)) }
     ensures refused { IfErr result
         (λ end. OnFound end
-        (λ _. ¬ IsAccepted (market_of catalog.now roll.now settings.now)
+        (IsRefused (market_of catalog.now roll.now settings.now)
         (map (λ stream. stream.items) streams.now) text.now)) }
-    ensures named { IfErr result (λ end. OnFound end (IsNamedIn (tables_of catalog.now roll.now))) }
 {
+    let market = Market {
+        catalog,
+        roll,
+        settings,
+    };
     let copy = text.to_vec(alloc)?;
-    check_owned(alloc, catalog, roll, settings, streams, copy)
+    check_owned(alloc, &market, streams, copy)
 }
 
 /// The same, of a text that is let go as soon as it is read: what the check makes stands in its
 /// room.
 pub fn check_owned(
     alloc: Global,
-    catalog: &Catalog,
-    roll: &Roll,
-    settings: &Settings,
+    market: &Market,
     streams: &[Vec<Command>],
     text: Vec<u8>,
 ) -> Result<(), CheckEnd>
-    requires text { length text.items < 2 ^ 32 - 1 }
-    requires spread { settings.now.spread ≤ MAX_SPREAD }
-    requires raise { settings.now.raise ≤ MAX_RAISE }
+    requires { length text.items < 2 ^ 32 - 1 }
     ensures accepted { OnOk result
-        (IsAccepted (market_of catalog.now roll.now settings.now)
-        (map (λ stream. stream.items) streams.now) text.items) }
-    ensures first { IfErr result
-        (λ end. OnFound end
-        (IsFirstFinding (market_of catalog.now roll.now settings.now)
-        (map (λ stream. stream.items) streams.now) text.items)) }
+        (IsAccepted (market_in market.now) (map (λ stream. stream.items) streams.now)
+        text.items) }
     ensures refused { IfErr result
         (λ end. OnFound end
-        (λ _. ¬ IsAccepted (market_of catalog.now roll.now settings.now)
-        (map (λ stream. stream.items) streams.now) text.items)) }
-    ensures named { IfErr result (λ end. OnFound end (IsNamedIn (tables_of catalog.now roll.now))) }
+        (IsRefused (market_in market.now) (map (λ stream. stream.items) streams.now)
+        text.items)) }
 {
-    let _accepted = accept(alloc, catalog, roll, settings, streams, text)?;
+    let _accepted = accept(alloc, market, streams, text)?;
     Ok(())
 }
 
@@ -99,36 +91,26 @@ pub fn check_owned(
 /// against which it was checked. It takes the text, and lets it go as soon as it is read.
 pub fn accept(
     alloc: Global,
-    catalog: &Catalog,
-    roll: &Roll,
-    settings: &Settings,
+    market: &Market,
     streams: &[Vec<Command>],
     text: Vec<u8>,
 ) -> Result<Accepted, CheckEnd>
-    requires text { length text.items < 2 ^ 32 - 1 }
-    requires spread { settings.now.spread ≤ MAX_SPREAD }
-    requires raise { settings.now.raise ≤ MAX_RAISE }
+    requires { length text.items < 2 ^ 32 - 1 }
     ensures text { IfOk result
-        (λ accepted. IsTextOf (market_of catalog.now roll.now settings.now)
-        (publication_of accepted.publication) text.items) }
+        (λ accepted. IsTextOf (market_in market.now) (publication_of accepted.publication)
+        text.items) }
     ensures holds { IfOk result
-        (λ accepted. HoldsBy (market_of catalog.now roll.now settings.now)
-        (map (λ stream. stream.items) streams.now) (publication_of accepted.publication)
-        (data_of accepted.crowd)) }
-    ensures first { IfErr result
-        (λ end. OnFound end
-        (IsFirstFinding (market_of catalog.now roll.now settings.now)
-        (map (λ stream. stream.items) streams.now) text.items)) }
+        (λ accepted. HoldsBy (market_in market.now) (map (λ stream. stream.items) streams.now)
+        (publication_of accepted.publication) (data_of accepted.crowd)) }
     ensures refused { IfErr result
         (λ end. OnFound end
-        (λ _. ¬ IsAccepted (market_of catalog.now roll.now settings.now)
-        (map (λ stream. stream.items) streams.now) text.items)) }
-    ensures named { IfErr result (λ end. OnFound end (IsNamedIn (tables_of catalog.now roll.now))) }
+        (IsRefused (market_in market.now) (map (λ stream. stream.items) streams.now)
+        text.items)) }
 {
-    let _few_sections = catalog.len();
-    let _few_students = roll.len();
-    match publication_in(alloc, catalog, roll, text) {
-        Ok(publication) => accept_publication(alloc, catalog, roll, settings, streams, publication),
+    let _few_sections = market.catalog.len();
+    let _few_students = market.roll.len();
+    match publication_in(alloc, market.catalog, market.roll, text) {
+        Ok(publication) => accept_publication(alloc, market, streams, publication),
         Err(refusal) => Err(end_of(refusal)),
     }
 }
@@ -162,30 +144,25 @@ fn publication_in(
 // which it was checked, or the first finding.
 fn accept_publication(
     alloc: Global,
-    catalog: &Catalog,
-    roll: &Roll,
-    settings: &Settings,
+    market: &Market,
     streams: &[Vec<Command>],
     publication: Publication,
 ) -> Result<Accepted, CheckEnd>
-    requires publication { IsPublication (tables_of catalog.now roll.now)
+    requires publication { IsPublication (tables_in (market_in market.now))
         (publication_of publication) }
     requires entries { length publication.order.items < 2 ^ 32 - 1 }
     requires turns { length publication.turns.items < 2 ^ 32 - 1 }
-    requires spread { settings.now.spread ≤ MAX_SPREAD }
-    requires raise { settings.now.raise ≤ MAX_RAISE }
     ensures same { IfOk result
         (λ accepted. publication_of accepted.publication ≡ publication_of publication) }
     ensures holds { IfOk result
-        (λ accepted. HoldsBy (market_of catalog.now roll.now settings.now)
-        (map (λ stream. stream.items) streams.now) (publication_of publication)
-        (data_of accepted.crowd)) }
+        (λ accepted. HoldsBy (market_in market.now) (map (λ stream. stream.items) streams.now)
+        (publication_of publication) (data_of accepted.crowd)) }
     ensures first { IfErr result
         (λ end. OnFound end
-        (IsFirstOf (market_of catalog.now roll.now settings.now)
-        (map (λ stream. stream.items) streams.now) (publication_of publication))) }
+        (IsFirstOf (market_in market.now) (map (λ stream. stream.items) streams.now)
+        (publication_of publication))) }
 {
-    let terms = terms_after(alloc, catalog, roll, settings, streams, &publication.order)?;
+    let terms = terms_after(alloc, market, streams, &publication.order)?;
     match check_printed(alloc, &terms, &publication) {
         Ok(()) => Ok(Accepted {
             publication,
@@ -226,9 +203,8 @@ fn check_printed(alloc: Global, terms: &Terms, publication: &Publication) -> Res
 // What is held in the second stage.
 fn stage_two(alloc: Global, terms: &Terms, publication: &Publication) -> Result<Floor, NoMemory>
     requires { CanCheck terms.now (publication_of publication.now) }
-    ensures held { IfOk result
-        (λ floor. held_on floor ≡ demanded (publication_of publication.now)) }
-    ensures floor { IfOk result (λ floor. IsFloor terms.now.seats.items floor) }
+    ensures { IfOk result
+        (AreHeldOn terms.now.seats.items (demanded (publication_of publication.now))) }
 {
     let mut bundles = Vec::with_capacity(alloc, publication.bundles.len())?;
     'students: for proved in &publication.bundles {

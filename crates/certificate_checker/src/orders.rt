@@ -1,18 +1,18 @@
 // The commands of an order, said again at a desk.
 ghost use Rattle.std.specs.Prelude.{◌≡◌, ◌<◌, ◌≤◌, ◌+◌, ◌-◌, ◌^◌, ℕ, true, IsTrue, ◌↔◌, IfOk, IfErr, IfSome, IfNone, Some, length, map, slice_get, slice_index, slice_index_or, slice_set};
 ghost use Rattle.preference_desk.specs.DeskView.{names_of, entries_of};
-ghost use Rattle.preference_desk.specs.MarketNames.{market_names};
 ghost use Rattle.published_parts.specs.Journals.{IsJournalOf};
+ghost use Rattle.published_parts.specs.Markets.{names_in};
+ghost use Rattle.published_parts.specs.Views.{market_in};
 ghost use Rattle.certificate_checker.specs.Findings.{OnFound};
 ghost use Rattle.certificate_checker.specs.declared.findings.CheckEnd.TheVariants as end;
 ghost use Rattle.certificate_checker.specs.declared.findings.Finding.TheVariants as finding;
 ghost use Rattle.certificate_checker.specs.Orders.{HasNext, IsNextCommand, IsOrderFinding, SaidAll};
 
 use crate::{CheckEnd, Finding};
-use course_catalog::Catalog;
 use preference_desk::Desk;
+use published_parts::Market;
 use std::alloc::Global;
-use student_roll::Roll;
 use utility_language::Command;
 
 /// The desk after the commands of all sessions, taken in this order: each entry names a session,
@@ -20,21 +20,19 @@ use utility_language::Command;
 /// merge the streams, or want of memory.
 pub(crate) fn replay(
     alloc: Global,
-    catalog: &Catalog,
-    roll: &Roll,
+    market: &Market,
     streams: &[Vec<Command>],
     order: &[u8],
 ) -> Result<Desk, CheckEnd>
     requires { length order.now < 2 ^ 32 - 1 }
-    ensures names { IfOk result
-        (λ desk. names_of desk ≡ market_names catalog.now.sections roll.now.students) }
+    ensures names { IfOk result (λ desk. names_of desk ≡ names_in (market_in market.now)) }
     ensures journal { IfOk result
-        (λ desk. IsJournalOf (market_names catalog.now.sections roll.now.students)
+        (λ desk. IsJournalOf (names_in (market_in market.now))
         (map (λ stream. stream.items) streams.now) order.now (entries_of desk)) }
     ensures fails { IfErr result
         (λ end. OnFound end (IsOrderFinding (map (λ stream. stream.items) streams.now) order.now)) }
 {
-    let mut desk = Desk::prepare(alloc, catalog, roll, order.len() as u32)?;
+    let mut desk = Desk::prepare(alloc, market.catalog, market.roll, order.len() as u32)?;
     let mut said = vec![in alloc; 0usize; streams.len()]?;
     'entries: for (place, session) in order.iter().enumerate() {
         match next_command(streams, &mut said, *session) {

@@ -2,11 +2,10 @@
 ghost use Rattle.std.specs.Prelude.{◌≡◌, ◌↔◌, IsTrue, IfErr, OnOk};
 ghost use Rattle.market_certificate.specs.Views.{publication_of};
 ghost use Rattle.published_parts.specs.Holdings.{demanded};
-ghost use Rattle.certificate_checker.specs.Findings.{HoldsToAllocation, HoldsToBundles, HoldsToSeats, IsFirstIn};
+ghost use Rattle.certificate_checker.specs.Findings.{HoldsToAllocation, HoldsToBundles, HoldsToSeats, IsAnswered, IsFirstIn};
 ghost use Rattle.certificate_checker.specs.Certificates.{IsUseTold};
 ghost use Rattle.certificate_checker.specs.Firsts.{AllBelow};
-ghost use Rattle.certificate_checker.specs.Parts.{CanCheck};
-ghost use Rattle.held_seats.specs.Floors.{IsFloor, held_on};
+ghost use Rattle.certificate_checker.specs.Parts.{AreHeldOn, CanCheck};
 ghost use Rattle.certificate_checker.specs.Views.{terms_of};
 
 use crate::Finding;
@@ -24,10 +23,10 @@ pub(crate) fn check_seats(
 ) -> Result<(), Finding>
     requires terms { CanCheck terms.now (publication_of publication.now) }
     requires before { HoldsToBundles (terms_of terms.now) (publication_of publication.now) }
-    requires held { held_on floor.now ≡ demanded (publication_of publication.now) }
-    requires floor { IsFloor terms.now.seats.items floor.now }
-    ensures ok { OnOk result (HoldsToSeats (terms_of terms.now) (publication_of publication.now)) }
-    ensures first { IfErr result (IsFirstIn (terms_of terms.now) (publication_of publication.now)) }
+    requires floor { AreHeldOn terms.now.seats.items (demanded (publication_of publication.now))
+        floor.now }
+    ensures { IsAnswered HoldsToSeats (terms_of terms.now) (publication_of publication.now)
+        result }
 {
     for place in 0..terms.seats.len() {
         let used = floor.used[place];
@@ -52,8 +51,8 @@ pub(crate) fn check_used(
 ) -> Result<(), Finding>
     requires terms { CanCheck terms.now (publication_of publication.now) }
     requires before { HoldsToAllocation (terms_of terms.now) (publication_of publication.now) }
-    requires held { held_on floor.now ≡ (publication_of publication.now).allocation }
-    requires floor { IsFloor terms.now.seats.items floor.now }
+    requires floor { AreHeldOn terms.now.seats.items (publication_of publication.now).allocation
+        floor.now }
     ensures ok { OnOk result
         (AllBelow (terms_of terms.now).crowd.sections
         (IsUseTold (terms_of terms.now).seats (publication_of publication.now))) }

@@ -1,7 +1,7 @@
 // What a publication is checked by.
-ghost use Rattle.std.specs.Prelude.{◌≡◌, ◌≤◌, ◌<◌, ◌-◌, ◌^◌, IfOk, IfErr, length, map};
+ghost use Rattle.std.specs.Prelude.{◌≡◌, ◌<◌, ◌-◌, ◌^◌, IfOk, IfErr, length, map};
 ghost use Rattle.market_units.specs.declared.units.NoMemory.{NoMemory};
-ghost use Rattle.published_parts.specs.Markets.{market_of};
+ghost use Rattle.published_parts.specs.Views.{market_in};
 ghost use Rattle.published_parts.specs.Crowds.{IsCrowdAfter};
 ghost use Rattle.certificate_checker.specs.Findings.{OnFound};
 ghost use Rattle.certificate_checker.specs.Orders.{IsOrderFinding};
@@ -10,13 +10,10 @@ ghost use Rattle.certificate_checker.specs.Views.{terms_of};
 
 use crate::CheckEnd;
 use crate::orders::replay;
-use course_catalog::Catalog;
 use demand_api::Crowd;
 use market_crowd::make_crowd;
-use market_settings::Settings;
-use market_units::MAX_SPREAD;
+use published_parts::Market;
 use std::alloc::Global;
-use student_roll::Roll;
 use utility_language::Command;
 
 /// What a publication is checked by.
@@ -34,35 +31,31 @@ pub(crate) struct Terms {
 /// finding on the first entry at which the order does not merge the streams, or want of memory.
 pub(crate) fn terms_after(
     alloc: Global,
-    catalog: &Catalog,
-    roll: &Roll,
-    settings: &Settings,
+    market: &Market,
     streams: &[Vec<Command>],
     order: &[u8],
 ) -> Result<Terms, CheckEnd>
-    requires few { length order.now < 2 ^ 32 - 1 }
-    requires spread { settings.now.spread ≤ MAX_SPREAD }
+    requires { length order.now < 2 ^ 32 - 1 }
     ensures terms { IfOk result
-        (λ terms. terms_of terms
-        ≡ terms_in (market_of catalog.now roll.now settings.now) (terms_of terms).crowd) }
+        (λ terms. terms_of terms ≡ terms_in (market_in market.now) (terms_of terms).crowd) }
     ensures crowd { IfOk result
-        (λ terms. IsCrowdAfter (market_of catalog.now roll.now settings.now)
-        (map (λ stream. stream.items) streams.now) order.now (terms_of terms).crowd) }
+        (λ terms. IsCrowdAfter (market_in market.now) (map (λ stream. stream.items) streams.now)
+        order.now (terms_of terms).crowd) }
     ensures fails { IfErr result
         (λ end. OnFound end (IsOrderFinding (map (λ stream. stream.items) streams.now) order.now)) }
 {
-    let desk = replay(alloc, catalog, roll, streams, order)?;
+    let desk = replay(alloc, market, streams, order)?;
     let crowd = make_crowd(
         alloc,
-        catalog,
-        roll,
+        market.catalog,
+        market.roll,
         desk.closed(),
-        settings.seed,
-        settings.spread,
+        market.settings.seed,
+        market.settings.spread,
     )?;
     Ok(Terms {
         crowd,
-        seats: catalog.all_seats().to_vec(alloc)?,
-        raise: settings.raise,
+        seats: market.catalog.all_seats().to_vec(alloc)?,
+        raise: market.settings.raise,
     })
 }

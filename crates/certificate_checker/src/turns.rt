@@ -1,11 +1,10 @@
 // The printed turns of the aftermarket.
-ghost use Rattle.std.specs.Prelude.{◌≡◌, ◌↔◌, ◌<◌, ◌≤◌, ◌^◌, ◌-◌, ◌+◌, IsTrue, IfOk, IfErr, OnOk, length, map};
+ghost use Rattle.std.specs.Prelude.{◌↔◌, ◌<◌, ◌^◌, ◌-◌, ◌+◌, IsTrue, IfOk, IfErr, OnOk, length, map};
 ghost use Rattle.market_certificate.specs.Views.{publication_of, turn_of};
 ghost use Rattle.published_parts.specs.Holdings.{demanded, held_after};
 ghost use Rattle.certificate_checker.specs.Findings.{HasTurnFault, HoldsToSeats, HoldsToTheEnd, IsFirstIn, IsTurnFinding, OnFound};
-ghost use Rattle.certificate_checker.specs.Parts.{CanCheck, IsDueTurn, IsProgress};
-ghost use Rattle.held_seats.specs.Floors.{IsFloor, held_on};
-ghost use Rattle.certificate_checker.specs.Turns.{IsRightTurn, held_before, order_in, turn_in};
+ghost use Rattle.certificate_checker.specs.Parts.{AreHeldOn, CanCheck, IsDueTurn, IsNextTurn, IsProgress};
+ghost use Rattle.certificate_checker.specs.Turns.{IsRightTurn, held_before, turn_in};
 ghost use Rattle.certificate_checker.specs.Views.{terms_of};
 
 use crate::bundles::{is_affordable, is_offered};
@@ -32,14 +31,13 @@ pub(crate) fn check_turns(
     requires terms { CanCheck terms.now (publication_of publication.now) }
     requires few { length publication.now.turns.items < 2 ^ 32 - 1 }
     requires before { HoldsToSeats (terms_of terms.now) (publication_of publication.now) }
-    requires held { held_on floor.old ≡ demanded (publication_of publication.now) }
-    requires floor { IsFloor terms.now.seats.items floor.old }
+    requires floor { AreHeldOn terms.now.seats.items (demanded (publication_of publication.now))
+        floor.old }
     ensures ok { OnOk result (HoldsToTheEnd (terms_of terms.now) (publication_of publication.now)) }
-    ensures held { OnOk result
-        (held_on floor.new
-        ≡ held_after (demanded (publication_of publication.now))
-        (publication_of publication.now).turns) }
-    ensures floor { OnOk result (IsFloor terms.now.seats.items floor.new) }
+    ensures floor { OnOk result
+        (AreHeldOn terms.now.seats.items
+        (held_after (demanded (publication_of publication.now))
+        (publication_of publication.now).turns) floor.new) }
     ensures first { IfErr result
         (λ end. OnFound end (IsFirstIn (terms_of terms.now) (publication_of publication.now))) }
 {
@@ -69,22 +67,18 @@ fn take_turn(
     progress: Progress,
     place: usize,
 ) -> Result<Progress, Finding>
-    requires terms { CanCheck terms.now (publication_of publication.now) }
-    requires few { length publication.now.turns.items < 2 ^ 32 - 1 }
-    requires place { place < length publication.now.turns.items }
-    requires order { map (λ student. student.0) order.now ≡ order_in (terms_of terms.now).crowd }
-    requires progress { IsProgress (length terms.now.crowd.menus.items)
-        (publication_of publication.now) place progress }
-    requires held { held_on floor.old ≡ held_before (publication_of publication.now) place }
-    requires floor { IsFloor terms.now.seats.items floor.old }
+    requires turn { IsNextTurn terms.now publication.now (map (λ student. student.0) order.now)
+        progress place }
+    requires floor { AreHeldOn terms.now.seats.items
+        (held_before (publication_of publication.now) place) floor.old }
     ensures right { IfOk result
         (λ next. IsRightTurn (terms_of terms.now) (publication_of publication.now) place) }
     ensures progress { IfOk result
         (λ next. IsProgress (length terms.now.crowd.menus.items) (publication_of publication.now)
         (place + 1) next) }
-    ensures held { IfOk result
-        (λ next. held_on floor.new ≡ held_before (publication_of publication.now) (place + 1)) }
-    ensures floor { IfOk result (λ next. IsFloor terms.now.seats.items floor.new) }
+    ensures floor { IfOk result
+        (λ next. AreHeldOn terms.now.seats.items
+        (held_before (publication_of publication.now) (place + 1)) floor.new) }
     ensures wrong { IfErr result
         (IsTurnFinding (terms_of terms.now) (publication_of publication.now) place) }
 {
@@ -112,14 +106,10 @@ fn check_turn(
     progress: Progress,
     place: usize,
 ) -> Result<(), TurnFault>
-    requires terms { CanCheck terms.now (publication_of publication.now) }
-    requires few { length publication.now.turns.items < 2 ^ 32 - 1 }
-    requires place { place < length publication.now.turns.items }
-    requires order { map (λ student. student.0) order.now ≡ order_in (terms_of terms.now).crowd }
-    requires progress { IsProgress (length terms.now.crowd.menus.items)
-        (publication_of publication.now) place progress }
-    requires held { held_on floor.now ≡ held_before (publication_of publication.now) place }
-    requires floor { IsFloor terms.now.seats.items floor.now }
+    requires turn { IsNextTurn terms.now publication.now (map (λ student. student.0) order.now)
+        progress place }
+    requires floor { AreHeldOn terms.now.seats.items
+        (held_before (publication_of publication.now) place) floor.now }
     ensures due { OnOk result
         (IsDueTurn (map (λ student. student.0) order.now) progress
         (turn_in (publication_of publication.now) place)) }

@@ -7,9 +7,15 @@ use std::alloc::Global;
 use std::marker::Model;
 use std::sync::Wait;
 use std::thread::Parker;
+use std::time::Duration;
+
+// How many microseconds a thread naps for each bell: where all but a few nap, one of them looks up
+// as often as this.
+const NAP: u64 = 16;
 
 /// As many bells as there are seats. A thread sleeps at the bell of its ticket: the tickets that
 /// wait follow one another and are no more than the seats, so no two of them have the same bell.
+/// Where seats nap, each does so at the bell of its own number, among bells that nobody rings.
 /// Contracts see how many there are.
 #[derive(Drop)]
 pub struct Bells {
@@ -50,6 +56,13 @@ impl Bells {
     /// comes after the ticket is served.
     pub fn ring(&self, ticket: u64) {
         self.of(ticket).unpark();
+    }
+
+    /// Sleeps for a moment at the bell of this seat.
+    pub fn nap<R: Wait>(&self, rt: &R, seat: u16) {
+        let micros = NAP.saturating_mul(self.parkers.len() as u64);
+        self.of(u64::from(seat))
+            .park_timeout(rt, Duration::from_micros(micros));
     }
 
     fn of(&self, ticket: u64) -> &Parker {

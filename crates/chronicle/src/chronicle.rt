@@ -38,12 +38,17 @@ const LOOKS: u32 = 2000;
 // How many pauses of the processor a call stands back for another thread.
 const PAUSES: u32 = 100;
 
+// How often a call at most naps before it draws its ticket.
+const NAPS: u32 = 1000;
+
 /// An object that threads share, with the history of their calls. Calls take turns by ticket; a
 /// thread that is not served yet sleeps at the bell of its ticket, which is rung when its turn
-/// comes. Contracts see it as its `Origin`.
+/// comes. Where more wait than processors can serve at once, a thread naps before it draws its
+/// ticket. Contracts see it as its `Origin`.
 #[derive(Drop)]
 pub struct Chronicle<O: Object> {
     bells: Bells,
+    beds: Bells,
     table: Table<
         Kept<O, O::Request, O::Reply>,
         Option<View<O::Base, O::State, O::Request, O::Reply>>,
@@ -121,10 +126,11 @@ impl<O: Object> Chronicle<O> {
         let mut journal = Vec::new(alloc);
         journal.reserve(calls as usize)?;
         let bells = Bells::hang(alloc, count)?;
+        let beds = Bells::hang(alloc, count)?;
         let mut slots = Vec::with_capacity(alloc, 1)?;
         slots.push_reserved(Kept { object, journal });
         match Table::new(alloc, &[0, 0], slots, key) {
-            Ok((table, first)) => Ok((Chronicle { bells, table }, first)),
+            Ok((table, first)) => Ok((Chronicle { bells, beds, table }, first)),
             Err(Refused { slots: _ }) => Err(NoMemory),
         }
     }
@@ -185,7 +191,11 @@ impl<O: Object> Chronicle<O> {
         ensures last { O.state result.0 ≡ state_after O.after self.base self.opening result.1 }
     {
         let place = self.gather(seats);
-        let Chronicle { bells: _, table } = self;
+        let Chronicle {
+            bells: _,
+            beds: _,
+            table,
+        } = self;
         let mut closed = table.close_with(place);
         let kept = closed.take(0);
         closed.free();
@@ -246,6 +256,7 @@ impl<O: Object> Chronicle<O> {
     {
         let number = seat.number;
         let place = &mut seat.place;
+        self.nap_while_many_wait(rt, number);
         self.give_way();
         let ticket = self.draw(place);
         self.wait(rt, place, ticket);
@@ -254,15 +265,33 @@ impl<O: Object> Chronicle<O> {
         reply
     }
 
+    // Naps while more tickets are out than are watched for, a bounded number of times. Whoever
+    // draws a ticket then would sleep until it is woken for its turn, and 64 threads on four
+    // processors would be woken once for each call. As it is, few threads make their calls one
+    // after another, and the others nap. Like `give_way` this is no step of the rule: turns go by
+    // ticket as before.
+    fn nap_while_many_wait<R: Wait>(&self, rt: &R, number: u16) {
+        for _ in 0..NAPS {
+            if self.tickets_out() <= NEAR {
+                return;
+            }
+            self.beds.nap(rt, number);
+        }
+    }
+
+    // How many tickets are drawn and not yet passed on, about.
+    fn tickets_out(&self) -> u64 {
+        let drawn = self.table.shared.peek(TICKET);
+        drawn.wrapping_sub(self.table.shared.peek(SERVING))
+    }
+
     // Stands back for a moment where another thread is in its turn and nobody waits. That thread
     // then makes its next calls with all that they touch at hand; two threads that do nothing but
     // call would else fetch it at each call. It looks by `peek`, which needs no seat and is no step
     // of the rule. Whatever it sees, the ticket is drawn after the pauses, so turns go by ticket as
     // before.
     fn give_way(&self) {
-        let drawn = self.table.shared.peek(TICKET);
-        let served = self.table.shared.peek(SERVING);
-        if drawn.wrapping_sub(served) != 1 {
+        if self.tickets_out() != 1 {
             return;
         }
         for _ in 0..PAUSES {

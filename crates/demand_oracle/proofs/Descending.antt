@@ -1,6 +1,6 @@
 -- What holds in the search below a node, from place to place.
 use Rattle.std.proofs.Common.{◌≡◌, ◌<◌, ◌≤◌, ◌+◌, ◌-◌, ◌*◌, ◌%◌, ◌^◌, ◌++◌, ◌⊎◌, ℕ, Some, List, [], ◌∷◌, length, drop, ap, inl, inr, arith, w64}
-use Rattle.std.specs.Prelude.{bit_and}
+use Rattle.std.specs.Prelude.{bit_and, slice_index}
 use Rattle.std.specs.Int.{bit_not, trailing_zeros}
 use Rattle.std.proofs.lemmas.Bool.{cases_lt}
 use Rattle.std.proofs.lemmas.Nat.Bits.{bit_at-zero}
@@ -98,6 +98,11 @@ module _ (question : Question) (asked : IsQuestion question) (summed : SummedNod
 
       pub next_on_menu : trailing_zeros w64 word < length question.menu.now.places
       next_on_menu = opened.on_menu
+
+      -- the word of the places that clash with it
+      pub next_clashes : IsWordOf (Clashes question.menu.now (trailing_zeros w64 word)) (length question.menu.now.places)
+          (slice_index question.goods.now.clashes (trailing_zeros w64 word))
+      next_clashes = asked.goods.clashes place next_on_menu ((asked.goods.alone place).1 (next_on_menu, opened.alone))
 
       pub node_next : IsNode (offer_asked question) (trailing_zeros w64 word) (chosen_of summed)
       node_next = node_later offer summed.node.place place chosen next_later node

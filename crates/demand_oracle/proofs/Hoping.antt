@@ -1,6 +1,6 @@
 -- What adjustments with the places from one on can add, place by place.
-use Rattle.std.proofs.Common.{◌≡◌, ℕ, zero, suc, ◌+◌, ◌*◌, ◌-◌, ◌≤◌, ◌<◌, false, true, List, [], length, set, replicate, refl, sym, ap, ◌∙◌, arith, inl, inr}
-use Rattle.std.specs.Prelude.{ℤ, pos, negsuc, ◌≤ℤ◌, slice_index, slice_get}
+use Rattle.std.proofs.Common.{◌≡◌, ℕ, zero, suc, ◌+◌, ◌*◌, ◌-◌, ◌≤◌, ◌<◌, false, true, List, [], ◌∷◌, length, set, replicate, refl, sym, ap, ◌∙◌, arith, inl, inr}
+use Rattle.std.specs.Prelude.{ℤ, pos, negsuc, ◌≤ℤ◌, ◌==◌, ◌&&◌, slice_index, slice_get}
 use Rattle.std.proofs.Common.{Some}
 use Rattle.std.specs.Ordering.{nat_cmp}
 use Rattle.std.specs.FinSet as fin
@@ -73,6 +73,18 @@ module _ (offer : OfferData) where
       let few : length offer.menu.places ≤ 60 = menu.places.few in
       let goal : t ≤ 12000 = omega arith in goal
 
+-- the adjustment of two places is that of them in the other order
+pub adjustment_mutual : (pairs : List (ℕ × ℕ × ℤ)) (a b : ℕ) → adjustment_in pairs a b ≡ adjustment_in pairs b a
+adjustment_mutual [] a b = refl
+adjustment_mutual (pair ∷ pairs) a b =
+    elim (cases_Bool (pair.0 == a && pair.1 == b)) [
+      | inl one ↦ elim (cases_Bool (pair.0 == b && pair.1 == a)) [ inl other ↦ rw (one, other) refl | inr not_other ↦ rw (one, not_other) refl ]
+      | inr not_one ↦ elim (cases_Bool (pair.0 == b && pair.1 == a)) [
+        | inl other ↦ rw (not_one, other) refl
+        | inr not_other ↦ rw (not_one, not_other) (adjustment_mutual pairs a b)
+      ]
+    ]
+
 -- whether the place of a section that was read is allowed
 pub allowed_read : (menu : MenuData) (prices : List Tokens) (budget : ℕ) (allowed : fin.FinSet nat_cmp) (place : ℕ) (rated : Rated)
     → slice_get menu.places place ≡ Some rated → allowed_at (offer_of menu prices budget allowed) place ≡ fin.contains allowed rated.section.0
@@ -96,6 +108,11 @@ holds_more offer table k row low holds is j place from on before =
       | inr (inl below) ↦ absurd (omega arith)
       | inr (inr above) ↦ row_other table k j row place (λ e. absurd (omega arith)) ∙ holds j place (omega arith) on before
     ]
+
+-- a row before those that it holds may be anything
+pub holds_kept : (offer : OfferData) (table : List (List ℕ)) (k : ℕ) (row : List ℕ) → HoldsHopes offer table (k + 1) → HoldsHopes offer (set table k row) (k + 1)
+holds_kept offer table k row holds j place from on before =
+    row_other table k j row place (λ e. absurd (omega arith)) ∙ holds j place from on before
 
 -- the row past the last place
 pub holds_last : (offer : OfferData) (table : List (List ℕ)) (row : List ℕ) → length offer.menu.places < length table → ((place : ℕ) → slice_index row place ≡ 0)

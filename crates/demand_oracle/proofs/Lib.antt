@@ -2,6 +2,7 @@ pub mod Additions
 pub mod Beside
 pub mod SummedNodes
 pub mod Pruning
+pub mod Columns
 pub mod Covering
 pub mod Descending
 pub mod Goodness

@@ -14,11 +14,12 @@ use Rattle.bundle_rules.proofs.Parts.{choice_part}
 use Rattle.bundle_bounds.specs.Offers.{OfferData, places_of, allowed_at}
 use Rattle.bundle_bounds.specs.Opens.{is_apart}
 use Rattle.bundle_bounds.specs.Laws.{IsTakable, IsNode}
+use Rattle.bundle_bounds.specs.Prunings.{MayPrune}
 use Rattle.bundle_bounds.proofs.ByPlace.{place_in-section_at}
 use Rattle.bundle_bounds.proofs.Openings.{both, node_later, open_where_takable}
 use Rattle.demand_oracle.specs.OpenWords.{IsAlone, IsWordOf, Clashes, StaysOpen, IsOpenWord}
 use Rattle.demand_oracle.specs.Search.{IsSearched}
-use Rattle.demand_oracle.proofs.SummedNodes.{shut_here}
+use Rattle.demand_oracle.proofs.SummedNodes.{pruned_here, shut_here}
 
 -- a place that is apart from chosen ones with one more
 apart_last : (offer : OfferData) (cs : List ℕ) (q p : ℕ) → is_apart offer (cs ++ q ∷ []) p ≡ (is_apart offer cs p && not (clash_in offer.menu.clashes p q))
@@ -145,6 +146,20 @@ module _ (offer : OfferData) (menu : IsMenu offer.menu) (k : ℕ) (chosen : List
         record { undecided = (let at : k ≤ first = next_open.undecided in omega arith); on_menu = stays.on_menu; alone = stays.alone; apart = stays.apart } in
         bit_at_clear_other w64 word first lowest.0 p (few p stays.on_menu) other ∙ (is p).1 open_,
   )
+
+-- a node that may be pruned at its next open place is searched
+pub pruned_at_next : (offer : OfferData) (menu : IsMenu offer.menu) (wanted : List ℕ → Bool) (k : ℕ) (chosen : List ℕ) → IsNode offer k chosen → (word : ℕ)
+    → word < 2 ^ 64 → 0 < word → IsOpenWord offer k chosen word → (champion : List ℕ)
+    → MayPrune offer wanted (trailing_zeros w64 word) chosen champion
+    → IsSearched offer wanted k chosen (drop k (menu_sections offer.menu)) champion champion
+pruned_at_next offer menu wanted k chosen node word fits some is champion may =
+    let opened = next_open offer menu k chosen word fits some is in
+    let place : ℕ = trailing_zeros w64 word in
+    passed_here offer wanted chosen k place opened.undecided (omega (arith, opened.on_menu))
+    (λ p at below.
+    shut_where_clear offer menu k chosen node word is p at (omega (arith, opened.on_menu)) (clear_before offer menu k chosen word fits some is p below))
+    champion champion
+    (pruned_here offer wanted place chosen opened.on_menu champion may)
 
 module _ (offer : OfferData) (menu : IsMenu offer.menu) (k place : ℕ) (chosen : List ℕ) (low : place < length offer.menu.places) (word clashes : ℕ)
     (fits : word < 2 ^ 64) (clashes_fit : clashes < 2 ^ 64) (is : IsOpenWord offer k chosen word)

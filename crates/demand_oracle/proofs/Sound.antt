@@ -1,10 +1,10 @@
 -- A million times the utility of what completes a node is at most what can be reached from it.
-use Rattle.std.proofs.Common.{◌≡◌, ℕ, suc, ◌+◌, ◌*◌, ◌-◌, ◌/◌, ◌^◌, ◌≤◌, ◌<◌, true, List, [], ◌∷◌, ◌++◌, length, ap, subst, ◌∙◌, arith, length-append, suc-mul}
+use Rattle.std.proofs.Common.{◌≡◌, ℕ, suc, ◌+◌, ◌*◌, ◌-◌, ◌/◌, ◌^◌, ◌≤◌, ◌<◌, true, List, [], ◌∷◌, ◌++◌, length, sym, ap, subst, ◌∙◌, arith, length-append, suc-mul}
 use Rattle.std.proofs.lemmas.Nat.{pow_pos}
 use Rattle.std.proofs.Math.Nat.{add-mul, div-mul-le_self, le-div_iff_mul-le}
 use Rattle.std.specs.Prelude.{ℤ, pos, ◌+ℤ◌, ◌*ℤ◌, ◌≤ℤ◌}
 use Rattle.std.proofs.lemmas.Int.{ints}
-use Rattle.std.proofs.lemmas.List.{length-map}
+use Rattle.std.proofs.lemmas.List.{append-nil, length-map}
 use Rattle.market_units.specs.Totals.{total}
 use Rattle.market_units.proofs.Sums.{total-append}
 use Rattle.market_units.specs.Members.{has}
@@ -21,7 +21,7 @@ use Rattle.bundle_bounds.proofs.Openness.{MayBeTaken, ascending_rest, has-append
 use Rattle.bundle_bounds.proofs.ByPlace.{taken_places, has-places}
 use Rattle.demand_oracle.specs.declared.multipliers.Multipliers.{Multipliers}
 use Rattle.demand_oracle.specs.Values.{hopes_from, most_added, value, units_at}
-use Rattle.demand_oracle.specs.Covers.{AreApartFrom, reach_of}
+use Rattle.demand_oracle.specs.Covers.{AreApartFrom, hoped_of, reach_of}
 use Rattle.demand_oracle.specs.Reaches.{IsLightest}
 use Rattle.demand_oracle.specs.Laws.{ReachIsSound, ReachWithinIsSound}
 use Rattle.demand_oracle.proofs.Additions.{rest_from, gain_hoped, most_added_within}
@@ -106,6 +106,30 @@ reached_by offer multipliers k chosen bundle count most menu node may completes 
 pub reach_is_sound : ReachIsSound
 reach_is_sound offer multipliers k chosen bundle count most menu node may completes few covers =
     reached_by offer multipliers k chosen bundle count most menu node may completes few (λ ds added within. covers ds added.free within)
+
+-- where no place more is taken, no more is reached than what is hoped for
+alone_reached : (offer : OfferData) (k : ℕ) (cs ds : List ℕ) → length ds ≤ 0 → (pos 1000000 *ℤ utility (by_place offer.menu) (cs ++ ds)) ≤ℤ hoped_of offer k cs
+alone_reached offer k cs [] none =
+    let u : ℤ = utility (by_place offer.menu) cs in
+    let h : ℕ = total (hopes_from offer k) cs in
+    let goal : (pos 1000000 *ℤ u) ≤ℤ (pos 1000000 *ℤ (u +ℤ pos h)) = omega (arith, ints) in
+    subst (λ ps. (pos 1000000 *ℤ utility (by_place offer.menu) ps) ≤ℤ hoped_of offer k cs) (sym (append-nil cs)) goal
+alone_reached offer k cs (d ∷ ds) none = absurd (omega arith)
+
+pub none_reached : (offer : OfferData) (k : ℕ) (chosen bundle : List ℕ) → IsMenu offer.menu → IsNode offer k chosen → IsTakable offer bundle
+    → Completes offer k chosen bundle → length bundle ≤ length chosen
+    → (pos 1000000 *ℤ utility (wishes_of offer.menu) bundle) ≤ℤ hoped_of offer k (places_of offer.menu chosen)
+none_reached offer k chosen bundle menu node may completes few =
+    let cs = places_of offer.menu chosen in
+    let ps = places_of offer.menu bundle in
+    let added = added_places offer k chosen bundle menu node may completes in
+    let ds = added.0 in
+    let whole : length ps ≡ length bundle = length-map bundle (place_in offer.menu.places) in
+    let front : length cs ≡ length chosen = length-map chosen (place_in offer.menu.places) in
+    let split : length ps ≡ length cs + length ds = added.1.count in
+    let none : length ds ≤ 0 = omega arith in
+    subst (λ u. (pos 1000000 *ℤ u) ≤ℤ hoped_of offer k cs) (ap (utility (by_place offer.menu)) (sym added.1.split) ∙ utility_by_place offer.menu bundle)
+    (alone_reached offer k cs ds none)
 
 -- whole units of places are no more than those of their prices
 units_times : (offer : OfferData) (shift : ℕ) (ds : List ℕ) → total (units_at offer shift) ds * 2 ^ shift ≤ total (price_at offer) ds

@@ -9,6 +9,7 @@ use Rattle.bundle_rules.proofs.Parts.{IsPart, choice_part}
 use Rattle.bundle_rules.proofs.PlacesFirst.{section_at-rises}
 use Rattle.bundle_bounds.specs.Offers.{OfferData}
 use Rattle.bundle_bounds.specs.Laws.{IsTakable, IsNode, Completes}
+use Rattle.bundle_bounds.specs.Prunings.{MayPrune}
 use Rattle.bundle_bounds.proofs.ByPlace.{on_menu, place_in-section_at}
 use Rattle.bundle_bounds.proofs.Openings.{has-last, ascending-last}
 use Rattle.demand_oracle.specs.Search.{IsSearched}
@@ -68,3 +69,9 @@ module _ (offer : OfferData) (menu : IsMenu offer.menu) (place : ℕ) (on : plac
           (part bundle completes is) may))
       | inr not_in ↦ not_in
     ]
+
+    -- and the node may be pruned where only bundles with the section are wanted
+    pub lost_prunes : (wanted : List ℕ → Bool) → ((bundle : List ℕ) → wanted bundle ≡ true → has bundle (section_at offer.menu.places place) ≡ true)
+        → (IsTakable offer (chosen ++ section_at offer.menu.places place ∷ []) → ⊥) → (champion : List ℕ) → MayPrune offer wanted k chosen champion
+    lost_prunes wanted has_it lost champion bundle may is_wanted completes =
+        absurd (true≢false (sym (has_it bundle is_wanted) ∙ lacks_lost lost bundle may completes))

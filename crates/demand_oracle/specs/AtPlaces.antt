@@ -1,16 +1,18 @@
 -- What stands at each place of an offer's menu.
 use Rattle.std.specs.Prelude.{ℕ, ◌<◌, ◌≡◌, length, slice_index}
+use Rattle.std.specs.Int.{bit_at}
 use Rattle.bundle_rules.specs.Menus.{credits_at}
 use Rattle.bundle_bounds.specs.Offers.{OfferData, price_at}
 use Rattle.demand_oracle.specs.declared.goods.Goods.{Goods}
 use Rattle.demand_oracle.specs.OpenWords.{IsWordOf, Clashes, IsAlone}
 
--- the price, the credits and the clashes of each place, and the places that may be taken alone
+-- the price and the credits of each place, the places that may be taken alone, and the clashes of
+-- each of these
 pub record IsGoods (offer : OfferData) (goods : Goods) : Type 0 where
   pub prices : (p : ℕ) → p < length offer.menu.places
       → slice_index goods.prices p ≡ price_at offer p
   pub credits : (p : ℕ) → p < length offer.menu.places
       → slice_index goods.credits p ≡ credits_at offer.menu.places p
-  pub clashes : (p : ℕ) → p < length offer.menu.places
+  pub clashes : (p : ℕ) → p < length offer.menu.places → bit_at goods.alone p ≡ 1
       → IsWordOf (Clashes offer.menu p) (length offer.menu.places) (slice_index goods.clashes p)
   pub alone : IsWordOf (IsAlone offer) (length offer.menu.places) goods.alone

@@ -13,9 +13,9 @@ use Rattle.demand_oracle.specs.declared.summed_node.SummedNode.{SummedNode}
 abbrev pub chosen_of : SummedNode → List ℕ
 chosen_of summed = sections_of summed.node.chosen
 
--- the chosen sections with that of the next place
-abbrev pub with_next_of : MenuData → SummedNode → List ℕ
-with_next_of menu summed = chosen_of summed ++ section_at menu.places summed.node.place ∷ []
+-- the chosen sections with that of a place
+abbrev pub with_place_of : MenuData → SummedNode → ℕ → List ℕ
+with_place_of menu summed place = chosen_of summed ++ section_at menu.places place ∷ []
 
 -- sums of so many sections are small: a price is at most 1,000,001, credits are at most 100, and a
 -- rating with eight adjustments is at most 1,700
@@ -27,8 +27,8 @@ pub record AreSmallSums (count paid credits : ℕ) (utility : ℤ) : Type 0 wher
 
 -- The chosen sections of the node are rated and decided; it keeps their places, and their price,
 -- credits and utility at these prices. It also keeps that these sums are small, which follows from
--- the rest, so that callers need not prove it. Callers need not look inside: `root`, `with_next`
--- and `without_next` give it.
+-- the rest, so that callers need not prove it. Callers need not look inside: `root` and `with_place`
+-- give it.
 pub record IsSummed (menu : MenuData) (price : ℕ → ℕ) (summed : SummedNode) : Type 0 where
   pub rated : AllRated (wishes_of menu) (chosen_of summed)
   pub decided : (s : ℕ) → has (chosen_of summed) s ≡ true

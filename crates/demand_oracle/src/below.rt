@@ -1,22 +1,22 @@
 // The search below a node: place by place, with a call of itself for each section that is taken.
-ghost use Rattle.std.specs.Prelude.{◌≡◌, ◌<◌, ◌≤◌, ◌⊎◌, ◌↔◌, ℕ, List, Some, IfSome, IsTrue, length, drop};
+ghost use Rattle.std.specs.Prelude.{◌≡◌, ◌<◌, ◌≤◌, ◌+◌, ◌-◌, ◌⊎◌, ◌↔◌, ℕ, List, Some, IfSome, IsTrue, length, drop};
 ghost use Rattle.market_units.specs.declared.limits.TheConstants.{MAX_RATINGS};
 ghost use Rattle.bundle_rules.specs.Bundles.{sections_of};
 ghost use Rattle.bundle_rules.specs.Menus.{wishes_of, credits_at};
 ghost use Rattle.bundle_rules.specs.Places.{menu_sections};
 ghost use Rattle.bundle_rules.specs.Wishes.{IsFeasible};
-ghost use Rattle.bundle_bounds.specs.Laws.{IsNode};
-ghost use Rattle.bundle_bounds.specs.Offers.{OfferData, price_at};
+ghost use Rattle.bundle_bounds.specs.Laws.{IsTakable, IsNode};
+ghost use Rattle.bundle_bounds.specs.Offers.{price_at};
 ghost use Rattle.bundle_bounds.specs.Prunings.{MayPrune};
-ghost use Rattle.demand_oracle.specs.AtPlaces.{IsGoods};
 ghost use Rattle.demand_oracle.specs.Champions.{IsChampion};
+ghost use Rattle.demand_oracle.specs.Columns.{IsColumnAt};
 ghost use Rattle.demand_oracle.specs.OpenWords.{IsOpenWord};
 ghost use Rattle.demand_oracle.specs.Questions.{IsQuestion, offer_asked, wanted_in};
 ghost use Rattle.demand_oracle.specs.Search.{wanted_by, IsBetter, IsSearched};
-ghost use Rattle.demand_oracle.specs.SummedNodes.{chosen_of, IsSummed};
+ghost use Rattle.demand_oracle.specs.SummedNodes.{chosen_of, with_place_of, IsSummed};
 
-use crate::goods::Goods;
 use crate::question::Question;
+use crate::reach::{Column, is_below, lacking};
 use crate::summed_node::SummedNode;
 use bundle_rules::{Bundle, Menu, prefers};
 
@@ -42,33 +42,32 @@ pub(crate) fn below(
         (chosen_of champion.old) (chosen_of champion.new) }
 {
     let menu = question.menu;
+    let reach = question.reach;
     if summed.courses_left(menu) == 0 {
         put_better(menu, question.given, summed, champion);
         return 0;
     }
-    if is_lost(question, summed) {
+    if is_lost(question, summed, word) {
         return 0;
     }
-    let column = question.reach.column(menu, question.budget, summed);
-    let budget_left = summed.budget_left(question.budget);
-    let credits_left = summed.credits_left(menu);
+    let column = reach.column(menu, question.budget, summed);
     let mut opened = 0u64;
     let mut left = word;
     'places: while left != 0 {
         let place = left.trailing_zeros() as u8;
         opened = opened.saturating_add(1);
-        if question
-            .reach
-            .prunes(menu, &column, summed, place, champion)
-        {
+        if reach.prunes(menu, &column, summed, place, champion) {
             return opened;
         }
         left &= !(1u64 << place);
-        if !fits(question.goods, place, budget_left, credits_left) {
+        if !fits(question, summed, place) {
             continue;
         }
-        let with_it = summed.passed_to(place).with_next(menu, question.prices);
         let apart = left & !question.goods.clashes[usize::from(place)];
+        if falls_short(question, summed, place, apart, champion) {
+            continue;
+        }
+        let with_it = summed.with_place(menu, question.prices, place);
         opened = opened.saturating_add(below(question, &with_it, apart, champion));
         if is_given(question.given, place) {
             return opened;
@@ -78,27 +77,101 @@ pub(crate) fn below(
     opened
 }
 
-// Whether the section of a place is within what is left of the budget and of the credit cap.
+// Whether the section of a place is within what the node leaves of the budget and of the credit
+// cap.
 #[inline(always)]
-fn fits(goods: &Goods, place: u8, budget_left: u32, credits_left: u32) -> bool
+fn fits(question: &Question, summed: &SummedNode, place: u8) -> bool
     requires { place < MAX_RATINGS }
-    ensures { (offer : OfferData) → IsGoods offer goods.now → place < length offer.menu.places
+    ensures { IsQuestion question.now → place < length question.now.menu.now.places
         → IsTrue result
-        ↔ ((price_at offer place ≤ budget_left)
-        × (credits_at offer.menu.places place ≤ credits_left)) }
+        ↔ ((price_at (offer_asked question.now) place ≤ question.now.budget.0 - summed.now.paid)
+        × (credits_at question.now.menu.now.places place
+        ≤ question.now.menu.now.credits - summed.now.credits)) }
 {
-    if goods.prices[usize::from(place)] > budget_left {
+    let at = usize::from(place);
+    if question.goods.prices[at] > summed.budget_left(question.budget) {
         return false;
     }
-    u32::from(goods.credits[usize::from(place)]) <= credits_left
+    u32::from(question.goods.credits[at]) <= summed.credits_left(question.menu)
+}
+
+// Whether it is plain that nothing with the section of an open place is better than the champion,
+// so little can be reached from the node with it. Mostly it is, and the node need not be made. The
+// word has the places behind this one that stay open with it. It is not told of the given place,
+// behind which the search ends.
+#[inline(always)]
+fn falls_short(
+    question: &Question,
+    summed: &SummedNode,
+    place: u8,
+    apart: u64,
+    champion: &SummedNode,
+) -> bool
+    requires question { IsQuestion question.now }
+    requires summed { IsSummed question.now.menu.now (offer_asked question.now).price summed.now }
+    requires undecided { summed.now.node.place ≤ place }
+    requires on_menu { place < length question.now.menu.now.places }
+    requires node { IsNode (offer_asked question.now) (place + 1)
+        (with_place_of question.now.menu.now summed.now place) }
+    requires word { IsOpenWord (offer_asked question.now) (place + 1)
+        (with_place_of question.now.menu.now summed.now place) apart }
+    requires champion { IsChampion (offer_asked question.now) champion.now }
+    ensures { IsTrue result
+        → IsSearched (offer_asked question.now) (wanted_in question.now) (place + 1)
+        (with_place_of question.now.menu.now summed.now place)
+        (drop (place + 1) (menu_sections question.now.menu.now))
+        (chosen_of champion.now) (chosen_of champion.now) }
+{
+    if apart == 0 {
+        return false;
+    }
+    if is_given(question.given, place) {
+        return false;
+    }
+    let reach = question.reach;
+    let next = apart.trailing_zeros() as u8;
+    let column = column_with(question, summed, place);
+    let added = reach.added(&column, next);
+    let utility = summed.utility_with(question.menu, place);
+    // Adjustments can only add, so they are looked up where the rest is too little.
+    if !is_below(added, lacking(champion.utility(), utility, 0)) {
+        return false;
+    }
+    let hoped = reach.hoped_with(summed.places(), place, next);
+    is_below(added, lacking(champion.utility(), utility, hoped))
+}
+
+// What is looked up where the section of a place is chosen too.
+#[inline(always)]
+fn column_with(question: &Question, summed: &SummedNode, place: u8) -> Column
+    requires question { IsQuestion question.now }
+    requires summed { IsSummed question.now.menu.now (offer_asked question.now).price summed.now }
+    requires undecided { summed.now.node.place ≤ place }
+    requires on_menu { place < length question.now.menu.now.places }
+    requires takable { IsTakable (offer_asked question.now)
+        (with_place_of question.now.menu.now summed.now place) }
+    ensures { IsColumnAt (offer_asked question.now) question.now.reach.now
+        (with_place_of question.now.menu.now summed.now place) result }
+{
+    let at = usize::from(place);
+    let budget_left = summed.budget_left(question.budget);
+    let credits_left = summed.credits_left(question.menu);
+    question.reach.column_for(
+        summed.courses_left(question.menu).saturating_sub(1),
+        budget_left.saturating_sub(question.goods.prices[at]),
+        credits_left.saturating_sub(u32::from(question.goods.credits[at])),
+    )
 }
 
 // Whether the given place is undecided, and its section may no more be taken with the chosen ones.
+// The word has the open places.
 #[inline(always)]
-fn is_lost(question: &Question, summed: &SummedNode) -> bool
+fn is_lost(question: &Question, summed: &SummedNode, word: u64) -> bool
     requires question { IsQuestion question.now }
     requires summed { IsSummed question.now.menu.now (offer_asked question.now).price summed.now }
     requires node { IsNode (offer_asked question.now) summed.now.node.place (chosen_of summed.now) }
+    requires word { IsOpenWord (offer_asked question.now) summed.now.node.place
+        (chosen_of summed.now) word }
     ensures undecided { IsTrue result
         → summed.now.node.place < length question.now.menu.now.places }
     ensures lost { (champion : List ℕ) → IsTrue result
@@ -110,13 +183,10 @@ fn is_lost(question: &Question, summed: &SummedNode) -> bool
             if place < summed.node.place {
                 return false;
             }
-            !summed.may_take(
-                question.menu,
-                question.prices,
-                question.budget,
-                question.allowed,
-                place,
-            )
+            if (word >> place) & 1 == 0 {
+                return true;
+            }
+            !fits(question, summed, place)
         }
         None => false,
     }

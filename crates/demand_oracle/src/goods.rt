@@ -20,7 +20,7 @@ pub(crate) struct Goods {
     // In tokens.
     pub(crate) prices: [u32; PLACES],
     pub(crate) credits: [u16; PLACES],
-    // The places that clash with each place.
+    // The places that clash with each place that may be taken alone.
     pub(crate) clashes: [u64; PLACES],
     // The places whose sections may be taken alone.
     pub(crate) alone: u64,
@@ -35,11 +35,12 @@ impl Goods {
         ensures goods { IsGoods (offer_of menu.now prices.now budget.0 allowed.now) result }
         ensures menu { IsMenu menu.now }
     {
+        let alone = alone(menu, prices, budget, allowed);
         Goods {
             prices: prices_of(menu, prices),
             credits: credits_of(menu),
-            clashes: clashes_of(menu),
-            alone: alone(menu, prices, budget, allowed),
+            clashes: clashes_of(menu, alone),
+            alone,
         }
     }
 }
@@ -69,26 +70,32 @@ fn credits_of(menu: &Menu) -> [u16; PLACES]
     row
 }
 
-// The word of the places that clash with each place.
-fn clashes_of(menu: &Menu) -> [u64; PLACES]
-    ensures { (place : ℕ) → place < length menu.now.places
+// For each place of a word the word of the places that clash with it.
+fn clashes_of(menu: &Menu, alone: u64) -> [u64; PLACES]
+    ensures { (place : ℕ) → place < length menu.now.places → bit_at alone place ≡ 1
         → IsWordOf (Clashes menu.now place) (length menu.now.places) (slice_index result place) }
 {
     let mut words = [0; PLACES];
     for place in 0..menu.len() {
-        words[usize::from(place)] = clashing(menu, place);
+        words[usize::from(place)] = clashing(menu, alone, place);
     }
     words
 }
 
-// The word of the places that clash with a place.
-fn clashing(menu: &Menu, place: u8) -> u64
+// The word of the places that clash with a place, where that is in a word. No other is asked for:
+// in the aftermarket most places are in no bundle, and looking pair by pair takes its time.
+fn clashing(menu: &Menu, alone: u64, place: u8) -> u64
     requires { place < length menu.now.places }
-    ensures { IsWordOf (Clashes menu.now place) (length menu.now.places) result }
+    ensures { bit_at alone place ≡ 1
+        → IsWordOf (Clashes menu.now place) (length menu.now.places) result }
 {
+    prove!(place < menu.len());
+    if (alone >> place) & 1 == 0 {
+        return 0;
+    }
     let mut word = 0;
     for other in 0..menu.len() {
-        word = with_bit(word, other, menu.clash(other, place));
+        word = with_bit(word, other, menu.clash(place, other));
     }
     word
 }

@@ -1,8 +1,9 @@
 //! The bundle that a student wants at given prices, of all bundles or of those with a given
 //! section, by branch and bound: what can at most still be reached from a node is looked up in a
 //! table that is made once a demand.
-// Neither: a bound on the number of nodes, and what `opened` counts. That `prunes` is true often: a
-// table that says everywhere that enough can be reached would keep every clause.
+// Neither: a bound on the number of nodes, and what `opened` counts. That `prunes` and
+// `falls_short` are true often: a table that says everywhere that enough can be reached would keep
+// every clause.
 #![tactic(auto)]
 
 mod below;

@@ -169,6 +169,11 @@ fn pick_of(item: &Item, scarce: Scarce, multipliers: Multipliers) -> Pick {
 
 // Puts a pick among the greatest, of which the least falls out.
 fn put(picks: &mut [Pick], pick: Pick) {
+    // Most picks are worth no more than the least.
+    match picks.last() {
+        Some(least) if least.value < pick.value => {}
+        _ => return,
+    }
     let mut pick = pick;
     for i in 0..picks.len() {
         if picks[i].value < pick.value {

@@ -62,8 +62,9 @@ impl Workspace {
     }
 
     /// How many nodes the last demand opened: those of which it looked up what can be reached. A
-    /// place that can not be taken with the chosen ones is passed without one. It is there to be
-    /// measured: no clause speaks of it.
+    /// place that can not be taken with the chosen ones is passed without one, and a node that is not
+    /// made, since too little can be reached from it, is none. It is there to be measured: no clause
+    /// speaks of it.
     pub fn opened(&self) -> u64 {
         self.frames.opened
     }

@@ -1,12 +1,13 @@
 // The most that can still be reached from a node, looked up.
-ghost use Rattle.std.specs.Prelude.{◌≡◌, ◌↔◌, ◌<◌, ◌≤◌, ◌+◌, ◌*◌, ◌-◌, ◌^◌, ◌-ℤ◌, ◌*ℤ◌, ◌≤ℤ◌, ◌<ℤ◌, pos, neg_ℤ, ℕ, Bool, List, IsTrue, length};
+ghost use Rattle.std.specs.Prelude.{◌≡◌, ◌↔◌, ◌<◌, ◌≤◌, ◌+◌, ◌*◌, ◌-◌, ◌^◌, ◌-ℤ◌, ◌*ℤ◌, ◌≤ℤ◌, ◌<ℤ◌, pos, neg_ℤ, ℕ, Bool, List, All, IsTrue, length};
 ghost use Rattle.std.specs.Ordering.{nat_cmp};
 ghost use Rattle.std.specs.FinSet as set;
 ghost use Rattle.market_units.specs.declared.limits.TheConstants.{MAX_COURSES, MAX_RATINGS, MAX_SECTION_CREDITS};
 ghost use Rattle.market_units.specs.declared.units.Tokens.{Tokens};
+ghost use Rattle.market_units.specs.Totals.{total};
 ghost use Rattle.bundle_rules.specs.Demand.{price_in, HasPrices};
-ghost use Rattle.bundle_rules.specs.Menus.{IsMenu, MenuData};
-ghost use Rattle.bundle_bounds.specs.Offers.{offer_of};
+ghost use Rattle.bundle_rules.specs.Menus.{IsMenu};
+ghost use Rattle.bundle_bounds.specs.Offers.{OfferData, offer_of};
 ghost use Rattle.bundle_bounds.specs.Laws.{IsTakable, IsNode};
 ghost use Rattle.demand_oracle.specs.SummedNodes.{chosen_of, IsSummed};
 ghost use Rattle.bundle_bounds.specs.Prunings.{MayPrune};
@@ -52,8 +53,8 @@ pub struct Column {
 }
 
 impl Reach {
-    ghost use Rattle.demand_oracle.specs.Reaches.{IsReach};
-    ghost use Rattle.demand_oracle.specs.Columns.{IsColumn};
+    ghost use Rattle.demand_oracle.specs.Reaches.{IsReach, number_at};
+    ghost use Rattle.demand_oracle.specs.Columns.{IsColumn, IsColumnAt, IsColumnFor};
 
     /// A table that was measured for no demand yet: `prunes` promises nothing before `measure`.
     pub fn empty() -> Reach {
@@ -110,9 +111,29 @@ impl Reach {
         requires { IsMenu menu.now }
         ensures { IsColumn menu.now budget.0 self.now summed.now result }
     {
-        let count = self.fitting(menu, summed);
-        let budget_left = summed.budget_left(budget);
-        let units = in_units(budget_left, self.shift);
+        self.column_for(
+            summed.courses_left(menu),
+            summed.budget_left(budget),
+            summed.credits_left(menu),
+        )
+    }
+
+    /// What is looked up where so many courses, so much of the budget and so many credits are left.
+    #[inline(always)]
+    pub(crate) fn column_for(&self, courses: u32, budget: u32, credits: u32) -> Column
+        requires courses { courses ≤ MAX_COURSES }
+        requires credits { credits ≤ 65535 }
+        ensures { IsColumnFor self.now courses budget credits result }
+    {
+        let count = fitting(courses, credits, self.lightest) as usize;
+        let units = in_units(budget, self.shift);
+        if count == 0 {
+            return Column {
+                count,
+                units: 0,
+                paid: 0,
+            };
+        }
         if units >= UNITS as u32 {
             return Column {
                 count,
@@ -120,9 +141,8 @@ impl Reach {
                 paid: ENOUGH,
             };
         }
-        let credits_left = summed.credits_left(menu);
-        let paid = self.credits.money * u64::from(budget_left)
-            + self.credits.credits * u64::from(credits_left);
+        let paid = self.credits.money * u64::from(budget)
+            + self.credits.credits * u64::from(credits);
         Column {
             count,
             units: units as usize,
@@ -185,37 +205,38 @@ impl Reach {
     {
         let draft = Draft::of(menu, prices, budget, allowed, self.multipliers);
         let mut summed = SummedNode::root();
-        while summed.node.place < menu.len() {
-            let is_wanted = draft.has(summed.node.place);
-            summed = followed(menu, prices, budget, allowed, is_wanted, summed);
+        for place in 0..menu.len() {
+            let is_wanted = draft.has(place);
+            summed = followed(menu, prices, budget, allowed, is_wanted, place, summed);
         }
         summed
     }
 
-    // How many more sections fit the course cap and the credits of the lightest.
+    /// What the adjustments of chosen places and of one more with the places from another one on can
+    /// add.
     #[inline(always)]
-    fn fitting(&self, menu: &Menu, summed: &SummedNode) -> usize
-        requires { IsMenu menu.now }
-        ensures within { result ≤ menu.now.courses }
-        ensures enough { (count : ℕ) → count ≤ menu.now.courses - length (chosen_of summed.now)
-            → count * self.now.lightest ≤ menu.now.credits - summed.now.credits → count ≤ result }
+    pub(crate) fn hoped_with(&self, chosen: &[u8], place: u8, next: u8) -> u32
+        requires chosen { All (λ other. other < MAX_RATINGS) chosen.now }
+        requires few { length chosen.now ≤ MAX_COURSES }
+        requires place { place < MAX_RATINGS }
+        requires next { next ≤ MAX_RATINGS }
+        ensures { result
+            ≡ total (number_at self.now.hopes next) chosen.now
+            + number_at self.now.hopes next place }
     {
-        fitting(
-            summed.courses_left(menu),
-            summed.credits_left(menu),
-            self.lightest,
-        ) as usize
+        let row = &self.hopes[usize::from(next)];
+        hopes_of(row, chosen) + u32::from(row[usize::from(place)])
     }
 
-    // A million times the most that can be added to what is hoped for at the node where the places
-    // below this one are decided.
+    /// A million times the most that can be added to what is hoped for at the node where the places
+    /// below this one are decided. The column is that of its sections.
     #[inline(always)]
-    fn added(&self, column: &Column, place: u8) -> i64
+    pub(crate) fn added(&self, column: &Column, place: u8) -> i64
         requires { place ≤ MAX_RATINGS }
-        ensures value { (menu : MenuData) (prices : List Tokens) (budget : ℕ) (allowed : set.FinSet nat_cmp) (summed : SummedNode) → IsMenu menu
-            → place ≤ length menu.places → IsReach (offer_of menu prices budget allowed) self.now → IsColumn menu budget self.now summed column.now
-            → IsSummed menu (price_in prices) summed → IsNode (offer_of menu prices budget allowed) place (chosen_of summed)
-            → IsAdded (offer_of menu prices budget allowed) place (chosen_of summed) result }
+        ensures value { (offer : OfferData) (chosen : List ℕ) → IsMenu offer.menu
+            → place ≤ length offer.menu.places → IsReach offer self.now
+            → IsColumnAt offer self.now chosen column.now → IsNode offer place chosen
+            → IsAdded offer place chosen result }
         ensures low { pos 0 ≤ℤ result }
     {
         let most = self.most[usize::from(place) * COUNTS + column.count][column.units];
@@ -239,44 +260,48 @@ pub fn begun_with(
         (chosen_of result) }
 {
     let mut summed = SummedNode::root();
-    while summed.node.place < menu.len() {
-        let is_wanted = bundle.has(menu.rated(summed.node.place).section);
-        summed = followed(menu, prices, budget, allowed, is_wanted, summed);
+    for place in 0..menu.len() {
+        let is_wanted = bundle.has(menu.rated(place).section);
+        summed = followed(menu, prices, budget, allowed, is_wanted, place, summed);
     }
     summed
 }
 
-// The node with the next section, where it is wanted and may be taken, and else without it.
+// The node with the section of an undecided place, where it is wanted and may be taken, and else the
+// node itself.
+#[inline(always)]
 fn followed(
     menu: &Menu,
     prices: &[Tokens],
     budget: Tokens,
     allowed: &SectionSet,
     is_wanted: bool,
+    place: u8,
     summed: SummedNode,
 ) -> SummedNode
     requires prices { HasPrices menu.now prices.now }
     requires summed { IsSummed menu.now (price_in prices.now) summed }
     requires node { IsNode (offer_of menu.now prices.now budget.0 allowed.now) summed.node.place
         (chosen_of summed) }
-    requires next { summed.node.place < length menu.now.places }
+    requires undecided { summed.node.place ≤ place }
+    requires on_menu { place < length menu.now.places }
     ensures summed { IsSummed menu.now (price_in prices.now) result }
     ensures node { IsNode (offer_of menu.now prices.now budget.0 allowed.now) result.node.place
         (chosen_of result) }
-    ensures place { result.node.place ≡ summed.node.place + 1 }
+    ensures place { result.node.place ≤ place + 1 }
 {
-    prove!(summed.node.place < menu.len());
+    prove!(place < menu.len());
     if !is_wanted {
-        return summed.without_next();
+        return summed;
     }
-    if !summed.may_take(menu, prices, budget, allowed, summed.node.place) {
-        return summed.without_next();
+    if !summed.may_take(menu, prices, budget, allowed, place) {
+        return summed;
     }
-    summed.with_next(menu, prices)
+    summed.with_place(menu, prices, place)
 }
 
-// What a champion's worth has more than a utility and what is hoped for.
-fn lacking(worth: i32, utility: i32, hoped: u32) -> i64
+/// What a champion's worth has more than a utility and what is hoped for.
+pub(crate) fn lacking(worth: i32, utility: i32, hoped: u32) -> i64
     ensures value { result ≡ (worth -ℤ utility) -ℤ pos hoped }
     ensures high { result ≤ℤ pos (2 ^ 32) }
     ensures low { neg_ℤ (pos (2 ^ 34)) ≤ℤ result }
@@ -284,8 +309,8 @@ fn lacking(worth: i32, utility: i32, hoped: u32) -> i64
     i64::from(worth) - i64::from(utility) - i64::from(hoped)
 }
 
-// Whether so many millionths are less than so many points.
-fn is_below(millionths: i64, points: i64) -> bool
+/// Whether so many millionths are less than so many points.
+pub(crate) fn is_below(millionths: i64, points: i64) -> bool
     requires high { points ≤ℤ pos (2 ^ 33) }
     requires low { neg_ℤ (pos (2 ^ 34)) ≤ℤ points }
     ensures { IsTrue result ↔ (millionths <ℤ (pos 1000000 *ℤ points)) }

@@ -1,5 +1,5 @@
 // A node of the search with its sums, so that nothing of it is computed anew.
-ghost use Rattle.std.specs.Prelude.{◌≡◌, ◌↔◌, ◌<◌, ◌≤◌, ◌+◌, ◌-◌, ◌++◌, ◌∷◌, [], ℕ, List, IsTrue, length};
+ghost use Rattle.std.specs.Prelude.{◌≡◌, ◌↔◌, ◌<◌, ◌≤◌, ◌+◌, ◌-◌, ◌*◌, ◌++◌, ◌∷◌, [], ◌≤ℤ◌, pos, neg_ℤ, ℕ, List, IsTrue, length};
 ghost use Rattle.std.specs.Ordering.{nat_cmp};
 ghost use Rattle.std.specs.FinSet as set;
 ghost use Rattle.market_units.specs.declared.units.Tokens.{Tokens};
@@ -28,7 +28,7 @@ pub struct SummedNode {
 }
 
 impl SummedNode {
-    ghost use Rattle.demand_oracle.specs.SummedNodes.{chosen_of, with_next_of, IsSummed};
+    ghost use Rattle.demand_oracle.specs.SummedNodes.{chosen_of, with_place_of, IsSummed};
 
     /// The node of which nothing is decided.
     pub fn root() -> SummedNode
@@ -36,28 +36,9 @@ impl SummedNode {
         ensures chosen { chosen_of result ≡ [] }
         ensures summed { (menu : MenuData) (price : ℕ → ℕ) → IsSummed menu price result }
     {
-        SummedNode::begun_at(0)
-    }
-
-    /// The node that has the section of this place alone, and has decided no later one.
-    pub fn alone(menu: &Menu, prices: &[Tokens], place: u8) -> SummedNode
-        requires prices { HasPrices menu.now prices.now }
-        requires on_menu { place < length menu.now.places }
-        ensures summed { IsSummed menu.now (price_in prices.now) result }
-        ensures chosen { chosen_of result ≡ section_at menu.now.places place ∷ [] }
-    {
-        SummedNode::begun_at(place).with_next(menu, prices)
-    }
-
-    // The node that has decided the places below this one, and has chosen nothing.
-    fn begun_at(place: u8) -> SummedNode
-        ensures place { result.node.place ≡ place }
-        ensures chosen { chosen_of result ≡ [] }
-        ensures summed { (menu : MenuData) (price : ℕ → ℕ) → IsSummed menu price result }
-    {
         SummedNode {
             node: Node {
-                place,
+                place: 0,
                 chosen: Bundle::empty(),
             },
             places: [0; ROOM],
@@ -67,12 +48,40 @@ impl SummedNode {
         }
     }
 
+    /// The node that has the section of this place alone, and has decided no later one.
+    pub fn alone(menu: &Menu, prices: &[Tokens], place: u8) -> SummedNode
+        requires prices { HasPrices menu.now prices.now }
+        requires on_menu { place < length menu.now.places }
+        ensures summed { IsSummed menu.now (price_in prices.now) result }
+        ensures chosen { chosen_of result ≡ section_at menu.now.places place ∷ [] }
+    {
+        SummedNode::root().with_place(menu, prices, place)
+    }
+
     /// The utility of the chosen sections.
     pub fn utility(&self) -> i32
         ensures { (menu : MenuData) (price : ℕ → ℕ) → IsSummed menu price self.now
             → result ≡ utility (wishes_of menu) (chosen_of self.now) }
     {
         self.utility
+    }
+
+    /// The utility of the chosen sections with that of an undecided place.
+    #[inline(always)]
+    pub(crate) fn utility_with(&self, menu: &Menu, place: u8) -> i32
+        requires summed { (price : ℕ → ℕ) × IsSummed menu.now price self.now }
+        requires undecided { self.now.node.place ≤ place }
+        requires on_menu { place < length menu.now.places }
+        requires room { length (chosen_of self.now) < MAX_COURSES }
+        ensures value { result
+            ≡ utility (wishes_of menu.now) (with_place_of menu.now self.now place) }
+        ensures low { neg_ℤ (pos (1700 * (length (chosen_of self.now) + 1))) ≤ℤ result }
+        ensures high { result ≤ℤ pos (1700 * (length (chosen_of self.now) + 1)) }
+    {
+        prove!(place < menu.len());
+        let rated = menu.rated(place);
+        let adjustments = adjustments_with(menu, self.places(), place);
+        self.utility + i32::from(rated.rating) + adjustments
     }
 
     /// Whether the section of an undecided place may be taken with the chosen ones: it is allowed
@@ -114,61 +123,32 @@ impl SummedNode {
         is_apart(menu, self.places(), place)
     }
 
-    /// The node with the section of the next place.
+    /// The node with the section of an undecided place, which has decided no later one.
     #[must_use]
-    pub fn with_next(self, menu: &Menu, prices: &[Tokens]) -> SummedNode
+    #[inline(always)]
+    pub fn with_place(&self, menu: &Menu, prices: &[Tokens], place: u8) -> SummedNode
         requires prices { HasPrices menu.now prices.now }
-        requires summed { IsSummed menu.now (price_in prices.now) self }
-        requires next { self.node.place < length menu.now.places }
-        requires room { length (chosen_of self) < MAX_COURSES }
+        requires summed { IsSummed menu.now (price_in prices.now) self.now }
+        requires undecided { self.now.node.place ≤ place }
+        requires on_menu { place < length menu.now.places }
+        requires room { length (chosen_of self.now) < MAX_COURSES }
         ensures summed { IsSummed menu.now (price_in prices.now) result }
-        ensures place { result.node.place ≡ self.node.place + 1 }
-        ensures chosen { chosen_of result ≡ with_next_of menu.now self }
+        ensures place { result.node.place ≡ place + 1 }
+        ensures chosen { chosen_of result ≡ with_place_of menu.now self.now place }
     {
-        prove!(self.node.place < menu.len());
-        let rated = menu.rated(self.node.place);
-        let adjustments = adjustments_with(menu, self.places(), self.node.place);
+        prove!(place < menu.len());
+        let rated = menu.rated(place);
         let mut places = self.places;
-        places[self.node.chosen.sections().len()] = self.node.place;
+        places[self.node.chosen.sections().len()] = place;
         SummedNode {
             node: Node {
-                place: self.node.place + 1,
+                place: place + 1,
                 chosen: self.node.chosen.with(rated.section),
             },
             places,
-            paid: self.paid + price_of_place(menu, prices, self.node.place),
+            paid: self.paid + price_of_place(menu, prices, place),
             credits: self.credits + u32::from(rated.credits),
-            utility: self.utility + i32::from(rated.rating) + adjustments,
-        }
-    }
-
-    /// The node without the section of the next place.
-    #[must_use]
-    pub fn without_next(self) -> SummedNode
-        requires { self.node.place < MAX_RATINGS }
-        ensures summed { (menu : MenuData) (price : ℕ → ℕ) → IsSummed menu price self
-            → IsSummed menu price result }
-        ensures place { result.node.place ≡ self.node.place + 1 }
-        ensures chosen { chosen_of result ≡ chosen_of self }
-    {
-        self.passed_to(self.node.place + 1)
-    }
-
-    /// The node that has decided the places below this one too, without their sections.
-    #[must_use]
-    pub fn passed_to(self, place: u8) -> SummedNode
-        requires { self.node.place ≤ place }
-        ensures summed { (menu : MenuData) (price : ℕ → ℕ) → IsSummed menu price self
-            → IsSummed menu price result }
-        ensures place { result.node.place ≡ place }
-        ensures chosen { chosen_of result ≡ chosen_of self }
-    {
-        SummedNode {
-            node: Node {
-                place,
-                chosen: self.node.chosen,
-            },
-            ..self
+            utility: self.utility_with(menu, place),
         }
     }
 

@@ -1,14 +1,14 @@
 // How the tables of what can be reached are filled, from the last place to the first.
 ghost use Rattle.std.specs.Ordering.{nat_cmp};
 ghost use Rattle.std.specs.FinSet as set;
-ghost use Rattle.std.specs.Prelude.{◌≡◌, ◌<◌, ◌≤◌, ◌*◌, ◌+◌, ◌-◌, ◌/◌, ◌^◌, ℕ, List, true, max, unsigned_abs, length, slice_index};
+ghost use Rattle.std.specs.Prelude.{◌≡◌, ◌≢◌, ◌<◌, ◌≤◌, ◌*◌, ◌+◌, ◌-◌, ◌/◌, ◌^◌, ℕ, List, true, max, unsigned_abs, length, slice_index};
 ghost use Rattle.market_units.specs.declared.units.Tokens.{Tokens};
 ghost use Rattle.bundle_rules.specs.Demand.{HasPrices};
 ghost use Rattle.bundle_rules.specs.Menus.{adjustment_in, clash_in, credits_at, IsMenu};
 ghost use Rattle.bundle_bounds.specs.Offers.{offer_of, allowed_at};
 ghost use Rattle.bundle_bounds.specs.Opens.{above_zero};
 ghost use Rattle.demand_oracle.specs.Values.{hopes_from, value};
-ghost use Rattle.demand_oracle.specs.Reaches.{HoldsHopes, HoldsCovers, IsLightest, AreSmall, IsPlaced, within_at};
+ghost use Rattle.demand_oracle.specs.Reaches.{HoldsHopes, HoldsCovers, IsLightest, AreSmall, IsPlaced, number_at, within_at};
 
 use crate::multipliers::Multipliers;
 use bundle_bounds::price_of_place;
@@ -94,31 +94,29 @@ pub(crate) fn put_hopes(menu: &Menu, allowed: &SectionSet, hopes: &mut [[u16; PL
     let count = menu.len();
     hopes[usize::from(count)] = [0; PLACES];
     for place in (0..count).rev() {
-        let later = hopes[usize::from(place) + 1];
-        hopes[usize::from(place)] = hopes_at(menu, allowed, place, later);
+        hopes[usize::from(place)] = hopes[usize::from(place) + 1];
+        add_hopes(menu, allowed, place, &mut hopes[usize::from(place)]);
     }
 }
 
-// What the adjustments of earlier places with the places from this one on can add.
-fn hopes_at(menu: &Menu, allowed: &SectionSet, place: u8, later: [u16; PLACES]) -> [u16; PLACES]
+// Adds to what the adjustments of earlier places with the places behind this one can add what they
+// can add with this one.
+fn add_hopes(menu: &Menu, allowed: &SectionSet, place: u8, hopes: &mut [u16; PLACES])
     requires place { place < length menu.now.places }
     requires menu { IsMenu menu.now }
     requires later { (prices : List Tokens) (budget earlier : ℕ) → earlier < place + 1
-        → slice_index later earlier
+        → slice_index hopes.old earlier
         ≡ hopes_from (offer_of menu.now prices budget allowed.now) (place + 1) earlier }
     ensures { (prices : List Tokens) (budget earlier : ℕ) → earlier < place
-        → slice_index result earlier
+        → slice_index hopes.new earlier
         ≡ hopes_from (offer_of menu.now prices budget allowed.now) place earlier }
 {
     if !allowed.has(menu.rated(place).section) {
-        return later;
+        return;
     }
-    let mut hopes = later;
     for earlier in 0..place {
-        let hope = later[usize::from(earlier)] + hope_of(menu, earlier, place);
-        hopes[usize::from(earlier)] = hope;
+        hopes[usize::from(earlier)] += hope_of(menu, earlier, place);
     }
-    hopes
 }
 
 // The adjustment of two places, or 0 where it is negative.
@@ -130,7 +128,8 @@ fn hope_of(menu: &Menu, earlier: u8, place: u8) -> u16
     ensures menu { IsMenu menu.now }
 {
     prove!(place < menu.len());
-    menu.adjustment(earlier, place).max(0) as u16
+    // In this order the numbers that a loop over earlier places reads stand side by side.
+    menu.adjustment(place, earlier).max(0) as u16
 }
 
 /// Fills the table of the most that the places from each one on can add, so many of them at most,
@@ -274,24 +273,66 @@ fn put_counts(courses: u8, place: u8, next: u8, value: u32, cost: usize, most: &
     let apart = usize::from(next) * COUNTS;
     most[row] = most[after];
     for count in 1..usize::from(courses) + 1 {
-        most[row + count] = most_within(most[after + count], &most[apart + count - 1], value, cost);
+        put_row(
+            row + count,
+            after + count,
+            apart + count - 1,
+            value,
+            cost,
+            most,
+        );
     }
 }
 
-// For each number of units the greater one of the number of a row, and of the value with that of
-// another where so many units fewer are left.
-fn most_within(later: [u32; UNITS], apart: &[u32; UNITS], value: u32, cost: usize) -> [u32; UNITS]
+// Writes a row of the table: for each number of units the greater one of the number of a row behind
+// it, and of the value with that of another where so many units fewer are left.
+#[inline(always)]
+fn put_row(row: usize, later: usize, apart: usize, value: u32, cost: usize, most: &mut Table)
+    requires later { row < later }
+    requires apart { row < apart }
+    requires later_high { later < 549 }
+    requires apart_high { apart < 549 }
+    requires value { value ≤ 65635001 }
+    requires small { (units : ℕ) → units < 64 → number_at most.old apart units ≤ 525080008 }
+    ensures dear { (units : ℕ) → units < 64 → units < cost
+        → number_at most.new row units ≡ number_at most.old later units }
+    ensures more { (units : ℕ) → units < 64 → cost ≤ units
+        → number_at most.new row units
+        ≡ max (number_at most.old later units) (number_at most.old apart (units - cost) + value) }
+    ensures others { (one units : ℕ) → one ≢ row
+        → number_at most.new one units ≡ number_at most.old one units }
+{
+    let (front, behind) = most.split_at_mut(row + 1);
+    let first = row + 1;
+    put_most_within(
+        &behind[later - first],
+        &behind[apart - first],
+        value,
+        cost,
+        &mut front[row],
+    );
+}
+
+// Writes for each number of units the greater one of the number of a row, and of the value with
+// that of another where so many units fewer are left.
+#[inline(always)]
+fn put_most_within(
+    later: &[u32; UNITS],
+    apart: &[u32; UNITS],
+    value: u32,
+    cost: usize,
+    most: &mut [u32; UNITS],
+)
     requires value { value ≤ 65635001 }
     requires small { (units : ℕ) → units < 64 → slice_index apart.now units ≤ 525080008 }
     ensures dear { (units : ℕ) → units < 64 → units < cost
-        → slice_index result units ≡ slice_index later units }
+        → slice_index most.new units ≡ slice_index later.now units }
     ensures more { (units : ℕ) → units < 64 → cost ≤ units
-        → slice_index result units
-        ≡ max (slice_index later units) (slice_index apart.now (units - cost) + value) }
+        → slice_index most.new units
+        ≡ max (slice_index later.now units) (slice_index apart.now (units - cost) + value) }
 {
-    let mut most = later;
+    *most = *later;
     for units in cost..UNITS {
         most[units] = later[units].max(apart[units - cost] + value);
     }
-    most
 }

@@ -1,1 +1,2 @@
 mod BoardRounds
+mod TwoVersions

@@ -21,8 +21,8 @@ use std::process::Abort;
 use std::sync::{Arc, Wait};
 use std::test::Fail;
 
-// What a student of the crowd takes.
-fn taken(crowd: &Crowd, prices: &[Tokens], student: StudentNo) -> Bundle
+/// What a student of the crowd takes.
+pub(crate) fn taken(crowd: &Crowd, prices: &[Tokens], student: StudentNo) -> Bundle
     requires prices { ArePricesFor (data_of crowd.now) prices.now }
     requires student { student.0 < length crowd.now.menus.items }
     ensures { sections_of result

@@ -1,19 +1,10 @@
 // Bounds of two small menus, worked by hand.
+use crate::menus::{menu_of, rated};
 use bundle_bounds::{Leaf, Node, bound, bound_closes};
-use bundle_rules::{Bundle, Menu, Rated, feasible, has_prices};
+use bundle_rules::{Bundle, Menu, feasible, has_prices};
 use market_units::{SectionNo, SectionSet, Tokens};
-use std::alloc::Global;
 use std::process::Abort;
 use std::test::Fail;
-
-fn rated(section: u16, course: u16, rating: u8) -> Rated {
-    Rated {
-        section: SectionNo(section),
-        course,
-        rating,
-        credits: 1,
-    }
-}
 
 // The first bound that prunes a node with nothing chosen for this champion, with its number.
 fn pruning<R: Abort>(
@@ -41,10 +32,8 @@ fn pruning<R: Abort>(
 
 #[test]
 fn two_places_with_a_pair(rt: HostRuntime) -> Result<(), Fail> {
-    let places = [rated(0, 0, 60), rated(1, 1, 40)];
-    let pairs = [(0, 1, 10)];
-    assert!(rt; Menu::may_build(&places, &pairs, &[0, 0], 10, 2));
-    let menu = Menu::build(rt.alloc(), &places, &pairs, &[0, 0], 10, 2).expect(&rt, "memory");
+    let places = [rated(0, 0, 60, 1), rated(1, 1, 40, 1)];
+    let menu = menu_of(&rt, rt.alloc(), &places, &[(0, 1, 10)], &[0, 0], (10, 2));
     let prices = [Tokens(50), Tokens(30)];
     let (first, second) = (SectionNo(0), SectionNo(1));
     assert_eq!(rt; pruning(&rt, &menu, &prices, 60, 0, &[first]), None);
@@ -62,9 +51,8 @@ fn two_places_with_a_pair(rt: HostRuntime) -> Result<(), Fail> {
 
 #[test]
 fn two_places_of_one_course(rt: HostRuntime) -> Result<(), Fail> {
-    let places = [rated(3, 7, 30), rated(5, 7, 20), rated(9, 2, 10)];
-    assert!(rt; Menu::may_build(&places, &[], &[2, 1, 0], 10, 8));
-    let menu = Menu::build(rt.alloc(), &places, &[], &[2, 1, 0], 10, 8).expect(&rt, "memory");
+    let places = [rated(3, 7, 30, 1), rated(5, 7, 20, 1), rated(9, 2, 10, 1)];
+    let menu = menu_of(&rt, rt.alloc(), &places, &[], &[2, 1, 0], (10, 8));
     let prices = [Tokens(10); 10];
     let champion = [SectionNo(3), SectionNo(9)];
     assert_eq!(rt;

@@ -12,10 +12,18 @@ mod clearing;
 #[cfg(test)]
 mod crowds;
 #[cfg(test)]
+mod held_workers;
+#[cfg(test)]
+mod menus;
+#[cfg(test)]
 mod plain_demands;
 #[cfg(test)]
 mod rivals;
 #[cfg(test)]
 mod trees;
+#[cfg(test)]
+mod two_sections;
+#[cfg(test)]
+mod two_versions;
 #[cfg(test)]
 mod workers;

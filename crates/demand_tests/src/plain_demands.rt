@@ -3,8 +3,9 @@ ghost use Rattle.std.specs.Prelude.{◌≤◌, IsTrue, All, length};
 ghost use Rattle.demand_api.specs.Views.{data_of};
 ghost use Rattle.demand_api.specs.Asking.{ArePricesFor};
 
+use crate::menus::{menu_of, rated};
 use crate::rivals::rivals;
-use bundle_rules::{Bundle, Menu, Rated};
+use bundle_rules::Bundle;
 use demand_api::{Crowd, Demands, PlainDemands};
 use market_units::{SectionNo, StudentNo, Tokens};
 use std::alloc::Global;
@@ -12,27 +13,6 @@ use std::process::Abort;
 use std::sync::{Arc, Wait};
 use std::test::Fail;
 use std::thread::Threads;
-
-fn rated(section: u16, course: u16, rating: u8) -> Rated {
-    Rated {
-        section: SectionNo(section),
-        course,
-        rating,
-        credits: 1,
-    }
-}
-
-// A menu of a student who may take two sections with 10 credits.
-fn menu<R: Abort>(
-    rt: &R,
-    alloc: Global,
-    places: &[Rated],
-    pairs: &[(u8, u8, i16)],
-    clashes: &[u64],
-) -> Menu {
-    assert!(rt; Menu::may_build(places, pairs, clashes, 10, 2));
-    Menu::build(alloc, places, pairs, clashes, 10, 2).expect(rt, "memory")
-}
 
 // Whether each of these vectors has prices that can be asked of the crowd.
 fn all_have_prices(crowd: &Crowd, batch: &[Vec<Tokens>]) -> bool
@@ -151,19 +131,15 @@ fn students_are_chosen_in_the_given_order(rt: HostRuntime) -> Result<(), Fail> {
 
 // Three students of the ordinary term, whose first section and fourth clash.
 fn ordinary_term<R: Abort>(rt: &R, alloc: Global) -> Crowd {
-    let mut menus = Vec::new(alloc);
-    let ann = [rated(0, 0, 60), rated(1, 1, 30)];
-    menus
-        .push(menu(rt, alloc, &ann, &[], &[0, 0]))
-        .expect(rt, "memory");
-    let bob = [rated(0, 0, 50), rated(2, 2, 40)];
-    menus
-        .push(menu(rt, alloc, &bob, &[(0, 1, 10)], &[0, 0]))
-        .expect(rt, "memory");
-    let cat = [rated(0, 0, 20), rated(3, 0, 45)];
-    menus
-        .push(menu(rt, alloc, &cat, &[], &[2, 1]))
-        .expect(rt, "memory");
+    let ann = [rated(0, 0, 60, 1), rated(1, 1, 30, 1)];
+    let bob = [rated(0, 0, 50, 1), rated(2, 2, 40, 1)];
+    let cat = [rated(0, 0, 20, 1), rated(3, 0, 45, 1)];
+    let menus = vec![in alloc;
+        menu_of(rt, alloc, &ann, &[], &[0, 0], (10, 2)),
+        menu_of(rt, alloc, &bob, &[(0, 1, 10)], &[0, 0], (10, 2)),
+        menu_of(rt, alloc, &cat, &[], &[2, 1], (10, 2)),
+    ];
+    let menus = menus.expect(rt, "memory");
     let budgets = vec![in alloc; Tokens(104), Tokens(103), Tokens(102)].expect(rt, "memory");
     Crowd::of(menus, budgets, 4).expect(rt, "a crowd")
 }

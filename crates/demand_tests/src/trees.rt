@@ -10,36 +10,30 @@ ghost use Rattle.bundle_bounds.specs.Offers.{offer_of, places_of};
 ghost use Rattle.bundle_bounds.specs.Opens.{is_open};
 ghost use Rattle.bundle_bounds.specs.Laws.{IsNode, IsTakable};
 
+use crate::menus::{menu_of, rated};
 use bundle_bounds::{Node, is_open};
-use bundle_rules::{Bundle, Menu, Rated, has_prices};
+use bundle_rules::{Bundle, Menu, has_prices};
 use market_units::{SectionNo, SectionSet, Tokens};
 use proof_tree::{TreeDefect, build, build_forced, build_into, check_forced, check_tree};
 use std::alloc::Global;
 use std::process::Abort;
 use std::test::Fail;
 
-// A menu of these places, each with its section and course, its rating and its credits, of which
-// the marked ones clash with each other.
-fn menu_of<R: Abort>(
+// The menu of two places of one credit, each with its section and course and its rating, of which
+// so many may be taken.
+fn menu_of_two<R: Abort>(
     rt: &R,
     alloc: Global,
-    places: &[(u16, u8, u16)],
+    [first, second]: [(u16, u8); 2],
     pairs: &[(u8, u8, i16)],
-    clashes: &[u64],
-    caps: (u16, u8),
+    clashes: [u64; 2],
+    courses: u8,
 ) -> Menu {
-    let mut rated = Vec::new(alloc);
-    for (section, rating, credits) in places {
-        let place = Rated {
-            section: SectionNo(*section),
-            course: *section,
-            rating: *rating,
-            credits: *credits,
-        };
-        rated.push(place).expect(rt, "memory");
-    }
-    assert!(rt; Menu::may_build(&rated, pairs, clashes, caps.0, caps.1));
-    Menu::build(alloc, &rated, pairs, clashes, caps.0, caps.1).expect(rt, "memory")
+    let places = [
+        rated(first.0, first.0, first.1, 1),
+        rated(second.0, second.0, second.1, 1),
+    ];
+    menu_of(rt, alloc, &places, pairs, &clashes, (10, courses))
 }
 
 // The node with the section of the next place, where that is open.
@@ -121,9 +115,10 @@ fn has_tree<R: Abort>(
 
 #[test]
 fn sixty_courses(rt: HostRuntime) -> Result<(), Fail> {
-    let mut places = [(0, 0, 0); 60];
+    let mut places = [rated(0, 0, 0, 0); 60];
     for place in 0..60u8 {
-        places[usize::from(place)] = (u16::from(place), 100 - place, 0);
+        let section = u16::from(place);
+        places[usize::from(place)] = rated(section, section, 100 - place, 0);
     }
     let menu = menu_of(&rt, rt.alloc(), &places, &[], &[0; 60], (0, 8));
     let text =
@@ -142,69 +137,57 @@ fn sixty_courses(rt: HostRuntime) -> Result<(), Fail> {
 
 #[test]
 fn an_ordinary_term(rt: HostRuntime) -> Result<(), Fail> {
+    let alloc = rt.alloc();
     let prices = [Tokens(104), Tokens(0), Tokens(0), Tokens(0)];
-    let ann = menu_of(
-        &rt,
-        rt.alloc(),
-        &[(0, 60, 1), (1, 30, 1)],
-        &[],
-        &[0, 0],
-        (10, 2),
-    );
-    has_tree(&rt, rt.alloc(), &ann, &prices, 104, &[0, 1], b"++*nn");
-    let bob = menu_of(
-        &rt,
-        rt.alloc(),
-        &[(0, 50, 1), (2, 40, 1)],
-        &[(0, 1, 10)],
-        &[0, 0],
-        (10, 2),
-    );
-    has_tree(&rt, rt.alloc(), &bob, &prices, 103, &[2], b"-+*n");
-    let cat = menu_of(
-        &rt,
-        rt.alloc(),
-        &[(0, 20, 1), (3, 45, 1)],
-        &[],
-        &[2, 1],
-        (10, 2),
-    );
-    has_tree(&rt, rt.alloc(), &cat, &prices, 102, &[3], b"-+*n");
+    let ann = menu_of_two(&rt, alloc, [(0, 60), (1, 30)], &[], [0, 0], 2);
+    has_tree(&rt, alloc, &ann, &prices, 104, &[0, 1], b"++*nn");
+    let bob = menu_of_two(&rt, alloc, [(0, 50), (2, 40)], &[(0, 1, 10)], [0, 0], 2);
+    has_tree(&rt, alloc, &bob, &prices, 103, &[2], b"-+*n");
+    let cat = menu_of_two(&rt, alloc, [(0, 20), (3, 45)], &[], [2, 1], 2);
+    has_tree(&rt, alloc, &cat, &prices, 102, &[3], b"-+*n");
     Ok(())
 }
 
+// Texts that are no tree of the third section alone, and what is found; `|` is a line feed.
+const DEFECTS: &str = "\
+ => Err(Syntax(0))
+-+* => Err(Syntax(3))
+-+*b => Err(Syntax(3))
+-+*b05 => Err(Syntax(3))
+-+*b100 => Err(Syntax(3))
+-+*x => Err(Syntax(3))
+! => Err(Syntax(0))
+n => Err(NotClosed(0))
+-+** => Err(Redundant(3))
+-+*b77 => Err(WrongLeaf(3))
+++*n => Err(WrongBranch(0))
+-+*nn => Err(Rest(4))
+-+*n| => Err(Rest(4))
+";
+
 #[test]
 fn each_defect_at_its_place(rt: HostRuntime) -> Result<(), Fail> {
-    let menu = menu_of(
-        &rt,
-        rt.alloc(),
-        &[(0, 50, 1), (2, 40, 1)],
-        &[(0, 1, 10)],
-        &[0, 0],
-        (10, 2),
-    );
+    let places = [(0, 50), (2, 40)];
+    let menu = menu_of_two(&rt, rt.alloc(), places, &[(0, 1, 10)], [0, 0], 2);
     let prices = [Tokens(104), Tokens(0), Tokens(0)];
     assert!(rt; has_prices(&menu, &prices));
     let allowed = SectionSet::full(400);
     let best = taken(&rt, &menu, &prices, Tokens(103), &allowed, &[2]);
-    let table: [(&[u8], TreeDefect); 13] = [
-        (b"", TreeDefect::Syntax(0)),
-        (b"-+*", TreeDefect::Syntax(3)),
-        (b"-+*b", TreeDefect::Syntax(3)),
-        (b"-+*b05", TreeDefect::Syntax(3)),
-        (b"-+*b100", TreeDefect::Syntax(3)),
-        (b"-+*x", TreeDefect::Syntax(3)),
-        (b"!", TreeDefect::Syntax(0)),
-        (b"n", TreeDefect::NotClosed(0)),
-        (b"-+**", TreeDefect::Redundant(3)),
-        (b"-+*b77", TreeDefect::WrongLeaf(3)),
-        (b"++*n", TreeDefect::WrongBranch(0)),
-        (b"-+*nn", TreeDefect::Rest(4)),
-        (b"-+*n\n", TreeDefect::Rest(4)),
-    ];
-    for (text, defect) in table.iter() {
-        let checked = check_tree(&menu, &prices, Tokens(103), &allowed, &best, text);
-        assert_eq!(rt; checked, Err(*defect));
+    for row in DEFECTS.split_terminator('\n') {
+        let Some((tree, wanted)) = row.split_once(" => ") else {
+            return Err(Fail::from("a tree without a defect"));
+        };
+        let tree = tree.replace(rt.alloc(), "|", "\n")?;
+        let checked = check_tree(
+            &menu,
+            &prices,
+            Tokens(103),
+            &allowed,
+            &best,
+            tree.as_bytes(),
+        );
+        let told = format!(in rt.alloc(); "{checked:?}")?;
+        assert_eq!(rt; told.as_str(), wanted, "{row}");
     }
     let nothing = taken(&rt, &menu, &prices, Tokens(103), &allowed, &[]);
     let checked = check_tree(&menu, &prices, Tokens(103), &allowed, &nothing, b"-+*");
@@ -250,52 +233,20 @@ fn has_forced_tree<R: Abort>(
 
 #[test]
 fn forced_trees(rt: HostRuntime) -> Result<(), Fail> {
+    let alloc = rt.alloc();
     let free = [Tokens(0); 4];
-    let less = menu_of(
-        &rt,
-        rt.alloc(),
-        &[(0, 50, 1), (1, 50, 1)],
-        &[(0, 1, -200)],
-        &[0, 0],
-        (10, 2),
-    );
-    has_forced_tree(&rt, rt.alloc(), &less, &free, 0, 1, b"+!n!*");
-    let one_course = menu_of(
-        &rt,
-        rt.alloc(),
-        &[(0, 50, 1), (1, 50, 1)],
-        &[],
-        &[0, 0],
-        (10, 1),
-    );
-    has_forced_tree(&rt, rt.alloc(), &one_course, &free, 0, 1, b"+x!*");
-    let credits = menu_of(
-        &rt,
-        rt.alloc(),
-        &[(0, 50, 3), (1, 40, 2), (2, 99, 5)],
-        &[],
-        &[0, 0, 0],
-        (4, 2),
-    );
-    has_forced_tree(&rt, rt.alloc(), &credits, &free, 0, 1, b"+x!-*");
+    let equal = [(0, 50), (1, 50)];
+    let less = menu_of_two(&rt, alloc, equal, &[(0, 1, -200)], [0, 0], 2);
+    has_forced_tree(&rt, alloc, &less, &free, 0, 1, b"+!n!*");
+    let one_course = menu_of_two(&rt, alloc, equal, &[], [0, 0], 1);
+    has_forced_tree(&rt, alloc, &one_course, &free, 0, 1, b"+x!*");
+    let places = [rated(0, 0, 50, 3), rated(1, 1, 40, 2), rated(2, 2, 99, 5)];
+    let credits = menu_of(&rt, alloc, &places, &[], &[0; 3], (4, 2));
+    has_forced_tree(&rt, alloc, &credits, &free, 0, 1, b"+x!-*");
     let dear = [Tokens(101), Tokens(101)];
-    let price = menu_of(
-        &rt,
-        rt.alloc(),
-        &[(0, 60, 1), (1, 59, 1)],
-        &[],
-        &[0, 0],
-        (10, 2),
-    );
-    has_forced_tree(&rt, rt.alloc(), &price, &dear, 150, 1, b"+x!*");
-    let clash = menu_of(
-        &rt,
-        rt.alloc(),
-        &[(0, 20, 1), (3, 45, 1)],
-        &[],
-        &[2, 1],
-        (10, 2),
-    );
-    has_forced_tree(&rt, rt.alloc(), &clash, &free, 102, 0, b"!-*");
+    let price = menu_of_two(&rt, alloc, [(0, 60), (1, 59)], &[], [0, 0], 2);
+    has_forced_tree(&rt, alloc, &price, &dear, 150, 1, b"+x!*");
+    let clash = menu_of_two(&rt, alloc, [(0, 20), (3, 45)], &[], [2, 1], 2);
+    has_forced_tree(&rt, alloc, &clash, &free, 102, 0, b"!-*");
     Ok(())
 }

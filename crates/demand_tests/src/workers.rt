@@ -61,8 +61,8 @@ fn shared_rivals<R: Abort>(rt: &R, alloc: Global, count: u32) -> Result<Arc<Crow
     Ok(Arc::new(alloc, rivals(rt, alloc, count))?)
 }
 
-// Whether each of these vectors has prices that can be asked of the crowd.
-fn all_have_prices(crowd: &Crowd, batch: &[Vec<Tokens>]) -> bool
+/// Whether each of these vectors has prices that can be asked of the crowd.
+pub(crate) fn all_have_prices(crowd: &Crowd, batch: &[Vec<Tokens>]) -> bool
     ensures { IsTrue result → AreVersionsFor (data_of crowd.now) batch.now }
 {
     match batch {
@@ -71,7 +71,8 @@ fn all_have_prices(crowd: &Crowd, batch: &[Vec<Tokens>]) -> bool
     }
 }
 
-fn at(alloc: Global, price: u32) -> Result<Vec<Tokens>, NoMemory> {
+/// The vector of one price.
+pub(crate) fn at(alloc: Global, price: u32) -> Result<Vec<Tokens>, NoMemory> {
     Ok(vec![in alloc; Tokens(price); 1]?)
 }
 
@@ -123,8 +124,8 @@ fn each_worker_passes_the_gate(rt: HostRuntime) -> Result<(), Fail> {
     Ok(())
 }
 
-// The one count of one version.
-fn only<R: Abort>(rt: &R, found: &[Vec<u32>]) -> u32 {
+/// The one count of one version.
+pub(crate) fn only<R: Abort>(rt: &R, found: &[Vec<u32>]) -> u32 {
     assert_eq!(rt; found.len(), 1);
     assert_eq!(rt; found[0].len(), 1);
     found[0][0]
@@ -196,20 +197,33 @@ fn bundles_of_four_students(rt: HostRuntime) -> Result<(), Fail> {
     Ok(())
 }
 
-// Whether more than the limit of the four take the section where it is free, and how many bundles
-// one worker posted for the answer.
+/// Whether more than the limit of the four take the section where it is free, asked by so many
+/// workers.
+pub(crate) fn exceeds_by<R: Abort + Threads + Wait + Sync>(
+    rt: &R,
+    alloc: Global,
+    workers: u16,
+    limit: u32,
+    gate: &(dyn Gate + Sync),
+) -> Result<bool, Fail>
+    requires { (1 ≤ workers) × (workers ≤ MAX_WORKERS) }
+{
+    let crowd = shared_rivals(rt, alloc, 4)?;
+    let prices = [Tokens(0)];
+    assert!(rt; crowd.has_prices(&prices));
+    assert_eq!(rt; crowd.sections, 1);
+    let mut demands = PooledDemands::make(Pool::reserve(alloc, workers)?, crowd, gate);
+    Ok(demands.exceeds(rt, alloc, &prices, SectionNo(0), limit)?)
+}
+
+// The same of one worker, and how many bundles it posted for the answer.
 fn settle<R: Abort + Threads + Wait + Sync>(
     rt: &R,
     alloc: Global,
     limit: u32,
 ) -> Result<(bool, u64), Fail> {
-    let crowd = shared_rivals(rt, alloc, 4)?;
-    let prices = [Tokens(0)];
-    assert!(rt; crowd.has_prices(&prices));
-    assert_eq!(rt; crowd.sections, 1);
     let gate = CountingGate::new();
-    let mut demands = PooledDemands::make(Pool::reserve(alloc, 1)?, crowd, &gate);
-    let more = demands.exceeds(rt, alloc, &prices, SectionNo(0), limit)?;
+    let more = exceeds_by(rt, alloc, 1, limit, &gate)?;
     let (_, calls) = gate.take();
     Ok((more, calls))
 }

@@ -1,5 +1,5 @@
 // Desks at which ann and bob say lines in one session.
-use crate::readers::{catalog_in, roll_in};
+use crate::readers::tables_in;
 use market_units::StudentNo;
 use preference_desk::Desk;
 use std::alloc::Global;
@@ -69,8 +69,7 @@ fn catalogue(alloc: Global, sections: u16) -> Result<String, Fail> {
 
 // A desk for the sections of this catalogue.
 fn desk_of(rt: &impl Abort, alloc: Global, catalogue: &[u8]) -> Result<Desk, Fail> {
-    let catalog = catalog_in(rt, alloc, catalogue);
-    let roll = roll_in(rt, alloc, ROLL);
+    let (catalog, roll) = tables_in(rt, alloc, catalogue, ROLL);
     Ok(Desk::prepare(alloc, &catalog, &roll, 1_000)?)
 }
 

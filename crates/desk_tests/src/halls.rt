@@ -2,7 +2,7 @@
 ghost use Rattle.std.specs.Prelude.{◌≤◌, length, IfOk};
 ghost use Rattle.session_hall.specs.Streams.{command_count};
 
-use crate::readers::{catalog_in, roll_in};
+use crate::readers::tables_in;
 use gates::HoldingGate;
 use market_edge::{Gate, MeetingGate};
 use market_units::{MAX_COMMANDS, MAX_SESSIONS, NoMemory, SectionNo, StudentNo};
@@ -60,8 +60,7 @@ fn hold_streams<R: Abort + Threads + Wait + Sync, G: Gate + Sync>(
     requires sessions { (1 ≤ length streams.now) × (length streams.now ≤ MAX_SESSIONS) }
     requires commands { command_count streams.now ≤ MAX_COMMANDS }
 {
-    let catalog = catalog_in(rt, alloc, CATALOG);
-    let roll = roll_in(rt, alloc, ROLL);
+    let (catalog, roll) = tables_in(rt, alloc, CATALOG, ROLL);
     hold(rt, alloc, &catalog, &roll, streams, gate)
 }
 

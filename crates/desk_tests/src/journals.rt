@@ -4,58 +4,18 @@ ghost use Rattle.preference_desk.specs.DeskView.{entries_of, names_of};
 ghost use Rattle.utility_language.specs.Commands.{HasShortNumber};
 ghost use Rattle.preference_text.specs.Texts.{HasShortCommand};
 
-use crate::readers::{catalog_in, roll_in};
+use crate::readers::tables_in;
 use preference_desk::Desk;
 use preference_text::preferences_text;
 use std::alloc::Global;
 use std::process::Abort;
 use std::test::Fail;
 use utility_language::{Command, read_line};
-
-const CATALOG: &[u8] = b"section,course,seats,credits,meetings\nA,AA,1,1,\nB,BB,1,1,\nC,CC,1,1,\n";
+use worked_terms::{
+    STAYING_SESSION, THREE_SECTIONS_CATALOGUE, TWO_STUDENTS_SESSION, WorkedSession,
+};
 
 const ROLL: &[u8] = b"student,budget,credits,courses\nann,100,10,1\nbob,100,10,1\n";
-
-// Lines with their sessions, and the text after them: student by student, sections ascending, lower
-// sections first.
-const STUDENT_BY_STUDENT: [(u16, &[u8]); 7] = [
-    (1, b"pair bob C A 7"),
-    (1, b"rate bob C 1"),
-    (1, b"rate ann B 2"),
-    (1, b"pair ann B A -3"),
-    (1, b"rate ann A 4"),
-    (1, b"rate bob A 5"),
-    (1, b"pair ann C B 6"),
-];
-
-const STUDENT_BY_STUDENT_TEXT: &[u8] = b"entry 1 done pair bob C A 7
-entry 1 done rate bob C 1
-entry 1 done rate ann B 2
-entry 1 done pair ann B A -3
-entry 1 done rate ann A 4
-entry 1 done rate bob A 5
-entry 1 done pair ann C B 6
-rate ann A 4
-rate ann B 2
-pair ann A B -3
-pair ann B C 6
-rate bob A 5
-rate bob C 1
-pair bob A C 7
-";
-
-// An adjustment stays when a rating goes.
-const STAYING: [(u16, &[u8]); 3] = [
-    (1, b"rate ann A 4"),
-    (1, b"pair ann A B 9"),
-    (1, b"rate ann A 0"),
-];
-
-const STAYING_TEXT: &[u8] = b"entry 1 done rate ann A 4
-entry 1 done pair ann A B 9
-entry 1 done rate ann A 0
-pair ann A B 9
-";
 
 // Two sessions, and each reply but the one that there are too many.
 const REPLIES: [(u16, &[u8]); 8] = [
@@ -112,6 +72,29 @@ fn say_each(rt: &impl Abort, desk: &mut Desk, said: &[(u16, &[u8])])
     }
 }
 
+// Posts the command of each line of a session in its name.
+fn say_lines(rt: &impl Abort, desk: &mut Desk, said: &[u8])
+    requires { All HasShortCommand (entries_of desk.old) }
+    ensures names { names_of desk.new ≡ names_of desk.old }
+    ensures short { All HasShortCommand (entries_of desk.new) }
+{
+    for line in said.split(|byte| *byte == b'\n') {
+        if !line.is_empty() {
+            say(rt, desk, 1, line);
+        }
+    }
+}
+
+// What is told after this session.
+fn try_session(rt: &impl Abort, alloc: Global, session: &WorkedSession) -> Result<(), Fail> {
+    let (catalog, roll) = tables_in(rt, alloc, THREE_SECTIONS_CATALOGUE, ROLL);
+    let mut desk = Desk::prepare(alloc, &catalog, &roll, 20)?;
+    say_lines(rt, &mut desk, session.said);
+    let printed = preferences_text(alloc, &catalog, &roll, &desk)?;
+    assert_eq!(rt; printed.as_slice(), session.told.as_bytes());
+    Ok(())
+}
+
 // The text after these lines is this one.
 fn try_text(
     rt: &impl Abort,
@@ -119,8 +102,7 @@ fn try_text(
     said: &[(u16, &[u8])],
     text: &[u8],
 ) -> Result<(), Fail> {
-    let catalog = catalog_in(rt, alloc, CATALOG);
-    let roll = roll_in(rt, alloc, ROLL);
+    let (catalog, roll) = tables_in(rt, alloc, THREE_SECTIONS_CATALOGUE, ROLL);
     let mut desk = Desk::prepare(alloc, &catalog, &roll, 20)?;
     say_each(rt, &mut desk, said);
     let printed = preferences_text(alloc, &catalog, &roll, &desk)?;
@@ -130,17 +112,12 @@ fn try_text(
 
 #[test]
 fn preferences_student_by_student(rt: HostRuntime) -> Result<(), Fail> {
-    try_text(
-        &rt,
-        rt.alloc(),
-        &STUDENT_BY_STUDENT,
-        STUDENT_BY_STUDENT_TEXT,
-    )
+    try_session(&rt, rt.alloc(), &TWO_STUDENTS_SESSION)
 }
 
 #[test]
 fn adjustments_stay_when_a_rating_goes(rt: HostRuntime) -> Result<(), Fail> {
-    try_text(&rt, rt.alloc(), &STAYING, STAYING_TEXT)
+    try_session(&rt, rt.alloc(), &STAYING_SESSION)
 }
 
 #[test]

@@ -3,7 +3,7 @@ ghost use Rattle.std.specs.Prelude.{◌≡◌};
 ghost use Rattle.preference_desk.specs.DeskView.{names_of};
 ghost use Rattle.preference_desk.specs.MarketNames.{market_names};
 
-use crate::readers::{catalog_in, roll_in};
+use crate::readers::tables_in;
 use bundle_rules::{Menu, Rated};
 use course_catalog::Catalog;
 use market_menus::menus;
@@ -78,8 +78,7 @@ fn rated(section: u16, course: u16, rating: u8, credits: u16) -> Rated {
 
 // The menus after these lines.
 fn menus_after(rt: &impl Abort, alloc: Global, lines: &[&[u8]]) -> Result<Vec<Menu>, NoMemory> {
-    let catalog = catalog_in(rt, alloc, CATALOG);
-    let roll = roll_in(rt, alloc, ROLL);
+    let (catalog, roll) = tables_in(rt, alloc, CATALOG, ROLL);
     let mut desk = Desk::prepare(alloc, &catalog, &roll, 20)?;
     say_each(rt, &mut desk, lines);
     menus_of(alloc, &catalog, &roll, &desk)

@@ -12,6 +12,7 @@ use std::test::Fail;
 use std::{fs, io, process};
 
 mod files;
+mod meetings;
 
 // More than one read puts.
 const LONG: u16 = 8193;

@@ -1,28 +1,30 @@
 -- The student of a number, as the crowd and the publication have it.
-use Rattle.std.proofs.Common.{ℕ, ◌≡◌, ◌<◌, ◌≤◌, List, length, map, get_or, ap, sym, subst, arith, ◌∙◌}
+use Rattle.std.proofs.Common.{ℕ, ◌≡◌, ◌<◌, List, length, map, get_or, sym, subst, arith}
 use Rattle.std.specs.Prelude.{All, nat_lt, slice_index}
-use Rattle.std.proofs.lemmas.List.{length-map}
 use Rattle.market_units.specs.declared.units.Tokens.{Tokens}
 use Rattle.bundle_rules.specs.declared.menu.Rated.{Rated}
 use Rattle.bundle_rules.specs.Bundles.{sections_of}
-use Rattle.bundle_rules.specs.Demand.{HasPrices, IsBest, IsPriced, price_in}
+use Rattle.bundle_rules.specs.Demand.{HasPrices, IsBest, price_in}
 use Rattle.bundle_rules.specs.Menus.{MenuData, wishes_of}
 use Rattle.bundle_bounds.specs.Offers.{OfferData}
 use Rattle.course_catalog.specs.Catalog.{CatalogData}
 use Rattle.course_catalog.specs.Sections.{Section, section_names}
 use Rattle.student_roll.specs.Students.{RollData, Student as Enrolled, names_of}
 use Rattle.demand_api.specs.declared.crowd.Crowd.{Crowd}
-use Rattle.demand_api.specs.Crowds.{CrowdData, IsWithin, Student}
+use Rattle.demand_api.specs.Crowds.{CrowdData, IsWithin}
 use Rattle.demand_api.specs.Views.{data_of}
 use Rattle.demand_api.proofs.Parts.{menus_within, students_length}
 use Rattle.market_certificate.specs.declared.publication.Proved as declared_proved
 use Rattle.market_certificate.specs.declared.publication.Publication as declared
-use Rattle.market_certificate.specs.Publications.{IsPublication, Proved}
+use Rattle.market_certificate.specs.Publications.{Proved}
 use Rattle.market_certificate.specs.Views.{proved_of, publication_of}
+use Rattle.published_parts.specs.declared.market.Market as declared_market
+use Rattle.published_parts.specs.Views.{market_in}
 use Rattle.published_parts.specs.Markets.{Market}
 use Rattle.utility_language.specs.declared.commands.Command.{Command}
 use Rattle.certificate_checker.specs.Certificates.{HoldsBy, IsAccepted, IsTextOf}
-use Rattle.certificate_checker.specs.Students.{offer_in, proved_in, student_in}
+use Rattle.certificate_checker.specs.Students.{offer_in, proved_in}
+use Rattle.published_parts.specs.Offers.{student_in}
 use Rattle.certificate_checker.proofs.Composing.{crowd_length}
 use Rattle.certificate_checker.proofs.Optimal.{best_in_stage_two}
 use Rattle.certificate_checker.proofs.Reading.{length_map, proved_is, student_is}
@@ -42,6 +44,12 @@ checked market streams text p crowd is holds =
       sections = holds.is_crowd.is_crowd.sections;
       best = λ k low. best_in_stage_two market streams text accepted k low;
     }
+
+-- the same of what the code has
+pub checked_by : (market : declared_market.Market) (streams : List (List Command)) (text : List ℕ) (publication : declared.Publication) (crowd : Crowd)
+    → IsTextOf (market_in market) (publication_of publication) text → HoldsBy (market_in market) streams (publication_of publication) (data_of crowd)
+    → IsChecked market.catalog.now market.roll.now (publication_of publication) (data_of crowd)
+checked_by market streams text publication crowd is holds = checked (market_in market) streams text (publication_of publication) (data_of crowd) is holds
 
 -- what stands at the place of a student
 pub record StandsAt (crowd : Crowd) (k : ℕ) (publication : declared.Publication) (m : MenuData) (b : Tokens)

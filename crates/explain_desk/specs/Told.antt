@@ -1,7 +1,8 @@
 -- Why a student of an accepted text does not have a section.
 use Rattle.std.specs.Prelude.{ℕ, ◌≡◌, List}
 use Rattle.certificate_checker.specs.Certificates.{HoldsBy, IsTextOf}
-use Rattle.certificate_checker.specs.Students.{offer_in, proved_in, student_in}
+use Rattle.certificate_checker.specs.Students.{offer_in, proved_in}
+use Rattle.published_parts.specs.Offers.{student_in}
 use Rattle.course_catalog.specs.Catalog.{CatalogData}
 use Rattle.demand_api.specs.Crowds.{CrowdData}
 use Rattle.explain_desk.specs.Explanations.{ExplainedData, IsExplained}

@@ -5,8 +5,9 @@ ghost use Rattle.bundle_rules.specs.Demand.{HasPrices, IsBest, price_in};
 ghost use Rattle.bundle_rules.specs.Given.{SomeHas};
 ghost use Rattle.bundle_rules.specs.Menus.{wishes_of};
 ghost use Rattle.explain_desk.specs.Explanations.{IsExplained, IsProvedWith, offer_of_all};
-ghost use Rattle.explain_desk.specs.Views.{explained_of, proved_of};
+ghost use Rattle.explain_desk.specs.Views.{explained_of, offer_in, proved_of};
 
+use crate::offered::Offered;
 use crate::reasons::{reason_of, tells_best};
 use crate::{Explained, Proved};
 use bundle_rules::{Bundle, Menu};
@@ -39,35 +40,38 @@ pub fn explain(
         (λ explained. IsExplained (offer_of_all menu.now prices.now budget.0 sections)
         (sections_of bundle.now) section.0 (explained_of explained)) }
 {
-    let reason = reason_of(menu, prices, budget, bundle, section);
+    let offered = Offered {
+        menu,
+        prices,
+        budget,
+        sections,
+    };
+    let reason = reason_of(&offered, bundle, section);
     if !tells_best(reason) {
         return Ok(Explained { reason, best: None });
     }
-    let best = best_with(alloc, menu, prices, budget, sections, section)?;
+    let best = best_with(alloc, &offered, section)?;
     Ok(Explained { reason, best })
 }
 
 // The best bundle with the section, with its forced tree, where some bundle has the section.
 fn best_with(
     alloc: Global,
-    menu: &Menu,
-    prices: &[Tokens],
-    budget: Tokens,
-    sections: u16,
+    offered: &Offered,
     section: SectionNo,
 ) -> Result<Option<Proved>, NoMemory>
-    requires prices { HasPrices menu.now prices.now }
-    requires sections { sections ≤ MAX_SECTIONS }
     ensures some { IfOk result
         (λ best. IfSome best
-        (λ proved. IsProvedWith (offer_of_all menu.now prices.now budget.0 sections) section.0
-        (proved_of proved))) }
+        (λ proved. IsProvedWith (offer_in offered.now) section.0 (proved_of proved))) }
     ensures none { IfOk result
         (λ best. IfNone best
-        (¬ SomeHas (wishes_of menu.now) (price_in prices.now) budget.0 (λ s. nat_lt s sections)
-        section.0)) }
+        (¬ SomeHas (wishes_of offered.now.menu.now) (price_in offered.now.prices.now)
+        offered.now.budget.0 (λ s. nat_lt s offered.now.sections) section.0)) }
 {
-    let all = SectionSet::full(sections);
+    let menu = offered.menu;
+    let prices = offered.prices;
+    let budget = offered.budget;
+    let all = SectionSet::full(offered.sections);
     let mut workspace = Workspace::reserve(alloc)?;
     match demand_with(&mut workspace, menu, prices, budget, &all, section) {
         Some(bundle) => {

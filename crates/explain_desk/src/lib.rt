@@ -17,6 +17,7 @@ mod explanation;
 pub mod laws;
 mod limits;
 mod lines;
+mod offered;
 mod published;
 mod reasons;
 mod text;

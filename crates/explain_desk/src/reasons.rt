@@ -1,7 +1,7 @@
 // Why a student does not have a section.
 ghost use Rattle.std.specs.Prelude.{◌≡◌};
 ghost use Rattle.bundle_rules.specs.Bundles.{sections_of};
-ghost use Rattle.bundle_rules.specs.Demand.{HasPrices, price_in};
+ghost use Rattle.bundle_rules.specs.Demand.{price_in};
 ghost use Rattle.bundle_rules.specs.Menus.{wishes_of};
 ghost use Rattle.bundle_rules.specs.Wishes.{IsFeasible};
 ghost use Rattle.explain_desk.specs.Reasons.{IsReason, tells_best};
@@ -9,8 +9,9 @@ ghost use Rattle.explain_desk.specs.Reasons.{IsReason, tells_best};
 use crate::Limit;
 use crate::clashes::first_clash;
 use crate::limits::first_passed;
-use bundle_rules::{Bundle, Menu};
-use market_units::{SectionNo, Tokens};
+use crate::offered::Offered;
+use bundle_rules::Bundle;
+use market_units::SectionNo;
 
 /// Why a student does not have a section: the first that applies, in this order.
 #[derive(Clone, Copy, Debug, PartialEq, Eq)]
@@ -29,33 +30,27 @@ pub enum Reason {
     Less,
 }
 
-/// Why the student does not have the section beside this bundle, within this budget at these
-/// prices: the first reason that applies.
-pub(crate) fn reason_of(
-    menu: &Menu,
-    prices: &[Tokens],
-    budget: Tokens,
-    bundle: &Bundle,
-    section: SectionNo,
-) -> Reason
-    requires prices { HasPrices menu.now prices.now }
-    requires bundle { IsFeasible (wishes_of menu.now) (sections_of bundle.now) }
-    ensures { IsReason (wishes_of menu.now) (price_in prices.now) budget.0 (sections_of bundle.now)
-        section.0 result }
+/// Why the student does not have the section of what is offered beside this bundle: the first
+/// reason that applies.
+pub(crate) fn reason_of(offered: &Offered, bundle: &Bundle, section: SectionNo) -> Reason
+    requires { IsFeasible (wishes_of offered.now.menu.now) (sections_of bundle.now) }
+    ensures { IsReason (wishes_of offered.now.menu.now) (price_in offered.now.prices.now)
+        offered.now.budget.0 (sections_of bundle.now) section.0 result }
 {
+    let menu = offered.menu;
     if bundle.has(section) {
         return Reason::Held;
     }
     if menu.place(section) >= menu.len() {
         return Reason::Unrated;
     }
-    if let Some(limit) = first_passed(menu, prices, budget, section, &Bundle::empty()) {
+    if let Some(limit) = first_passed(offered, section, &Bundle::empty()) {
         return Reason::Alone(limit);
     }
     if let Some(other) = first_clash(menu, bundle.sections(), section) {
         return Reason::Clash(other);
     }
-    match first_passed(menu, prices, budget, section, bundle) {
+    match first_passed(offered, section, bundle) {
         Some(limit) => Reason::Beside(limit),
         None => Reason::Less,
     }

@@ -13,7 +13,8 @@ use Rattle.published_parts.specs.Holdings.{demanded, held_after}
 use Rattle.published_parts.specs.Markets.{Market}
 use Rattle.utility_language.specs.declared.commands.Command.{Command}
 use Rattle.certificate_checker.specs.Certificates.{HoldsBy, IsAccepted, IsTextOf}
-use Rattle.certificate_checker.specs.Students.{proved_in, student_in}
+use Rattle.certificate_checker.specs.Students.{proved_in}
+use Rattle.published_parts.specs.Offers.{student_in}
 use Rattle.certificate_checker.specs.Turns.{held_before, turn_in}
 use Rattle.certificate_checker.proofs.Optimal.{allocated, count, printed, students}
 use Rattle.certificate_checker.proofs.Reading.{length_map}

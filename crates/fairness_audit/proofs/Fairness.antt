@@ -16,11 +16,10 @@ use Rattle.fairness_audit.proofs.Prices.{none_counted_lower}
 use Rattle.market_certificate.specs.Publications.{Publication}
 use Rattle.published_parts.specs.Journals.{wishes_in}
 use Rattle.published_parts.specs.Markets.{Market}
-use Rattle.published_parts.specs.Offers.{all_sections}
+use Rattle.published_parts.specs.Offers.{all_sections, student_in}
 use Rattle.utility_language.specs.declared.commands.Command.{Command}
 use Rattle.certificate_checker.specs.Certificates.{IsAccepted}
 use Rattle.certificate_checker.specs.Laws.{IsOptimal}
-use Rattle.certificate_checker.specs.Students.{student_in}
 use Rattle.certificate_checker.proofs.Optimal.{accepted_is_optimal, best_in_stage_two}
 use Rattle.fairness_audit.specs.Audits.{settled_in}
 use Rattle.fairness_audit.specs.Laws.{NoLowerCountInAccepted, NoLowerEnvyInAccepted, settled_of}

@@ -8,6 +8,7 @@ use Rattle.bundle_rules.specs.declared.bundle.Bundle.{Bundle}
 use Rattle.demand_api.specs.Crowds.{CrowdData, Student}
 use Rattle.demand_api.specs.declared.crowd.Crowd.{Crowd}
 use Rattle.demand_api.specs.Views.{data_of}
+use Rattle.published_parts.specs.Offers.{student_in}
 
 -- a crowd, and the bundle of each student in file order
 pub record Allocation : Type 0 where
@@ -17,12 +18,7 @@ pub record Allocation : Type 0 where
 -- the student of a number; a number that no student has stands for one that wants nothing and has a
 -- budget of 0
 abbrev pub student_at : Allocation → ℕ → Student
-student_at a i =
-    slice_index_or a.crowd.students i
-    (record {
-      menu = record { places = []; pairs = []; clashes = []; credits = 0; courses = 0 };
-      budget = 0;
-    })
+student_at a i = student_in a.crowd i
 
 -- its menu, its unraised budget, its bundle
 abbrev pub menu_at : Allocation → ℕ → MenuData

@@ -6,30 +6,26 @@ ghost use Rattle.fairness_audit.specs.Allocations.{IsAllocation, allocation_of};
 ghost use Rattle.fairness_audit.specs.Rows.{rows};
 ghost use Rattle.fairness_audit.specs.Texts.{AreRowsAmong};
 ghost use Rattle.fairness_audit.specs.Views.{row_of};
-ghost use Rattle.market_certificate.specs.Tables.{tables_of};
 ghost use Rattle.market_certificate.specs.Views.{publication_of};
 ghost use Rattle.published_parts.specs.Holdings.{demanded};
-ghost use Rattle.published_parts.specs.Markets.{market_of};
-ghost use Rattle.certificate_checker.specs.Certificates.{IsAccepted};
-ghost use Rattle.certificate_checker.specs.Findings.{IsFirstFinding, OnFound};
+ghost use Rattle.published_parts.specs.Views.{market_in};
+ghost use Rattle.certificate_checker.specs.Findings.{OnFound};
+ghost use Rattle.certificate_checker.specs.Refusals.{IsRefused};
 ghost use Rattle.demand_api.specs.Views.{data_of};
-ghost use Rattle.certificate_checker.specs.Words.{IsNamedIn};
 ghost use Rattle.fairness_audit.specs.Audits.{IsAuditOf, IsAudited};
 ghost use Rattle.fairness_audit.specs.Checked.{IsChecked};
 
 use crate::{EnvyRow, audit, put_rows};
 use bundle_rules::Bundle;
 use certificate_checker::{Accepted, CheckEnd, accept};
-use course_catalog::Catalog;
 use demand_api::Crowd;
 use market_certificate::Publication;
 use market_edge::Gate;
-use market_settings::Settings;
-use market_units::{MAX_RAISE, MAX_SPREAD, MAX_WORKERS, NoMemory};
+use market_units::{MAX_WORKERS, NoMemory};
+use published_parts::Market;
 use std::alloc::Global;
 use std::sync::{Arc, Wait};
 use std::thread::Threads;
-use student_roll::Roll;
 use utility_language::Command;
 
 /// The text of an audit of what a text publishes that is accepted for this market and these
@@ -43,32 +39,23 @@ pub fn published_audit<R: Threads + Wait + Sync, G: Gate + Sync>(
     rt: &R,
     alloc: Global,
     workers: u16,
-    catalog: &Catalog,
-    roll: &Roll,
-    settings: &Settings,
+    market: &Market,
     streams: &[Vec<Command>],
     text: Vec<u8>,
     gate: &G,
 ) -> Result<Vec<u8>, CheckEnd>
     requires workers { (1 ≤ workers) × (workers ≤ MAX_WORKERS) }
     requires text { length text.items < 2 ^ 32 - 1 }
-    requires spread { settings.now.spread ≤ MAX_SPREAD }
-    requires raise { settings.now.raise ≤ MAX_RAISE }
     ensures audited { IfOk result
-        (λ audited. IsAuditOf (market_of catalog.now roll.now settings.now)
-        (map (λ stream. stream.items) streams.now) text.items audited.items) }
-    ensures first { IfErr result
-        (λ end. OnFound end
-        (IsFirstFinding (market_of catalog.now roll.now settings.now)
-        (map (λ stream. stream.items) streams.now) text.items)) }
+        (λ audited. IsAuditOf (market_in market.now) (map (λ stream. stream.items) streams.now)
+        text.items audited.items) }
     ensures refused { IfErr result
         (λ end. OnFound end
-        (λ _. ¬ IsAccepted (market_of catalog.now roll.now settings.now)
-        (map (λ stream. stream.items) streams.now) text.items)) }
-    ensures named { IfErr result (λ end. OnFound end (IsNamedIn (tables_of catalog.now roll.now))) }
+        (IsRefused (market_in market.now) (map (λ stream. stream.items) streams.now)
+        text.items)) }
 {
-    let accepted = accept(alloc, catalog, roll, settings, streams, text)?;
-    match audit_accepted(rt, alloc, workers, catalog, roll, accepted, gate) {
+    let accepted = accept(alloc, market, streams, text)?;
+    match audit_accepted(rt, alloc, workers, market, accepted, gate) {
         Ok(audited) => Ok(audited),
         Err(NoMemory) => Err(CheckEnd::NoMemory),
     }
@@ -79,24 +66,23 @@ fn audit_accepted<R: Threads + Wait + Sync, G: Gate + Sync>(
     rt: &R,
     alloc: Global,
     workers: u16,
-    catalog: &Catalog,
-    roll: &Roll,
+    market: &Market,
     accepted: Accepted,
     gate: &G,
 ) -> Result<Vec<u8>, NoMemory>
     requires workers { (1 ≤ workers) × (workers ≤ MAX_WORKERS) }
-    requires checked { IsChecked catalog.now roll.now (publication_of accepted.publication)
-        (data_of accepted.crowd) }
+    requires checked { IsChecked market.now.catalog.now market.now.roll.now
+        (publication_of accepted.publication) (data_of accepted.crowd) }
     ensures { IfOk result
-        (λ audited. IsAudited catalog.now roll.now (data_of accepted.crowd)
-        (publication_of accepted.publication) audited.items) }
+        (λ audited. IsAudited market.now.catalog.now market.now.roll.now
+        (data_of accepted.crowd) (publication_of accepted.publication) audited.items) }
 {
     let Accepted { publication, crowd } = accepted;
     let settled = settled_bundles(alloc, &publication)?;
     let crowd = Arc::new(alloc, crowd)?;
     let first = rows_with(rt, alloc, workers, &crowd, settled, gate)?;
     let last = rows_with(rt, alloc, workers, &crowd, publication.allocation, gate)?;
-    put_rows(alloc, catalog, roll, &first, &last)
+    put_rows(alloc, market.catalog, market.roll, &first, &last)
 }
 
 // Each student's bundle of the second stage.

@@ -7,8 +7,10 @@
 
 pub mod laws;
 mod market;
+mod numbers;
 mod reading;
 mod summary;
 
 pub use market::{MadeMarket, make_market};
+pub use numbers::Numbers;
 pub use summary::made_summary;

@@ -7,7 +7,8 @@ use Rattle.market_units.specs.Members.{has}
 use Rattle.certificate_checker.specs.declared.findings.Finding.{Finding}
 use Rattle.certificate_checker.specs.Certificates.{HoldsBy, IsAccepted, IsTextOf}
 use Rattle.certificate_checker.specs.Findings.{IsFirstFinding}
-use Rattle.certificate_checker.specs.Students.{offer_in, proved_in, student_in}
+use Rattle.certificate_checker.specs.Students.{offer_in, proved_in}
+use Rattle.published_parts.specs.Offers.{student_in}
 use Rattle.certificate_checker.specs.Words.{finding_line}
 use Rattle.demand_api.specs.Crowds.{CrowdData}
 use Rattle.explain_desk.specs.Explanations.{ExplainedData, IsExplained}

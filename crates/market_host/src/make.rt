@@ -41,13 +41,13 @@ pub fn make<R: Threads + Wait + Sync>(
         (λ ended. Ends (Form.Make workers numbers.seed numbers.students numbers.sections
         numbers.accept) [] ended.status (bytes_of ended.output)) }
 {
-    let Numbers {
-        seed,
-        students,
-        sections,
-        accept,
-    } = numbers;
-    match made_summary(rt, alloc, workers, seed, students, sections, accept, gate) {
+    let numbers = made_run::Numbers {
+        seed: numbers.seed,
+        students: numbers.students,
+        sections: numbers.sections,
+        accept: numbers.accept,
+    };
+    match made_summary(rt, alloc, workers, numbers, gate) {
         Ok(text) => Ok(Ended {
             status: Status::Done,
             output: Output::Text(text),

@@ -21,6 +21,7 @@ mod explain;
 mod gates;
 mod hall;
 mod limits;
+mod made_gates;
 mod make;
 mod order;
 mod prefer;

@@ -1,3 +1,4 @@
 pub mod Held
 pub mod Summaries
 pub mod Sums
+pub mod Views

@@ -3,26 +3,24 @@ ghost use Rattle.std.specs.Prelude.{◌≡◌, ◌≤◌, ◌++◌, ℕ, List, [
 ghost use Rattle.std.proofs.Common.{Global};
 ghost use Rattle.market_certificate.specs.Texts.{order_line};
 ghost use Rattle.market_run.specs.Held.{IsSummaryText};
-ghost use Rattle.market_settings.specs.Settings.{AreInRange};
 ghost use Rattle.preference_desk.specs.DeskView.{entries_of};
 ghost use Rattle.published_market.specs.Publishing.{IsPublishedText, IsUnpriced};
 ghost use Rattle.preference_desk.specs.Journals.{sessions_of};
-ghost use Rattle.published_parts.specs.Markets.{market_of};
+ghost use Rattle.published_parts.specs.Views.{market_in};
 ghost use Rattle.session_hall.specs.Streams.{command_count, command_lists};
 
+use crate::market_desk::MarketDesk;
 use crate::texts::{made_summary, published_text};
-use course_catalog::Catalog;
 use demand_text::put_order;
 use market_edge::{Gate, Passed};
-use market_settings::Settings;
 use market_units::{MAX_COMMANDS, MAX_SESSIONS, MAX_WORKERS, NoMemory};
 use preference_desk::Desk;
 use published_market::PublishEnd;
+use published_parts::Market;
 use session_hall::hold;
 use std::alloc::Global;
 use std::sync::Wait;
 use std::thread::Threads;
-use student_roll::Roll;
 use utility_language::Command;
 
 /// Why a market that was held has no text.
@@ -68,35 +66,29 @@ pub fn held_text<R: Threads + Wait + Sync>(
     rt: &R,
     alloc: Global,
     workers: u16,
-    catalog: &Catalog,
-    roll: &Roll,
-    settings: &Settings,
+    market: &Market,
     streams: &[Vec<Command>],
     gate: &(dyn Gate + Sync),
 ) -> Result<Vec<u8>, HeldEnd>
     requires workers { (1 ≤ workers) × (workers ≤ MAX_WORKERS) }
-    requires settings { AreInRange settings.now }
     requires sessions { (1 ≤ length streams.now) × (length streams.now ≤ MAX_SESSIONS) }
     requires commands { command_count streams.now ≤ MAX_COMMANDS }
     ensures text { IfOk result
         (λ text. (order : List ℕ)
-        × IsPublishedText (market_of catalog.now roll.now settings.now)
-        (command_lists streams.now) order text.items) }
-    ensures no_prices { (line : Vec ℕ Global) → (least : ℕ) → result ≡ Err (HeldEnd.NoPrices line least)
-        → (order : List ℕ) × IsUnpriced (market_of catalog.now roll.now settings.now) (command_lists streams.now) order least × (line.items ≡ order_line order ++ 10 ∷ []) }
+        × IsPublishedText (market_in market.now) (command_lists streams.now) order text.items) }
+    ensures no_prices { (line : Vec ℕ Global) → (least : ℕ)
+        → result ≡ Err (HeldEnd.NoPrices line least)
+        → (order : List ℕ)
+        × IsUnpriced (market_in market.now) (command_lists streams.now) order least
+        × (line.items ≡ order_line order ++ 10 ∷ []) }
 {
     let passed = Passed { gate };
-    let closed = hold(rt, alloc, catalog, roll, streams, &passed)?;
-    match published_text(
-        rt,
-        alloc,
-        workers,
-        catalog,
-        roll,
-        settings,
-        &closed.desk,
-        gate,
-    ) {
+    let closed = hold(rt, alloc, market.catalog, market.roll, streams, &passed)?;
+    let heard = MarketDesk {
+        market: *market,
+        desk: &closed.desk,
+    };
+    match published_text(rt, alloc, workers, &heard, gate) {
         Ok(text) => Ok(text),
         Err(PublishEnd::NoPrices { least }) => {
             let order = order_text(alloc, &closed.desk)?;
@@ -112,33 +104,25 @@ pub fn held_summary<R: Threads + Wait + Sync>(
     rt: &R,
     alloc: Global,
     workers: u16,
-    catalog: &Catalog,
-    roll: &Roll,
-    settings: &Settings,
+    market: &Market,
     streams: &[Vec<Command>],
     gate: &(dyn Gate + Sync),
 ) -> Result<Vec<u8>, PublishEnd>
     requires workers { (1 ≤ workers) × (workers ≤ MAX_WORKERS) }
-    requires settings { AreInRange settings.now }
     requires sessions { (1 ≤ length streams.now) × (length streams.now ≤ MAX_SESSIONS) }
     requires commands { command_count streams.now ≤ MAX_COMMANDS }
     ensures text { IfOk result
         (λ text. (order : List ℕ)
-        × IsSummaryText (market_of catalog.now roll.now settings.now)
-        (command_lists streams.now) order text.items) }
+        × IsSummaryText (market_in market.now) (command_lists streams.now) order text.items) }
     ensures no_prices { (least : ℕ) → result ≡ Err (PublishEnd.NoPrices least)
-        → (order : List ℕ) × IsUnpriced (market_of catalog.now roll.now settings.now) (command_lists streams.now) order least }
+        → (order : List ℕ)
+        × IsUnpriced (market_in market.now) (command_lists streams.now) order least }
 {
     let passed = Passed { gate };
-    let closed = hold(rt, alloc, catalog, roll, streams, &passed)?;
-    made_summary(
-        rt,
-        alloc,
-        workers,
-        catalog,
-        roll,
-        settings,
-        &closed.desk,
-        gate,
-    )
+    let closed = hold(rt, alloc, market.catalog, market.roll, streams, &passed)?;
+    let heard = MarketDesk {
+        market: *market,
+        desk: &closed.desk,
+    };
+    made_summary(rt, alloc, workers, &heard, gate)
 }

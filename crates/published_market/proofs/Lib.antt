@@ -13,6 +13,7 @@ pub mod Telling
 pub mod Limited
 pub mod Existing
 pub mod Merged
+pub mod Bests
 pub mod Rooming
 pub mod ByPass
 pub mod Publishable

@@ -1,86 +1,119 @@
 -- What rooms hold, and what is shown of the trees that are copied out of them.
-use Rattle.std.proofs.Common.{ℕ, ◌≡◌, ◌<◌, ◌+◌, ◌∙◌, List, [], ◌∷◌, ◌++◌, map, length, get_or, take, ap, sym, subst, length-append}
-use Rattle.std.specs.FinSet as set
-use Rattle.std.specs.Ordering.{nat_cmp}
+use Rattle.std.proofs.Common.{ℕ, ◌≡◌, ◌<◌, ◌+◌, ◌∙◌, false, List, [], ◌∷◌, ◌++◌, map, length, get_or, take, ap, sym, subst, length-append, arith}
 use Rattle.std.specs.List.{AllZip}
-use Rattle.std.proofs.lemmas.List.{get_or-map, get_or_default}
+use Rattle.std.proofs.lemmas.List.{get_or-map, length-map}
+use Rattle.std.proofs.lemmas.Option.{slice_get-get_or}
 use Rattle.market_units.specs.declared.units.Tokens.{Tokens}
-use Rattle.bundle_rules.specs.declared.bundle.Bundle.{Bundle}
 use Rattle.bundle_rules.specs.Bundles.{sections_of}
 use Rattle.bundle_rules.specs.Demand.{price_in}
 use Rattle.bundle_rules.specs.Menus.{MenuData}
-use Rattle.bundle_bounds.specs.Offers.{offer_of}
+use Rattle.bundle_bounds.specs.Offers.{OfferData}
 use Rattle.budget_draw.specs.Budgets.{raised_by}
 use Rattle.demand_api.specs.declared.crowd.Crowd.{Crowd}
+use Rattle.demand_api.specs.Crowds.{Student}
 use Rattle.demand_api.specs.Views.{data_of}
+use Rattle.demand_api.proofs.Parts.{students_length}
 use Rattle.aftermarket_stage.specs.declared.turns.Turn.{Turn}
 use Rattle.aftermarket_stage.specs.After.{turn_of, turns_of}
 use Rattle.aftermarket_stage.specs.Turns.{TurnData}
 use Rattle.market_certificate.specs.declared.publication.Proved as proved
 use Rattle.market_certificate.specs.declared.publication.ProvedTurn as turn
-use Rattle.market_certificate.specs.Publications.{Proved}
+use Rattle.market_certificate.specs.Publications.{Proved, ProvedTurn}
 use Rattle.market_certificate.specs.Views.{proved_of, turn_of as published_of}
-use Rattle.published_parts.specs.Offers.{IsProvedDemand}
+use Rattle.published_parts.specs.Offers.{IsProvedBest, IsProvedDemand, offer_to}
 use Rattle.published_parts.proofs.Asked.{nobody}
+use Rattle.published_market.specs.declared.chosen.Chosen.{Chosen}
 use Rattle.published_market.specs.declared.rooms.Room.{Room}
-use Rattle.published_market.specs.Making.{AreProved, AreProvedTurns, HasForm, HasTurnForm}
-use Rattle.published_market.specs.Rooms.{AreRoomsOfStudents, IsRoomOf, IsRoomOfStudent, IsRoomOfTurn, IsRoomOfTurnAt}
-use Rattle.published_market.specs.Turns.{IsPublishedTurn}
-use Rattle.published_market.proofs.Showing.{all_more, zip_more}
+use Rattle.published_market.specs.declared.taken.Taken.{Taken}
+use Rattle.published_market.specs.Asked.{offer_chosen, turn_chosen}
+use Rattle.published_market.specs.Making.{AreProved, AreProvedTurns, HasForm, HasTurnForm, IsBestTurn}
+use Rattle.published_market.specs.Rooms.{IsRoomOf}
+use Rattle.published_market.specs.Turns.{IsPublishedTurn, offer_at, offer_for}
+use Rattle.published_market.proofs.Showing.{all_more, asked, asked_at, taken_count, zip_more}
 
--- two items that are read at one place are the same
-same_item : {A : Type 0} (xs : List A) (i : ℕ) (x y : A) → i < length xs → x ≡ get_or xs i x → y ≡ get_or xs i y → x ≡ y
-same_item xs i x y low is too = is ∙ get_or_default xs i x y low ∙ sym too
+-- a room of the same bundle in the same offer
+pub room_for : {offer other : OfferData} {bundle same : List ℕ} (room : Room) → offer ≡ other → bundle ≡ same → IsRoomOf offer bundle room
+    → IsRoomOf other same room
+room_for {offer} {other} {bundle} {same} room is too holds =
+    subst (λ (o : OfferData). IsRoomOf o same room) is (subst (λ (b : List ℕ). IsRoomOf offer b room) too holds)
 
--- a room that was filled for the menu, the budget and the bundle at a place
-pub room_of_student : (crowd : Crowd) (prices : List Tokens) (allowed : set.FinSet nat_cmp) (bundles : List Bundle) (place : ℕ) (menu : MenuData)
-    (budget : Tokens) (bundle : Bundle) (room : Room)
-    → place < length crowd.menus.items → place < length crowd.budgets.items → place < length bundles
-    → menu ≡ get_or crowd.menus.items place menu → budget ≡ get_or crowd.budgets.items place budget → bundle ≡ get_or bundles place bundle
-    → IsRoomOf (offer_of menu prices budget.0 allowed) (sections_of bundle) room → IsRoomOfStudent crowd prices allowed bundles place room
-room_of_student crowd prices allowed bundles place menu budget bundle room listed paid low menu_is budget_is bundle_is holds = λ m b u m_is b_is u_is.
-    subst (λ (other : MenuData). IsRoomOf (offer_of other prices b.0 allowed) (sections_of u) room)
-    (same_item crowd.menus.items place menu m listed menu_is m_is)
-    (subst (λ (other : Tokens). IsRoomOf (offer_of menu prices other.0 allowed) (sections_of u) room) (same_item crowd.budgets.items place budget b paid budget_is b_is)
-    (subst (λ (other : Bundle). IsRoomOf (offer_of menu prices budget.0 allowed) (sections_of other) room) (same_item bundles place bundle u low bundle_is u_is) holds))
+-- what the room at a place holds
+pub room_at : (IsRoom : ℕ → Room → Type 0) (first k place : ℕ) (rooms : List Room) (room : Room)
+    → ((n : ℕ) (d : Room) → n < length rooms → IsRoom (first + n) (get_or rooms n d)) → k < length rooms → room ≡ get_or rooms k room → place ≡ first + k
+    → IsRoom place room
+room_at IsRoom first k place rooms room are low room_is at =
+    subst (IsRoom place) (sym room_is) (subst (λ n. IsRoom n (get_or rooms k room)) (sym at) (are k room low))
 
--- what the room at a place holds, by the menu, the budget and the bundle there
-pub room_at : (crowd : Crowd) (prices : List Tokens) (allowed : set.FinSet nat_cmp) (bundles : List Bundle) (first k place : ℕ) (rooms : List Room)
-    (room : Room) (menu : MenuData) (budget : Tokens) (bundle : Bundle)
-    → AreRoomsOfStudents crowd prices allowed bundles first rooms → k < length rooms → room ≡ get_or rooms k room → place ≡ first + k
-    → menu ≡ get_or crowd.menus.items place menu → budget ≡ get_or crowd.budgets.items place budget → bundle ≡ get_or bundles place bundle
-    → IsRoomOf (offer_of menu prices budget.0 allowed) (sections_of bundle) room
-room_at crowd prices allowed bundles first k place rooms room menu budget bundle are low room_is at menu_is budget_is bundle_is =
-    subst (IsRoomOf (offer_of menu prices budget.0 allowed) (sections_of bundle)) (sym room_is)
-    (are k room low menu budget bundle (subst (λ n. menu ≡ get_or crowd.menus.items n menu) at menu_is) (subst (λ n. budget ≡ get_or crowd.budgets.items n budget) at budget_is)
-    (subst (λ n. bundle ≡ get_or bundles n bundle) at bundle_is))
+-- a student that takes something has a menu
+pub taken_inside : (taken : Taken) (place : ℕ) → place < length taken.bundles.now → place < length taken.crowd.now.menus.items
+taken_inside taken place low =
+    let count : length taken.bundles.now ≡ length taken.crowd.now.menus.items = taken_count taken.crowd.now taken.prices.now taken.bundles.now taken.taken in
+    omega arith
 
--- a room that was filled for the menu and the budget of the student of the turn at a place
-pub room_of_turn : (crowd : Crowd) (prices : List Tokens) (raise : ℕ) (turns : List Turn) (place : ℕ) (turn : Turn) (i : ℕ) (menu : MenuData) (budget : Tokens)
-    (room : Room)
-    → place < length turns → turn ≡ get_or turns place turn → i ≡ turn.student.0 → i < length crowd.menus.items → i < length crowd.budgets.items
-    → menu ≡ get_or crowd.menus.items i menu → budget ≡ get_or crowd.budgets.items i budget
-    → IsRoomOf (offer_of menu prices (raised_by raise budget.0) turn.allowed) (sections_of turn.bundle) room
-    → IsRoomOfTurnAt crowd prices raise turns place room
-room_of_turn crowd prices raise turns place turn i menu budget room low turn_is at listed paid menu_is budget_is holds =
-    let for_it : IsRoomOfTurn crowd prices raise turn room = λ m b m_is b_is.
-    subst (λ (other : MenuData). IsRoomOf (offer_of other prices (raised_by raise b.0) turn.allowed) (sections_of turn.bundle) room)
-    (same_item crowd.menus.items i menu m listed menu_is (subst (λ n. m ≡ get_or crowd.menus.items n m) (sym at) m_is))
-    (subst (λ (other : Tokens). IsRoomOf (offer_of menu prices (raised_by raise other.0) turn.allowed) (sections_of turn.bundle) room)
-    (same_item crowd.budgets.items i budget b paid budget_is (subst (λ n. b ≡ get_or crowd.budgets.items n b) (sym at) b_is)) holds) in
-    λ t t_is. subst (λ (other : Turn). IsRoomOfTurn crowd prices raise other room) (same_item turns place turn t low turn_is t_is) for_it
-
--- what such a room holds, by that menu and that budget
-pub turn_room : (crowd : Crowd) (prices : List Tokens) (raise : ℕ) (turn : Turn) (i : ℕ) (menu : MenuData) (budget : Tokens) (room : Room)
-    → i ≡ turn.student.0 → menu ≡ get_or crowd.menus.items i menu → budget ≡ get_or crowd.budgets.items i budget
-    → IsRoomOfTurn crowd prices raise turn room → IsRoomOf (offer_of menu prices (raised_by raise budget.0) turn.allowed) (sections_of turn.bundle) room
-turn_room crowd prices raise turn i menu budget room at menu_is budget_is is =
-    is menu budget (subst (λ n. menu ≡ get_or crowd.menus.items n menu) at menu_is) (subst (λ n. budget ≡ get_or crowd.budgets.items n budget) at budget_is)
+-- no turn of an aftermarket
+abbrev pub no_turn : TurnData
+no_turn = record { pass = 0; student = 0; allowed = λ s. false; bundle = [] }
 
 -- the turn at a place, as plain data
 pub turn_at : (turns : List Turn) (i : ℕ) (turn : Turn) → i < length turns → turn ≡ get_or turns i turn
     → get_or (turns_of turns) i (turn_of turn) ≡ turn_of turn
 turn_at turns i turn low is = get_or-map turn_of turns i turn (turn_of turn) low ∙ ap turn_of (sym is)
+
+-- the same, where another turn stands for none
+pub chosen_at : (chosen : Chosen) (i : ℕ) (turn : Turn) → i < length chosen.turns.now → turn ≡ get_or chosen.turns.now i turn
+    → turn_chosen chosen i ≡ turn_of turn
+chosen_at chosen i turn low is = get_or-map turn_of chosen.turns.now i turn no_turn low ∙ ap turn_of (sym is)
+
+-- it is to the best of what is offered
+pub turn_best : (chosen : Chosen) (i : ℕ) (turn : Turn) → i < length chosen.turns.now → turn ≡ get_or chosen.turns.now i turn
+    → IsBestTurn (data_of chosen.crowd.now) chosen.prices.now chosen.raise (turn_of turn)
+turn_best chosen i turn low is =
+    subst (IsBestTurn (data_of chosen.crowd.now) chosen.prices.now chosen.raise) (turn_at chosen.turns.now i turn low is)
+    (chosen.best i (turn_of turn) (rw (length-map chosen.turns.now turn_of) low))
+
+-- its student has a menu
+pub turn_inside : (chosen : Chosen) (i n : ℕ) (turn : Turn) → i < length chosen.turns.now → turn ≡ get_or chosen.turns.now i turn → n ≡ turn.student.0
+    → n < length chosen.crowd.now.menus.items
+turn_inside chosen i n turn low is at =
+    let within : turn.student.0 < length (data_of chosen.crowd.now).students = (turn_best chosen i turn low is).within in
+    let count : length (data_of chosen.crowd.now).students ≡ length chosen.crowd.now.menus.items = students_length chosen.crowd.now in
+    omega arith
+
+-- what is offered to it: its menu at the prices, within its raised budget
+pub offer_turned : (chosen : Chosen) (n : ℕ) (turn : TurnData) (menu : MenuData) (budget : Tokens) (more : ℕ) → n ≡ turn.student
+    → n < length chosen.crowd.now.menus.items → menu ≡ get_or chosen.crowd.now.menus.items n menu → budget ≡ get_or chosen.crowd.now.budgets.items n budget
+    → more ≡ raised_by chosen.raise budget.0
+    → offer_to (asked menu budget) (price_in chosen.prices.now) more turn.allowed
+    ≡ offer_for (data_of chosen.crowd.now) chosen.prices.now chosen.raise turn
+offer_turned chosen n turn menu budget more at low is has_it raised =
+    let crowd = chosen.crowd.now in
+    let who : get_or (data_of crowd).students n nobody ≡ asked menu budget =
+    asked_at crowd.menus.items crowd.budgets.items n nobody menu budget crowd.same low is has_it in
+    ap (λ (b : ℕ). offer_to (asked menu budget) (price_in chosen.prices.now) b turn.allowed) raised
+    ∙ ap (λ (student : Student). offer_at chosen.prices.now chosen.raise student turn) (sym who)
+    ∙ ap (λ (k : ℕ). offer_at chosen.prices.now chosen.raise (get_or (data_of crowd).students k nobody) turn) at
+
+-- a turn with the tree of its bundle is as it is published
+pub turn_shown : (chosen : Chosen) (i : ℕ) (turn : Turn) (offer : OfferData) (one : proved.Proved) (published : ProvedTurn)
+    → i < length chosen.turns.now → turn ≡ get_or chosen.turns.now i turn → offer ≡ offer_chosen chosen i
+    → IsProvedBest offer (sections_of one.bundle) one.tree.items → sections_of one.bundle ≡ (turn_chosen chosen i).bundle
+    → published ≡ record { pass = turn.pass; student = turn.student.0; bundle = sections_of one.bundle; tree = one.tree.items }
+    → IsPublishedTurn (data_of chosen.crowd.now) chosen.prices.now chosen.raise (turn_chosen chosen i) published
+turn_shown chosen i turn offer one published low is offered proved bundle told =
+    let crowd = data_of chosen.crowd.now in
+    let at : turn_chosen chosen i ≡ turn_of turn = chosen_at chosen i turn low is in
+    let within : (turn_chosen chosen i).student < length crowd.students =
+    subst (λ (t : TurnData). t.student < length crowd.students) (sym at) (turn_best chosen i turn low is).within in
+    let shown : ProvedTurn = record { pass = turn.pass; student = turn.student.0; bundle = sections_of one.bundle; tree = one.tree.items } in
+    let made : IsPublishedTurn crowd chosen.prices.now chosen.raise (turn_chosen chosen i) shown = record {
+      pass = ap (λ (t : TurnData). t.pass) (sym at);
+      student = ap (λ (t : TurnData). t.student) (sym at);
+      bundle = bundle;
+      who = get_or crowd.students (turn_chosen chosen i).student nobody;
+      listed = slice_get-get_or crowd.students (turn_chosen chosen i).student nobody within;
+      proved = subst (λ (o : OfferData). IsProvedBest o (sections_of one.bundle) one.tree.items) offered proved;
+    } in
+    subst (IsPublishedTurn crowd chosen.prices.now chosen.raise (turn_chosen chosen i)) (sym told) made
 
 one_longer : {A : Type 0} (all : List A) (one : A) (later : List A) → later ≡ all ++ one ∷ [] → length later ≡ length all + 1
 one_longer all one later more = ap length more ∙ length-append all (one ∷ [])

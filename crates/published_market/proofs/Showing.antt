@@ -1,10 +1,9 @@
 -- The students of a made crowd, by their places, and what is shown of them in a loop.
 use Rattle.std.proofs.Common.{ℕ, zero, suc, ◌≡◌, ◌<◌, ◌+◌, ◌∙◌, Bool, List, [], ◌∷◌, ◌++◌, map, length, get_or, take, refl, ap, sym, subst, arith}
-use Rattle.std.specs.Prelude.{All, Some, nat_lt, slice_get}
+use Rattle.std.specs.Prelude.{All, nat_lt}
 use Rattle.std.specs.List.{AllZip, zip}
 use Rattle.std.proofs.lemmas.List.{get_or-map, length-map, map-append, take_more}
 use Rattle.std.proofs.lemmas.List.Elements.{All-append, All-cons, All-nil}
-use Rattle.std.proofs.lemmas.Option.{get_or_from_slice_get, slice_get_within}
 use Rattle.market_units.specs.declared.units.Tokens.{Tokens}
 use Rattle.bundle_rules.specs.declared.bundle.Bundle.{Bundle}
 use Rattle.bundle_rules.specs.Bundles.{sections_of}
@@ -15,12 +14,10 @@ use Rattle.demand_api.specs.declared.crowd.Crowd.{Crowd}
 use Rattle.demand_api.specs.Crowds.{Student, demand, demand_of}
 use Rattle.demand_api.specs.Parts.{students_of}
 use Rattle.demand_api.specs.Views.{data_of}
-use Rattle.demand_api.proofs.Parts.{students_length}
 use Rattle.demand_api.proofs.Takers.{demand_at, demands_length}
 use Rattle.oversubscription_stage.specs.Rounds.{AreTaken}
-use Rattle.aftermarket_stage.specs.Turns.{TurnData}
-use Rattle.published_parts.specs.Offers.{IsProvedBest, all_sections, offer_to}
-use Rattle.published_market.specs.Making.{IsBestTurn}
+use Rattle.published_parts.specs.Offers.{all_sections, offer_to, student_in}
+use Rattle.published_parts.proofs.Asked.{nobody}
 
 abbrev pub asked : MenuData → Tokens → Student
 asked menu budget = record { menu = menu; budget = budget.0 }
@@ -63,18 +60,16 @@ taken_best crowd prices bundles i menu budget bundle allowed taken low is has_it
     subst (IsBest (wishes_of menu) (price_in prices) budget.0 allowed) (sym (there ∙ demanded ∙ whose ∙ own))
     (subst (λ among. IsBest (wishes_of menu) (price_in prices) budget.0 among (demand crowd.sections (price_in prices) (asked menu budget))) sections_are best)
 
--- what is proved of the menu and the budget at a place is proved of the student
-pub proved_at : (crowd : Crowd) (price : ℕ → ℕ) (i : ℕ) (d : Student) (menu : MenuData) (budget : Tokens)
-    (allowed : ℕ → Bool) (bundle tree : List ℕ)
-    → i < length crowd.menus.items
+-- what is offered to the student at a place, by the menu and the budget there
+pub offer_read : (crowd : Crowd) (prices : List Tokens) (i : ℕ) (menu : MenuData) (budget : Tokens) (allowed : ℕ → Bool) → i < length crowd.menus.items
     → menu ≡ get_or crowd.menus.items i menu → budget ≡ get_or crowd.budgets.items i budget → ((s : ℕ) → allowed s ≡ nat_lt s crowd.sections)
-    → IsProvedBest (record { menu = menu; price = price; budget = budget.0; allowed = allowed }) bundle tree
-    → IsProvedBest (offer_to (get_or (data_of crowd).students i d) price (get_or (data_of crowd).students i d).budget (all_sections crowd.sections)) bundle tree
-proved_at crowd price i d menu budget allowed bundle tree low is has_it told proved =
+    → offer_to (asked menu budget) (price_in prices) budget.0 allowed
+    ≡ offer_to (student_in (data_of crowd) i) (price_in prices) (student_in (data_of crowd) i).budget (all_sections crowd.sections)
+offer_read crowd prices i menu budget allowed low is has_it told =
     let sections_are : allowed ≡ all_sections crowd.sections = λ k s. told s k in
-    subst (λ (student : Student). IsProvedBest (offer_to student price student.budget (all_sections crowd.sections)) bundle tree)
-    (sym (asked_at crowd.menus.items crowd.budgets.items i d menu budget crowd.same low is has_it))
-    (subst (λ among. IsProvedBest (offer_to (asked menu budget) price budget.0 among) bundle tree) sections_are proved)
+    ap (offer_to (asked menu budget) (price_in prices) budget.0) sections_are
+    ∙ ap (λ (student : Student). offer_to student (price_in prices) student.budget (all_sections crowd.sections))
+    (sym (asked_at crowd.menus.items crowd.budgets.items i nobody menu budget crowd.same low is has_it))
 
 zip_push : {A B : Type 0} (R : A → B → Type 0) (xs : List A) (ys : List B) (x : A) (y : B) → AllZip R xs ys → R x y → AllZip R (xs ++ x ∷ []) (ys ++ y ∷ [])
 zip_push R [] [] x y are is = (is, tt)
@@ -103,22 +98,3 @@ zip_next (x ∷ xs) (y ∷ ys) zero low small = refl
 zip_next (x ∷ xs) (y ∷ ys) (suc i) low small =
     let one_more : suc i + 1 ≡ suc (i + 1) = omega arith in
     rw one_more (ap (λ rest. (x, y) ∷ rest) (zip_next xs ys i (omega arith) (omega arith)))
-
--- the student of a turn is at its place
-pub turn_inside : (crowd : Crowd) (prices : List Tokens) (raise i : ℕ) (turn : TurnData)
-    → i ≡ turn.student → IsBestTurn (data_of crowd) prices raise turn → i < length crowd.menus.items
-turn_inside crowd prices raise i turn at is =
-    let inside : turn.student < length (data_of crowd).students = slice_get_within (data_of crowd).students turn.student is.who is.listed in
-    let count : length (data_of crowd).students ≡ length crowd.menus.items = students_length crowd in
-    omega arith
-
--- and has the menu and the budget there
-pub turn_student : (crowd : Crowd) (prices : List Tokens) (raise i : ℕ) (turn : TurnData) (menu : MenuData)
-    (budget : Tokens)
-    → i ≡ turn.student → menu ≡ get_or crowd.menus.items i menu
-    → budget ≡ get_or crowd.budgets.items i budget → (is : IsBestTurn (data_of crowd) prices raise turn) → is.who ≡ asked menu budget
-turn_student crowd prices raise i turn menu budget at here has_it is =
-    let listed : slice_get (data_of crowd).students i ≡ Some is.who =
-    subst (λ n. slice_get (data_of crowd).students n ≡ Some is.who) (sym at) is.listed in
-    sym (get_or_from_slice_get (data_of crowd).students i is.who is.who listed)
-    ∙ asked_at crowd.menus.items crowd.budgets.items i is.who menu budget crowd.same (turn_inside crowd prices raise i turn at is) here has_it

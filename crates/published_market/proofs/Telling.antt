@@ -1,10 +1,14 @@
 -- What the code tells of the stages.
 use Rattle.std.proofs.Common.{ℕ, zero, suc, ◌≡◌, ◌≤◌, ◌∙◌, List, [], ◌∷◌, map, length, refl, ap, subst, sym, arith}
-use Rattle.std.specs.Prelude.{All}
+use Rattle.std.specs.Prelude.{All, Some, slice_get}
 use Rattle.std.proofs.lemmas.List.{length-map}
 use Rattle.std.proofs.lemmas.List.Elements.{All-cons, All-map, All-nil}
+use Rattle.std.proofs.lemmas.Option.{get_or_from_slice_get, slice_get_within}
 use Rattle.market_units.specs.declared.units.Tokens.{Tokens}
-use Rattle.bundle_rules.specs.Menus.{MenuData}
+use Rattle.bundle_rules.specs.Demand.{IsBest, price_in}
+use Rattle.bundle_rules.specs.Menus.{MenuData, wishes_of}
+use Rattle.bundle_rules.proofs.BestValue.{best-only}
+use Rattle.budget_draw.specs.Budgets.{raised_by}
 use Rattle.bundle_rules.specs.Places.{places_from}
 use Rattle.demand_api.specs.Crowds.{CrowdData, Student, holders}
 use Rattle.demand_api.specs.Parts.{students_of}
@@ -17,6 +21,8 @@ use Rattle.market_certificate.specs.Publications.{IsSession}
 use Rattle.preference_desk.specs.Journals.{sessions_of}
 use Rattle.published_market.specs.Making.{IsBestTurn}
 use Rattle.published_market.specs.Publishing.{terms_at}
+use Rattle.published_market.specs.Turns.{best_of, offer_at}
+use Rattle.published_parts.proofs.Asked.{nobody}
 use Rattle.published_market.proofs.Turning.{made_each}
 
 -- the budgets of a made crowd
@@ -27,11 +33,20 @@ budgets_told [] (budget ∷ budgets) same = absurd (omega arith)
 budgets_told (menu ∷ menus) [] same = absurd (omega arith)
 budgets_told (menu ∷ menus) (budget ∷ budgets) same = ap (λ rest. budget.0 ∷ rest) (budgets_told menus budgets (omega arith))
 
+best_turn : (crowd : CrowdData) (prices : List Tokens) (raise : ℕ) (turn : TurnData) (who : Student) → slice_get crowd.students turn.student ≡ Some who
+    → IsBest (wishes_of who.menu) (price_in prices) (raised_by raise who.budget) turn.allowed turn.bundle → IsBestTurn crowd prices raise turn
+best_turn crowd prices raise turn who listed is = record {
+  within = slice_get_within crowd.students turn.student who listed;
+  best =
+      best-only who.menu (price_in prices) (raised_by raise who.budget) turn.allowed turn.bundle is
+      ∙ ap (λ (student : Student). best_of (offer_at prices raise student turn)) (sym (get_or_from_slice_get crowd.students turn.student who nobody listed));
+}
+
 each_best : (crowd : CrowdData) (seats : List ℕ) (prices : List Tokens) (raise : ℕ) (held : List (List ℕ)) (turns : List TurnData)
     → EachTurn (IsTurn (terms_at crowd seats prices raise)) held turns → All (IsBestTurn crowd prices raise) turns
 each_best crowd seats prices raise held [] are = All-nil (IsBestTurn crowd prices raise)
 each_best crowd seats prices raise held (turn ∷ turns) are =
-    All-cons (IsBestTurn crowd prices raise) turn turns (record { who = are.0.who; listed = are.0.listed; best = are.0.best })
+    All-cons (IsBestTurn crowd prices raise) turn turns (best_turn crowd prices raise turn are.0.who are.0.listed are.0.best)
     (each_best crowd seats prices raise (after_turn held turn) turns are.1)
 
 -- each turn that was made is to the best of what was offered
@@ -59,3 +74,8 @@ pub seats_low : (catalog : CatalogData) (seats : List ℕ) → seats ≡ map (λ
 seats_low catalog seats same is =
     subst (All (λ count. count ≤ 9999)) (sym same)
     (All-map (λ count. count ≤ 9999) (λ (section : Section). section.seats) catalog.sections (λ k d inside. (is.each k d inside).is_section.few_seats))
+
+-- there are as many seat numbers as sections
+pub seats_count : (catalog : CatalogData) (seats : List ℕ) → seats ≡ map (λ (section : Section). section.seats) catalog.sections
+    → length seats ≡ length catalog.sections
+seats_count catalog seats same = ap (λ (all : List ℕ). length all) same ∙ length-map catalog.sections (λ (section : Section). section.seats)

@@ -4,3 +4,5 @@ pub mod Laws
 pub mod Making
 pub mod Stages
 pub mod Rooms
+pub mod Views
+pub mod Asked

@@ -1,13 +1,11 @@
 -- What the making of a publication goes by.
-use Rattle.std.specs.Prelude.{ℕ, ◌≡◌, ◌<◌, ◌^◌, All, Some, List, length, map, slice_get, take}
+use Rattle.std.specs.Prelude.{ℕ, ◌≡◌, ◌<◌, ◌^◌, All, List, length, map, take}
 use Rattle.std.specs.List.{AllZip}
 use Rattle.market_units.specs.declared.units.Tokens.{Tokens}
-use Rattle.bundle_rules.specs.Demand.{IsBest, price_in}
-use Rattle.bundle_rules.specs.Menus.{wishes_of}
+use Rattle.bundle_rules.specs.Demand.{price_in}
 use Rattle.bundle_rules.specs.Ordinals.{IsBundle}
-use Rattle.bundle_bounds.specs.Offers.{OfferData}
 use Rattle.demand_api.specs.declared.crowd.Crowd.{Crowd}
-use Rattle.demand_api.specs.Crowds.{CrowdData, Student}
+use Rattle.demand_api.specs.Crowds.{CrowdData}
 use Rattle.demand_api.specs.Views.{data_of}
 use Rattle.aftermarket_stage.specs.declared.turns.Turn.{Turn}
 use Rattle.aftermarket_stage.specs.After.{turns_of}
@@ -18,7 +16,7 @@ use Rattle.market_certificate.specs.Publications.{Proved, ProvedTurn}
 use Rattle.proof_tree.specs.Alphabets.{AreTreeBytes}
 use Rattle.market_certificate.specs.Views.{proved_of, turn_of as published_of}
 use Rattle.published_parts.specs.Offers.{IsProvedDemand}
-use Rattle.published_market.specs.Turns.{IsPublishedTurn, offer_at}
+use Rattle.published_market.specs.Turns.{IsPublishedTurn, best_of, offer_for}
 
 -- at most 8 sections, ascending, and a tree of one byte or more, each of its alphabet
 pub record HasForm (bundle tree : List ℕ) : Type 0 where
@@ -30,17 +28,11 @@ pub record HasTurnForm (turn : ProvedTurn) : Type 0 where
   pub form : HasForm turn.bundle turn.tree
   pub pass : turn.pass < 2 ^ 64
 
--- the bundle is the best of an offer
-abbrev pub IsBestOfOffer : OfferData → List ℕ → Type 0
-IsBestOfOffer offer bundle =
-    IsBest (wishes_of offer.menu) offer.price offer.budget offer.allowed bundle
-
 -- a turn of a student of the crowd, to the best of what is offered to it
 pub record IsBestTurn (crowd : CrowdData) (prices : List Tokens) (raise : ℕ)
     (turn : TurnData) : Type 0 where
-  pub who : Student
-  pub listed : slice_get crowd.students turn.student ≡ Some who
-  pub best : IsBestOfOffer (offer_at prices raise who turn) turn.bundle
+  pub within : turn.student < length crowd.students
+  pub best : turn.bundle ≡ best_of (offer_for crowd prices raise turn)
 
 -- what the first students take at the prices, with its trees
 pub record AreProved (crowd : Crowd) (prices : List Tokens)

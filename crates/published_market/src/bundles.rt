@@ -1,21 +1,23 @@
 // Bundles with their trees.
-ghost use Rattle.std.specs.Prelude.{◌≡◌, ◌<◌, ◌≤◌, ◌+◌, ℕ, All, IfOk, OnOk, length, map, nat_lt};
-ghost use Rattle.std.specs.FinSet as set;
+ghost use Rattle.std.specs.Prelude.{◌≡◌, ◌<◌, ◌≤◌, ◌+◌, All, IfOk, OnOk, length, map};
 ghost use Rattle.std.specs.List.{AllZip};
-ghost use Rattle.bundle_bounds.specs.Offers.{offer_of};
 ghost use Rattle.bundle_rules.specs.Bundles.{sections_of};
-ghost use Rattle.bundle_rules.specs.Demand.{HasPrices, IsBest, price_in};
-ghost use Rattle.bundle_rules.specs.Menus.{wishes_of};
+ghost use Rattle.bundle_rules.specs.Demand.{price_in};
 ghost use Rattle.demand_api.specs.Asking.{ArePricesFor};
 ghost use Rattle.demand_api.specs.Views.{data_of};
 ghost use Rattle.oversubscription_stage.specs.Rounds.{AreTaken};
 ghost use Rattle.market_certificate.specs.Views.{proved_of};
 ghost use Rattle.published_parts.specs.Offers.{IsProvedBest, IsProvedDemand};
+ghost use Rattle.published_market.specs.Asked.{bundle_taken, offer_taken};
 ghost use Rattle.published_market.specs.Making.{AreProved, HasForm};
 ghost use Rattle.published_market.specs.Rooms.{AreRoomsOfStudents, IsRoomOf, IsRoomOfStudent};
+ghost use Rattle.published_market.specs.Views.{bundle_in, offer_in};
 
+use crate::best::Best;
 use crate::rooms::{Room, reserve_rooms, workers_for};
-use bundle_rules::{Bundle, Menu};
+use crate::taken::Taken;
+use crate::writers::Writers;
+use bundle_rules::Bundle;
 use demand_api::Crowd;
 use market_certificate::Proved;
 use market_units::{MAX_COURSES, MAX_RATINGS, NoMemory, SectionSet, Tokens};
@@ -28,56 +30,52 @@ const PLACES: u8 = MAX_RATINGS as u8;
 
 const COURSES: usize = MAX_COURSES as usize;
 
-/// The best bundle of a menu with the tree that proves it: the tree of the room, or one that is
-/// built now, where it did not fit the room. The only error is that memory was not given.
-pub(crate) fn prove_bundle(
-    alloc: Global,
-    menu: &Menu,
-    prices: &[Tokens],
-    budget: Tokens,
-    allowed: &SectionSet,
-    bundle: &Bundle,
-    room: &Room,
-) -> Result<Proved, NoMemory>
-    requires prices { HasPrices menu.now prices.now }
-    requires best { IsBest (wishes_of menu.now) (price_in prices.now) budget.0
-        (set.contains allowed.now) (sections_of bundle.now) }
-    requires room { IsRoomOf (offer_of menu.now prices.now budget.0 allowed.now)
-        (sections_of bundle.now) room.now }
-    ensures bundle { IfOk result (λ proved. sections_of proved.bundle ≡ sections_of bundle.now) }
+/// A best bundle with the tree that proves it: the tree of the room, or one that is built now,
+/// where it did not fit the room. The only error is that memory was not given.
+pub(crate) fn prove_bundle(alloc: Global, best: &Best, room: &Room) -> Result<Proved, NoMemory>
+    requires { IsRoomOf (offer_in best.now) (bundle_in best.now) room.now }
+    ensures bundle { IfOk result (λ proved. sections_of proved.bundle ≡ bundle_in best.now) }
     ensures proved { IfOk result
-        (λ proved. IsProvedBest (offer_of menu.now prices.now budget.0 allowed.now)
-        (sections_of proved.bundle) proved.tree.items) }
+        (λ proved. IsProvedBest (offer_in best.now) (sections_of proved.bundle)
+        proved.tree.items) }
     ensures form { IfOk result (λ proved. HasForm (sections_of proved.bundle) proved.tree.items) }
 {
-    prove!(menu.len() <= PLACES);
-    prove!(bundle.sections().len() <= COURSES);
-    let tree = room.tree(alloc, menu, prices, budget, allowed, bundle)?;
+    prove!(best.menu.len() <= PLACES);
+    prove!(best.bundle.sections().len() <= COURSES);
+    let tree = room.tree(alloc, best)?;
     Ok(Proved {
-        bundle: *bundle,
+        bundle: *best.bundle,
         tree,
     })
 }
 
-// Writes the tree of what the student at a place takes to the room, where it fits.
-fn fill_room(
-    crowd: &Crowd,
-    prices: &[Tokens],
-    allowed: &SectionSet,
-    bundles: &[Bundle],
-    place: usize,
-    room: &mut Room,
-)
-    requires prices { ArePricesFor (data_of crowd.now) prices.now }
-    requires allowed { (s : ℕ) → set.contains allowed.now s ≡ nat_lt s crowd.now.sections }
-    requires bundles { AreTaken (data_of crowd.now) prices.now bundles.now }
-    requires place { place < length bundles.now }
-    ensures { IsRoomOfStudent crowd.now prices.now allowed.now bundles.now place room.new }
+// What the student of a number takes, with what it is the best of.
+fn best_at<'a>(taken: &Taken<'a>, place: usize) -> Best<'a>
+    requires { place < length taken.now.bundles.now }
+    ensures offer { offer_in result ≡ offer_taken taken.now place }
+    ensures bundle { bundle_in result ≡ bundle_taken taken.now place }
 {
+    let crowd = taken.crowd;
+    let bundles = taken.bundles;
     let menu = &crowd.menus[place];
     let budget = crowd.budgets[place];
     let bundle = &bundles[place];
-    room.fill(menu, prices, budget, allowed, bundle);
+    Best {
+        menu,
+        prices: taken.prices,
+        budget,
+        allowed: taken.allowed,
+        bundle,
+    }
+}
+
+// Writes the tree of what the student of a number takes to the room, where it fits.
+fn fill_room(taken: &Taken, place: usize, room: &mut Room)
+    requires { place < length taken.now.bundles.now }
+    ensures { IsRoomOfStudent taken.now place room.new }
+{
+    let best = best_at(taken, place);
+    room.fill(&best);
 }
 
 // Writes the trees of what the students from the first on take to the rooms, one to each, in
@@ -85,20 +83,13 @@ fn fill_room(
 fn fill_rooms<R: Threads + Sync>(
     rt: &R,
     workers: u16,
-    crowd: &Crowd,
-    prices: &[Tokens],
-    allowed: &SectionSet,
-    bundles: &[Bundle],
+    taken: &Taken,
     first: usize,
     rooms: &mut [Room],
 )
-    requires prices { ArePricesFor (data_of crowd.now) prices.now }
-    requires allowed { (s : ℕ) → set.contains allowed.now s ≡ nat_lt s crowd.now.sections }
-    requires bundles { AreTaken (data_of crowd.now) prices.now bundles.now }
-    requires places { first + length rooms.old ≤ length bundles.now }
+    requires { first + length rooms.old ≤ length taken.now.bundles.now }
     ensures count { length rooms.new ≡ length rooms.old }
-    ensures rooms { AreRoomsOfStudents crowd.now prices.now allowed.now bundles.now first
-        rooms.new }
+    ensures rooms { AreRoomsOfStudents taken.now first rooms.new }
 {
     let threads = workers_for(workers, rooms.len());
     thread::for_each_mut(
@@ -106,53 +97,40 @@ fn fill_rooms<R: Threads + Sync>(
         rooms,
         threads,
         &|n, room|
-            requires { (first + n < length bundles.now) × ArePricesFor (data_of crowd.now) prices.now
-                × ((s : ℕ) → set.contains allowed.now s ≡ nat_lt s crowd.now.sections)
-                × AreTaken (data_of crowd.now) prices.now bundles.now }
-            ensures { IsRoomOfStudent crowd.entry.now prices.entry.now allowed.entry.now
-                bundles.entry.now (first + n) room.exit.now }
-        { fill_room(crowd, prices, allowed, bundles, first + n, room) },
+            requires { first + n < length taken.now.bundles.now }
+            ensures { IsRoomOfStudent taken.entry.now (first + n) room.exit.now }
+        { fill_room(taken, first + n, room) },
     );
 }
 
 // Puts what the next students take behind the others, with its trees: one for each room.
 fn put_bundles(
     alloc: Global,
-    crowd: &Crowd,
-    prices: &[Tokens],
-    allowed: &SectionSet,
-    bundles: &[Bundle],
+    taken: &Taken,
     rooms: &[Room],
     all: &mut Vec<Proved>,
 ) -> Result<(), NoMemory>
-    requires prices { ArePricesFor (data_of crowd.now) prices.now }
-    requires allowed { (s : ℕ) → set.contains allowed.now s ≡ nat_lt s crowd.now.sections }
-    requires bundles { AreTaken (data_of crowd.now) prices.now bundles.now }
-    requires places { length all.old.items + length rooms.now ≤ length bundles.now }
-    requires rooms { AreRoomsOfStudents crowd.now prices.now allowed.now bundles.now
-        (length all.old.items) rooms.now }
-    requires proved { AreProved crowd.now prices.now all.old.items }
+    requires places { length all.old.items + length rooms.now ≤ length taken.now.bundles.now }
+    requires rooms { AreRoomsOfStudents taken.now (length all.old.items) rooms.now }
+    requires proved { AreProved taken.now.crowd.now taken.now.prices.now all.old.items }
     ensures count { OnOk result (length all.new.items ≡ length all.old.items + length rooms.now) }
-    ensures proved { OnOk result (AreProved crowd.now prices.now all.new.items) }
+    ensures proved { OnOk result
+        (AreProved taken.now.crowd.now taken.now.prices.now all.new.items) }
 {
     'rooms: for room in rooms {
         let place = all.len();
-        let menu = &crowd.menus[place];
-        let budget = crowd.budgets[place];
-        let bundle = &bundles[place];
-        all.push(prove_bundle(alloc, menu, prices, budget, allowed, bundle, room)?)?;
+        let best = best_at(taken, place);
+        all.push(prove_bundle(alloc, &best, room)?)?;
     }
     Ok(())
 }
 
-/// What each student of the crowd takes at the prices, with its tree, in file order. At most so
-/// many workers write the trees to rooms of this many bytes, group after group; a tree that does
-/// not fit is built afterwards.
+/// What each student of the crowd takes at the prices, with its tree, in file order. The trees are
+/// written group after group; a tree that does not fit its room is built afterwards.
 pub(crate) fn prove_bundles<R: Threads + Sync>(
     rt: &R,
     alloc: Global,
-    workers: u16,
-    size: usize,
+    writers: Writers,
     crowd: &Crowd,
     prices: &[Tokens],
     bundles: &[Bundle],
@@ -167,14 +145,20 @@ pub(crate) fn prove_bundles<R: Threads + Sync>(
         (λ all. All (λ proved. HasForm proved.bundle proved.tree) (map proved_of all.items)) }
 {
     let allowed = SectionSet::full(crowd.sections);
+    let taken = Taken {
+        crowd,
+        prices,
+        allowed: &allowed,
+        bundles,
+    };
     let mut all = Vec::with_capacity(alloc, bundles.len())?;
-    let mut rooms = reserve_rooms(alloc, bundles.len(), size)?;
+    let mut rooms = reserve_rooms(alloc, bundles.len(), writers.room)?;
     'groups: while all.len() < bundles.len() {
         let first = all.len();
         let count = rooms.len().min(bundles.len() - first);
         let group = &mut rooms[..count];
-        fill_rooms(rt, workers, crowd, prices, &allowed, bundles, first, group);
-        put_bundles(alloc, crowd, prices, &allowed, bundles, group, &mut all)?;
+        fill_rooms(rt, writers.workers, &taken, first, group);
+        put_bundles(alloc, &taken, group, &mut all)?;
     }
     Ok(all)
 }

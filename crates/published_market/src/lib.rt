@@ -3,7 +3,9 @@
 // taken before, as they are in the code; that prices of small error exist; how long it takes.
 #![tactic(auto)]
 
+mod best;
 mod bundles;
+mod chosen;
 mod crowd;
 pub mod laws;
 mod order;
@@ -11,11 +13,14 @@ mod publishing;
 mod rooms;
 mod seats;
 mod sessions;
+mod taken;
 mod turns;
+mod writers;
 
 pub use crowd::crowd_after;
 pub use publishing::{PublishEnd, Published, publish};
 pub use sessions::are_sessions;
+pub use writers::Writers;
 
 #[cfg(test)]
 mod tests;

@@ -1,34 +1,33 @@
 // The stages of a market, one after another.
-ghost use Rattle.std.specs.Prelude.{◌≡◌, ◌≤◌, ℕ, Err, IfOk, All, length};
+ghost use Rattle.std.specs.Prelude.{◌≡◌, ℕ, Err, IfOk, All, length};
 ghost use Rattle.demand_api.specs.Views.{data_of};
 ghost use Rattle.market_certificate.specs.Publications.{IsPublication, IsSession};
-ghost use Rattle.market_certificate.specs.Tables.{Tables, tables_of};
+ghost use Rattle.market_certificate.specs.Tables.{Tables};
 ghost use Rattle.market_certificate.specs.Views.{publication_of};
-ghost use Rattle.market_settings.specs.Settings.{AreInRange};
 ghost use Rattle.tabu_search.specs.Search.{FindsNone, IsFound};
 ghost use Rattle.preference_desk.specs.Journals.{sessions_of};
-ghost use Rattle.published_parts.specs.Markets.{market_of};
+ghost use Rattle.published_parts.specs.Markets.{seats_in, tables_in};
+ghost use Rattle.published_parts.specs.Views.{market_in};
 ghost use Rattle.published_parts.specs.Crowds.{IsCrowdIn};
 ghost use Rattle.published_market.specs.Publishing.{HasNoPrices, IsOutcome, IsPublicationOf, lengths_of};
 ghost use Rattle.published_market.specs.Stages.{AreStages, stages_of};
 
 use crate::bundles::prove_bundles;
 use crate::order::order_of;
-use crate::rooms::ROOM;
 use crate::seats::used_seats;
 use crate::turns::prove_turns;
+use crate::writers::Writers;
 use aftermarket_stage::{After, aftermarket};
-use course_catalog::Catalog;
 use demand_api::{Crowd, Demands};
 use market_certificate::Publication;
 use market_settings::Settings;
-use market_units::{MAX_SEATS, NoMemory};
+use market_units::NoMemory;
 use oversubscription_stage::{Settled, settle};
 use preference_desk::Entry;
+use published_parts::Market;
 use std::alloc::Global;
 use std::sync::Wait;
 use std::thread::Threads;
-use student_roll::Roll;
 use tabu_search::{Found, SearchEnd, search};
 
 /// What a market publishes, and how long its stages went on.
@@ -77,75 +76,36 @@ struct Stages {
 
 /// Holds the market after a journal, and gives what it publishes: the budgets; the prices that the
 /// search finds; the prices at which the elimination ends, with each student's best bundle at them;
-/// the turns of the aftermarket; and what is held at the end. Each bundle has its tree. So many
-/// workers write the trees, and one where that is 0; their number changes nothing that is
-/// published. The crowd is that of the market after the journal, and is the one whose demands are
-/// asked. `NoPrices` comes exactly where the search's least error exceeds what the settings accept.
+/// the turns of the aftermarket; and what is held at the end. Each bundle has its tree. Neither how
+/// many write the trees nor the size of their rooms changes anything that is published. The crowd
+/// is that of the market after the journal, and is the one whose demands are asked. `NoPrices`
+/// comes exactly where the search's least error exceeds what the settings accept.
 pub fn publish<R: Threads + Wait + Sync, D: Demands>(
     rt: &R,
     alloc: Global,
-    workers: u16,
-    catalog: &Catalog,
-    roll: &Roll,
-    settings: &Settings,
+    writers: Writers,
+    market: &Market,
     journal: &[Entry],
     crowd: &Crowd,
     demands: &mut D,
 ) -> Result<Published, PublishEnd>
     requires sessions { All (λ entry. IsSession entry.session) journal.now }
-    requires is_crowd { IsCrowdIn (market_of catalog.now roll.now settings.now) journal.now
-        (data_of crowd.now) }
+    requires is_crowd { IsCrowdIn (market_in market.now) journal.now (data_of crowd.now) }
     requires asked { D.crowd demands.old ≡ data_of crowd.now }
-    requires settings { AreInRange settings.now }
     ensures crowd { D.crowd demands.new ≡ D.crowd demands.old }
-    ensures published { IfOk result (λ published. IsPublicationOf (market_of catalog.now roll.now settings.now) journal.now
-        (lengths_of published.turns published.rounds published.passes) (publication_of published.publication)) }
+    ensures published { IfOk result
+        (λ published. IsPublicationOf (market_in market.now) journal.now
+        (lengths_of published.turns published.rounds published.passes)
+        (publication_of published.publication)) }
     ensures in_range { IfOk result
-        (λ published. IsPublication (tables_of catalog.now roll.now)
+        (λ published. IsPublication (tables_in (market_in market.now))
         (publication_of published.publication)) }
     ensures no_prices { (least : ℕ) → result ≡ Err (PublishEnd.NoPrices least)
-        → HasNoPrices (market_of catalog.now roll.now settings.now) journal.now least }
+        → HasNoPrices (market_in market.now) journal.now least }
 {
-    publish_by(
-        rt, alloc, workers, ROOM, catalog, roll, settings, journal, crowd, demands,
-    )
-}
-
-/// Publishes the market. Trees are written to rooms of this many bytes by at most so many workers;
-/// neither number changes what is published. There are no prices where the search found none with
-/// an accepted error: then the least error that it found is told.
-pub(crate) fn publish_by<R: Threads + Wait + Sync, D: Demands>(
-    rt: &R,
-    alloc: Global,
-    workers: u16,
-    room: usize,
-    catalog: &Catalog,
-    roll: &Roll,
-    settings: &Settings,
-    journal: &[Entry],
-    crowd: &Crowd,
-    demands: &mut D,
-) -> Result<Published, PublishEnd>
-    requires sessions { All (λ entry. IsSession entry.session) journal.now }
-    requires is_crowd { IsCrowdIn (market_of catalog.now roll.now settings.now) journal.now
-        (data_of crowd.now) }
-    requires asked { D.crowd demands.old ≡ data_of crowd.now }
-    requires settings { AreInRange settings.now }
-    ensures crowd { D.crowd demands.new ≡ D.crowd demands.old }
-    ensures published { IfOk result (λ published. IsPublicationOf (market_of catalog.now roll.now settings.now) journal.now
-        (lengths_of published.turns published.rounds published.passes) (publication_of published.publication)) }
-    ensures in_range { IfOk result
-        (λ published. IsPublication (tables_of catalog.now roll.now)
-        (publication_of published.publication)) }
-    ensures no_prices { (least : ℕ) → result ≡ Err (PublishEnd.NoPrices least)
-        → HasNoPrices (market_of catalog.now roll.now settings.now) journal.now least }
-{
-    let _few_sections = catalog.len();
-    let seats = catalog.all_seats();
-    let stages = hold_stages(rt, alloc, seats, settings, crowd, demands)?;
-    Ok(put_together(
-        rt, alloc, workers, room, journal, seats, settings, crowd, stages,
-    )?)
+    let seats = market.catalog.all_seats();
+    let stages = hold_stages(rt, alloc, seats, market, crowd, demands)?;
+    Ok(put_together(rt, alloc, writers, market, journal, crowd, stages)?)
 }
 
 // Holds the three stages, one after another.
@@ -153,20 +113,20 @@ fn hold_stages<R: Threads + Wait + Sync, D: Demands>(
     rt: &R,
     alloc: Global,
     seats: &[u16],
-    settings: &Settings,
+    market: &Market,
     crowd: &Crowd,
     demands: &mut D,
 ) -> Result<Stages, PublishEnd>
     requires seats { length seats.now ≡ crowd.now.sections }
     requires asked { D.crowd demands.old ≡ data_of crowd.now }
-    requires settings { AreInRange settings.now }
     ensures crowd { D.crowd demands.new ≡ D.crowd demands.old }
     ensures stages { IfOk result
-        (λ stages. AreStages (data_of crowd.now) seats.now settings.now (stages_of stages)) }
+        (λ stages. AreStages (data_of crowd.now) seats.now market.now.settings.now
+        (stages_of stages)) }
     ensures no_prices { (least : ℕ) → result ≡ Err (PublishEnd.NoPrices least)
-        → FindsNone (data_of crowd.now) seats.now settings.now least }
+        → FindsNone (data_of crowd.now) seats.now market.now.settings.now least }
 {
-    let found = find_prices(rt, alloc, demands, seats, settings)?;
+    let found = find_prices(rt, alloc, demands, seats, market.settings)?;
     let settled = settle(rt, alloc, demands, seats, &found.prices)?;
     let after = aftermarket(
         alloc,
@@ -174,7 +134,7 @@ fn hold_stages<R: Threads + Wait + Sync, D: Demands>(
         seats,
         &settled.prices,
         &settled.bundles,
-        settings.raise,
+        market.settings.raise,
     )?;
     Ok(Stages {
         found,
@@ -210,26 +170,30 @@ fn find_prices<R: Threads + Wait + Sync, D: Demands>(
 fn put_together<R: Threads + Sync>(
     rt: &R,
     alloc: Global,
-    workers: u16,
-    room: usize,
+    writers: Writers,
+    market: &Market,
     journal: &[Entry],
-    seats: &[u16],
-    settings: &Settings,
     crowd: &Crowd,
     stages: Stages,
 ) -> Result<Published, NoMemory>
     requires sessions { All (λ entry. IsSession entry.session) journal.now }
-    requires seats { length seats.now ≡ crowd.now.sections }
-    requires low { All (λ count. count ≤ MAX_SEATS) seats.now }
-    requires settings { AreInRange settings.now }
-    requires stages { AreStages (data_of crowd.now) seats.now settings.now (stages_of stages) }
+    requires sections { length market.now.catalog.now.sections ≡ crowd.now.sections }
+    requires stages { AreStages (data_of crowd.now) (seats_in (market_in market.now))
+        market.now.settings.now (stages_of stages) }
     ensures order { IfOk result
         (λ published. published.publication.order.items ≡ sessions_of journal.now) }
-    ensures outcome { IfOk result (λ published. IsOutcome (data_of crowd.now) seats.now settings.now
-        (lengths_of published.turns published.rounds published.passes) (publication_of published.publication)) }
-    ensures in_range { IfOk result (λ published. (tables : Tables) → length tables.students ≡ length crowd.now.menus.items → length tables.sections ≡ crowd.now.sections
+    ensures outcome { IfOk result
+        (λ published. IsOutcome (data_of crowd.now) (seats_in (market_in market.now))
+        market.now.settings.now (lengths_of published.turns published.rounds published.passes)
+        (publication_of published.publication)) }
+    ensures in_range { IfOk result
+        (λ published. (tables : Tables)
+        → length tables.students ≡ length crowd.now.menus.items
+        → length tables.sections ≡ crowd.now.sections
         → IsPublication tables (publication_of published.publication)) }
 {
+    let _few_sections = market.catalog.len();
+    let seats = market.catalog.all_seats();
     let Stages {
         found,
         settled,
@@ -238,9 +202,9 @@ fn put_together<R: Threads + Sync>(
     let order = order_of(alloc, journal)?;
     let budgets = crowd.budgets.to_vec(alloc)?;
     let prices = &settled.prices;
-    let bundles = prove_bundles(rt, alloc, workers, room, crowd, prices, &settled.bundles)?;
-    let raise = settings.raise;
-    let turns = prove_turns(rt, alloc, workers, room, crowd, prices, raise, &after.turns)?;
+    let bundles = prove_bundles(rt, alloc, writers, crowd, prices, &settled.bundles)?;
+    let raise = market.settings.raise;
+    let turns = prove_turns(rt, alloc, writers, crowd, prices, raise, &after.turns)?;
     let used = used_seats(alloc, &after.used, seats)?;
     Ok(Published {
         publication: Publication {

@@ -1,21 +1,13 @@
 // Rooms that threads write trees to: each has its memory before a thread starts.
-ghost use Rattle.std.specs.Prelude.{◌≡◌, ◌<◌, ◌≤◌, None, IfOk, length};
-ghost use Rattle.std.specs.FinSet as set;
-ghost use Rattle.bundle_bounds.specs.Offers.{offer_of};
-ghost use Rattle.bundle_rules.specs.Bundles.{sections_of};
-ghost use Rattle.bundle_rules.specs.Demand.{HasPrices, IsBest, price_in};
-ghost use Rattle.bundle_rules.specs.Menus.{wishes_of};
+ghost use Rattle.std.specs.Prelude.{◌<◌, None, IfOk, length};
 ghost use Rattle.proof_tree.specs.Texts.{IsTreeText};
 ghost use Rattle.published_market.specs.Rooms.{IsRoomOf};
+ghost use Rattle.published_market.specs.Views.{bundle_in, offer_in};
 
-use bundle_rules::{Bundle, Menu};
-use market_units::{NoMemory, SectionSet, Tokens};
+use crate::best::Best;
+use market_units::NoMemory;
 use proof_tree::{build, build_into};
 use std::alloc::Global;
-
-// The bytes of a room. Of the 18,000 trees of a large market one is longer; at half of this 306
-// would be, which are an eighth of all bytes.
-pub(crate) const ROOM: usize = 16_384;
 
 // The rooms that are filled before their trees are copied out: 4 MB. With twice as many the workers
 // are hardly better parted.
@@ -34,48 +26,38 @@ pub(crate) struct Room {
 }
 
 impl Room {
-    /// Writes the tree of the best bundle of a menu to the room. Where it does not fit, the room
-    /// tells that it has none. It takes no memory.
-    pub(crate) fn fill(
-        &mut self,
-        menu: &Menu,
-        prices: &[Tokens],
-        budget: Tokens,
-        allowed: &SectionSet,
-        bundle: &Bundle,
-    )
-        requires prices { HasPrices menu.now prices.now }
-        requires best { IsBest (wishes_of menu.now) (price_in prices.now) budget.0
-            (set.contains allowed.now) (sections_of bundle.now) }
-        ensures { IsRoomOf (offer_of menu.now prices.now budget.0 allowed.now)
-            (sections_of bundle.now) self.new }
+    /// Writes the tree of a best bundle to the room. Where it does not fit, the room tells that it
+    /// has none. It takes no memory.
+    pub(crate) fn fill(&mut self, best: &Best)
+        ensures { IsRoomOf (offer_in best.now) (bundle_in best.now) self.new }
     {
-        self.written = build_into(menu, prices, budget, allowed, bundle, &mut self.bytes);
+        self.written = build_into(
+            best.menu,
+            best.prices,
+            best.budget,
+            best.allowed,
+            best.bundle,
+            &mut self.bytes,
+        );
     }
 
     /// A copy of the tree that was written to the room. Where it did not fit, the same tree is
     /// built now.
-    pub(crate) fn tree(
-        &self,
-        alloc: Global,
-        menu: &Menu,
-        prices: &[Tokens],
-        budget: Tokens,
-        allowed: &SectionSet,
-        bundle: &Bundle,
-    ) -> Result<Vec<u8>, NoMemory>
-        requires prices { HasPrices menu.now prices.now }
-        requires best { IsBest (wishes_of menu.now) (price_in prices.now) budget.0
-            (set.contains allowed.now) (sections_of bundle.now) }
-        requires room { IsRoomOf (offer_of menu.now prices.now budget.0 allowed.now)
-            (sections_of bundle.now) self.now }
+    pub(crate) fn tree(&self, alloc: Global, best: &Best) -> Result<Vec<u8>, NoMemory>
+        requires { IsRoomOf (offer_in best.now) (bundle_in best.now) self.now }
         ensures { IfOk result
-            (λ tree. IsTreeText (offer_of menu.now prices.now budget.0 allowed.now) None
-            (sections_of bundle.now) tree.items) }
+            (λ tree. IsTreeText (offer_in best.now) None (bundle_in best.now) tree.items) }
     {
         match self.written {
             Some(count) => Ok(self.bytes[..count].to_vec(alloc)?),
-            None => build(alloc, menu, prices, budget, allowed, bundle),
+            None => build(
+                alloc,
+                best.menu,
+                best.prices,
+                best.budget,
+                best.allowed,
+                best.bundle,
+            ),
         }
     }
 }

@@ -1,22 +1,22 @@
 ghost use Rattle.std.specs.Prelude.{◌≡◌};
-ghost use Rattle.market_settings.specs.Settings.{AreInRange};
 ghost use Rattle.preference_desk.specs.DeskView.{names_of};
-ghost use Rattle.published_parts.specs.Markets.{market_of, names_in};
+ghost use Rattle.published_parts.specs.Markets.{names_in};
+ghost use Rattle.published_parts.specs.Views.{market_in};
 
 use super::*;
-use crate::publishing::publish_by;
-use crate::rooms::ROOM;
-use course_catalog::{Catalog, read_catalog};
+use crate::writers::ROOM;
+use course_catalog::read_catalog;
 use demand_api::PlainDemands;
 use market_certificate::put_publication;
-use market_settings::{Settings, read_settings};
+use market_settings::read_settings;
 use preference_desk::Desk;
+use published_parts::Market;
 use std::alloc::Global;
 use std::process::Abort;
 use std::sync::{Arc, Wait};
 use std::test::Fail;
 use std::thread::Threads;
-use student_roll::{Roll, read_roll};
+use student_roll::read_roll;
 use utility_language::{Command, read_stream};
 use worked_terms::{
     ACCEPT_0, ACCEPT_8, EQUAL_MARKET, EQUAL_SESSION, FOUR_MARKET, FOUR_ROLL, FOUR_SESSION,
@@ -42,39 +42,24 @@ fn say_each(rt: &impl Abort, desk: &mut Desk, commands: &[Command])
 }
 
 // The text that the market publishes after the desk's journal, or the least error where no prices
-// are found. So many workers write trees to rooms of this size.
+// are found. So its trees are written.
 fn text_of<R: Abort + Threads + Wait + Sync>(
     rt: &R,
     alloc: Global,
-    workers: u16,
-    room: usize,
-    catalog: &Catalog,
-    roll: &Roll,
-    settings: &Settings,
+    writers: Writers,
+    market: &Market,
     desk: &Desk,
 ) -> Result<Vec<u8>, u64>
-    requires names { names_of desk.now ≡ names_in (market_of catalog.now roll.now settings.now) }
-    requires settings { AreInRange settings.now }
+    requires { names_of desk.now ≡ names_in (market_in market.now) }
 {
     let journal = desk.journal();
     assert!(rt; are_sessions(journal));
-    let crowd = crowd_after(alloc, catalog, roll, settings, desk).expect(rt, "memory");
+    let crowd = crowd_after(alloc, market, desk).expect(rt, "memory");
     let crowd = Arc::new(alloc, crowd).expect(rt, "memory");
     let mut demands = PlainDemands::make(crowd.clone().expect(rt, "memory"));
-    match publish_by(
-        rt,
-        alloc,
-        workers,
-        room,
-        catalog,
-        roll,
-        settings,
-        journal,
-        &crowd,
-        &mut demands,
-    ) {
+    match publish(rt, alloc, writers, market, journal, &crowd, &mut demands) {
         Ok(published) => {
-            let text = put_publication(alloc, catalog, roll, &published.publication);
+            let text = put_publication(alloc, market.catalog, market.roll, &published.publication);
             Ok(text.expect(rt, "memory"))
         }
         Err(PublishEnd::NoPrices { least }) => Err(least),
@@ -82,50 +67,55 @@ fn text_of<R: Abort + Threads + Wait + Sync>(
     }
 }
 
-// What a market of these texts publishes where one session says this, or the least error.
+// The texts of a market, and of its one session.
+#[derive(Clone, Copy)]
+struct Texts<'a> {
+    catalog: &'a [u8],
+    roll: &'a [u8],
+    settings: &'a [u8],
+    session: &'a [u8],
+}
+
+// What a market of these texts publishes, or the least error.
 fn held<R: Abort + Threads + Wait + Sync>(
     rt: &R,
     alloc: Global,
-    catalog: &[u8],
-    roll: &[u8],
-    settings: &[u8],
-    session: &[u8],
+    texts: &Texts,
 ) -> Result<Vec<u8>, u64> {
-    held_by(rt, alloc, 1, ROOM, catalog, roll, settings, session)
+    held_by(rt, alloc, Writers::of(1), texts)
 }
 
-// The same, where so many workers write trees to rooms of this size.
+// The same, where its trees are written so.
 fn held_by<R: Abort + Threads + Wait + Sync>(
     rt: &R,
     alloc: Global,
-    workers: u16,
-    room: usize,
-    catalog: &[u8],
-    roll: &[u8],
-    settings: &[u8],
-    session: &[u8],
+    writers: Writers,
+    texts: &Texts,
 ) -> Result<Vec<u8>, u64> {
-    assert!(rt; catalog.len() < 1000 && roll.len() < 1000);
-    let catalog = read_catalog(alloc, catalog).expect(rt, "a catalogue");
-    let roll = read_roll(alloc, roll).expect(rt, "a roll");
-    let settings = read_settings(alloc, settings).expect(rt, "settings");
-    let commands = read_stream(alloc, session, 100).expect(rt, "commands");
+    assert!(rt; texts.catalog.len() < 1000 && texts.roll.len() < 1000);
+    let catalog = read_catalog(alloc, texts.catalog).expect(rt, "a catalogue");
+    let roll = read_roll(alloc, texts.roll).expect(rt, "a roll");
+    let settings = read_settings(alloc, texts.settings).expect(rt, "settings");
+    let commands = read_stream(alloc, texts.session, 100).expect(rt, "commands");
     let mut desk = Desk::prepare(alloc, &catalog, &roll, 100).expect(rt, "memory");
     say_each(rt, &mut desk, &commands);
-    text_of(rt, alloc, workers, room, &catalog, &roll, &settings, &desk)
+    let market = Market {
+        catalog: &catalog,
+        roll: &roll,
+        settings: &settings,
+    };
+    text_of(rt, alloc, writers, &market, &desk)
 }
 
 // The market publishes its text.
 fn try_market<R: Abort + Threads + Wait + Sync>(rt: &R, alloc: Global, market: &WorkedMarket) {
-    let text = held(
-        rt,
-        alloc,
-        market.term.catalogue,
-        market.term.roll,
-        market.settings,
-        market.session,
-    )
-    .expect(rt, "prices");
+    let texts = Texts {
+        catalog: market.term.catalogue,
+        roll: market.term.roll,
+        settings: market.settings,
+        session: market.session,
+    };
+    let text = held(rt, alloc, &texts).expect(rt, "prices");
     assert_eq!(rt; text.as_slice(), market.term.text.as_bytes());
 }
 
@@ -160,16 +150,13 @@ fn forty_by<R: Abort + Threads + Wait + Sync>(
     let roll = with_lines(rt, alloc, NOBODY_ROLL, b"", b",100,10,2\n");
     let once = with_lines(rt, alloc, b"", b"rate ", b" A 50\n");
     let twice = with_lines(rt, alloc, &once, b"rate ", b" B 40\n");
-    let text = held_by(
-        rt,
-        alloc,
-        workers,
-        room,
-        FOUR_SECTIONS,
-        &roll,
+    let texts = Texts {
+        catalog: FOUR_SECTIONS,
+        roll: &roll,
         settings,
-        &twice,
-    );
+        session: &twice,
+    };
+    let text = held_by(rt, alloc, Writers { workers, room }, &texts);
     text.expect(rt, "prices")
 }
 
@@ -181,7 +168,13 @@ fn nobody_is_enrolled(rt: HostRuntime) -> Result<(), Fail> {
 
 #[test]
 fn a_student_wants_nothing(rt: HostRuntime) -> Result<(), Fail> {
-    let text = held(&rt, rt.alloc(), NOBODY_CATALOGUE, ANN, ACCEPT_0, b"").expect(&rt, "prices");
+    let texts = Texts {
+        catalog: NOBODY_CATALOGUE,
+        roll: ANN,
+        settings: ACCEPT_0,
+        session: b"",
+    };
+    let text = held(&rt, rt.alloc(), &texts).expect(&rt, "prices");
     let wanted =
         b"course-match 1\norder\nbudget ann 100\nstart A 0\nerror 0\nprice A 0\nbundle ann [] *\nturn 1 ann [] *\nfinal ann []\nused A 0 2\nend\n";
     assert_eq!(rt; text.as_slice(), wanted.as_slice());
@@ -202,14 +195,13 @@ fn four_students_of_one_seat(rt: HostRuntime) -> Result<(), Fail> {
 
 #[test]
 fn an_error_that_is_not_accepted(rt: HostRuntime) -> Result<(), Fail> {
-    let text = held(
-        &rt,
-        rt.alloc(),
-        ONE_SEAT_CATALOGUE,
-        FOUR_ROLL,
-        ACCEPT_8,
-        FOUR_SESSION,
-    );
+    let texts = Texts {
+        catalog: ONE_SEAT_CATALOGUE,
+        roll: FOUR_ROLL,
+        settings: ACCEPT_8,
+        session: FOUR_SESSION,
+    };
+    let text = held(&rt, rt.alloc(), &texts);
     assert!(rt; matches!(&text, Err(9)));
     Ok(())
 }
@@ -225,15 +217,13 @@ fn the_search_moves(rt: HostRuntime) -> Result<(), Fail> {
     let roll = b"student,budget,credits,courses\nu,100,10,1\nv,105,10,1\n";
     let settings =
         br#"{"seed":0,"spread":0,"accept":0,"turns":3,"tabu":5,"patience":3,"steps":[1],"raise":10}"#;
-    let text = held(
-        &rt,
-        rt.alloc(),
-        ONE_SEAT_CATALOGUE,
+    let texts = Texts {
+        catalog: ONE_SEAT_CATALOGUE,
         roll,
         settings,
-        EQUAL_SESSION,
-    )
-    .expect(&rt, "prices");
+        session: EQUAL_SESSION,
+    };
+    let text = held(&rt, rt.alloc(), &texts).expect(&rt, "prices");
     let wanted =
         b"course-match 1\norder 1 1\nbudget u 100\nbudget v 105\nstart X 101\nerror 0\nprice X 101\nbundle u [] -*\nbundle v [X] +*n\nturn 1 v [X] +*n\nturn 1 u [] -*\nfinal u []\nfinal v [X]\nused X 1 1\nend\n";
     assert_eq!(rt; text.as_slice(), wanted.as_slice());

@@ -4,14 +4,19 @@ ghost use Rattle.std.specs.List.{AllZip};
 ghost use Rattle.bundle_rules.specs.Bundles.{sections_of};
 ghost use Rattle.demand_api.specs.Views.{data_of};
 ghost use Rattle.demand_api.specs.Asking.{ArePricesFor};
-ghost use Rattle.aftermarket_stage.specs.After.{turn_of, turns_of};
+ghost use Rattle.aftermarket_stage.specs.After.{turns_of};
 ghost use Rattle.market_certificate.specs.Views.{turn_of as published_of};
+ghost use Rattle.published_market.specs.Asked.{offer_chosen, turn_chosen};
 ghost use Rattle.published_market.specs.Making.{AreProvedTurns, HasTurnForm, IsBestTurn};
-ghost use Rattle.published_market.specs.Rooms.{AreRoomsOfTurns, IsRoomOfTurn, IsRoomOfTurnAt};
+ghost use Rattle.published_market.specs.Rooms.{AreRoomsOfTurns, IsRoomOfTurn};
 ghost use Rattle.published_market.specs.Turns.{IsPublishedTurn};
+ghost use Rattle.published_market.specs.Views.{bundle_in, offer_in};
 
+use crate::best::Best;
 use crate::bundles::prove_bundle;
+use crate::chosen::Chosen;
 use crate::rooms::{Room, reserve_rooms, workers_for};
+use crate::writers::Writers;
 use aftermarket_stage::Turn;
 use budget_draw::raised;
 use demand_api::Crowd;
@@ -40,78 +45,68 @@ fn of_turn(pass: u64, student: StudentNo, proved: Proved) -> ProvedTurn
     }
 }
 
-// The turn with the tree of its bundle, which is in the room where it fits.
-fn prove_turn(
-    alloc: Global,
-    crowd: &Crowd,
-    prices: &[Tokens],
-    raise: u8,
-    turn: &Turn,
-    room: &Room,
-) -> Result<ProvedTurn, NoMemory>
-    requires prices { ArePricesFor (data_of crowd.now) prices.now }
-    requires raise { raise ≤ MAX_RAISE }
-    requires best { IsBestTurn (data_of crowd.now) prices.now raise (turn_of turn.now) }
-    requires room { IsRoomOfTurn crowd.now prices.now raise turn.now room.now }
-    ensures published { IfOk result
-        (λ proved. IsPublishedTurn (data_of crowd.now) prices.now
-        raise (turn_of turn.now) (published_of proved)) }
-    ensures form { IfOk result (λ proved. HasTurnForm (published_of proved)) }
+// The bundle of the turn of a number, with what it is the best of.
+fn best_at<'a>(chosen: &Chosen<'a>, place: usize) -> Best<'a>
+    requires { place < length chosen.now.turns.now }
+    ensures offer { offer_in result ≡ offer_chosen chosen.now place }
+    ensures bundle { bundle_in result ≡ (turn_chosen chosen.now place).bundle }
 {
-    let student = usize::from(turn.student.0);
-    let menu = &crowd.menus[student];
-    let budget = raised(crowd.budgets[student], raise);
-    let proved = prove_bundle(
-        alloc,
-        menu,
-        prices,
-        budget,
-        &turn.allowed,
-        &turn.bundle,
-        room,
-    )?;
-    Ok(of_turn(turn.pass, turn.student, proved))
-}
-
-// Writes the tree of the bundle of the turn at a place to the room, where it fits.
-fn fill_room(
-    crowd: &Crowd,
-    prices: &[Tokens],
-    raise: u8,
-    turns: &[Turn],
-    place: usize,
-    room: &mut Room,
-)
-    requires prices { ArePricesFor (data_of crowd.now) prices.now }
-    requires raise { raise ≤ MAX_RAISE }
-    requires best { All (IsBestTurn (data_of crowd.now) prices.now raise) (turns_of turns.now) }
-    requires place { place < length turns.now }
-    ensures { IsRoomOfTurnAt crowd.now prices.now raise turns.now place room.new }
-{
+    let crowd = chosen.crowd;
+    let turns = chosen.turns;
     let turn = &turns[place];
     let student = usize::from(turn.student.0);
     let menu = &crowd.menus[student];
-    let raised_budget = raised(crowd.budgets[student], raise);
-    room.fill(menu, prices, raised_budget, &turn.allowed, &turn.bundle);
+    let budget = raised(crowd.budgets[student], chosen.raise);
+    Best {
+        menu,
+        prices: chosen.prices,
+        budget,
+        allowed: &turn.allowed,
+        bundle: &turn.bundle,
+    }
+}
+
+// The turn of a number with the tree of its bundle, which is in the room where it fits.
+fn prove_turn(
+    alloc: Global,
+    chosen: &Chosen,
+    place: usize,
+    room: &Room,
+) -> Result<ProvedTurn, NoMemory>
+    requires place { place < length chosen.now.turns.now }
+    requires room { IsRoomOfTurn chosen.now place room.now }
+    ensures published { IfOk result
+        (λ proved. IsPublishedTurn (data_of chosen.now.crowd.now) chosen.now.prices.now
+        chosen.now.raise (turn_chosen chosen.now place) (published_of proved)) }
+    ensures form { IfOk result (λ proved. HasTurnForm (published_of proved)) }
+{
+    let turns = chosen.turns;
+    let turn = &turns[place];
+    let best = best_at(chosen, place);
+    let proved = prove_bundle(alloc, &best, room)?;
+    Ok(of_turn(turn.pass, turn.student, proved))
+}
+
+// Writes the tree of the bundle of the turn of a number to the room, where it fits.
+fn fill_room(chosen: &Chosen, place: usize, room: &mut Room)
+    requires { place < length chosen.now.turns.now }
+    ensures { IsRoomOfTurn chosen.now place room.new }
+{
+    let best = best_at(chosen, place);
+    room.fill(&best);
 }
 
 // Writes the trees of the turns from the first on to the rooms, one to each, in threads.
 fn fill_rooms<R: Threads + Sync>(
     rt: &R,
     workers: u16,
-    crowd: &Crowd,
-    prices: &[Tokens],
-    raise: u8,
-    turns: &[Turn],
+    chosen: &Chosen,
     first: usize,
     rooms: &mut [Room],
 )
-    requires prices { ArePricesFor (data_of crowd.now) prices.now }
-    requires raise { raise ≤ MAX_RAISE }
-    requires best { All (IsBestTurn (data_of crowd.now) prices.now raise) (turns_of turns.now) }
-    requires places { first + length rooms.old ≤ length turns.now }
+    requires { first + length rooms.old ≤ length chosen.now.turns.now }
     ensures count { length rooms.new ≡ length rooms.old }
-    ensures rooms { AreRoomsOfTurns crowd.now prices.now raise turns.now first rooms.new }
+    ensures rooms { AreRoomsOfTurns chosen.now first rooms.new }
 {
     let threads = workers_for(workers, rooms.len());
     thread::for_each_mut(
@@ -119,51 +114,41 @@ fn fill_rooms<R: Threads + Sync>(
         rooms,
         threads,
         &|n, room|
-            requires { (first + n < length turns.now) × ArePricesFor (data_of crowd.now) prices.now
-                × (raise ≤ MAX_RAISE)
-                × All (IsBestTurn (data_of crowd.now) prices.now raise) (turns_of turns.now) }
-            ensures { IsRoomOfTurnAt crowd.entry.now prices.entry.now raise turns.entry.now
-                (first + n) room.exit.now }
-        { fill_room(crowd, prices, raise, turns, first + n, room) },
+            requires { first + n < length chosen.now.turns.now }
+            ensures { IsRoomOfTurn chosen.entry.now (first + n) room.exit.now }
+        { fill_room(chosen, first + n, room) },
     );
 }
 
 // Puts the next turns with their trees behind the others: one for each room.
 fn put_turns(
     alloc: Global,
-    crowd: &Crowd,
-    prices: &[Tokens],
-    raise: u8,
-    turns: &[Turn],
+    chosen: &Chosen,
     rooms: &[Room],
     all: &mut Vec<ProvedTurn>,
 ) -> Result<(), NoMemory>
-    requires prices { ArePricesFor (data_of crowd.now) prices.now }
-    requires raise { raise ≤ MAX_RAISE }
-    requires best { All (IsBestTurn (data_of crowd.now) prices.now raise) (turns_of turns.now) }
-    requires places { length all.old.items + length rooms.now ≤ length turns.now }
-    requires rooms { AreRoomsOfTurns crowd.now prices.now raise turns.now (length all.old.items)
-        rooms.now }
-    requires proved { AreProvedTurns crowd.now prices.now raise turns.now all.old.items }
+    requires places { length all.old.items + length rooms.now ≤ length chosen.now.turns.now }
+    requires rooms { AreRoomsOfTurns chosen.now (length all.old.items) rooms.now }
+    requires proved { AreProvedTurns chosen.now.crowd.now chosen.now.prices.now chosen.now.raise
+        chosen.now.turns.now all.old.items }
     ensures count { OnOk result (length all.new.items ≡ length all.old.items + length rooms.now) }
     ensures proved { OnOk result
-        (AreProvedTurns crowd.now prices.now raise turns.now all.new.items) }
+        (AreProvedTurns chosen.now.crowd.now chosen.now.prices.now chosen.now.raise
+        chosen.now.turns.now all.new.items) }
 {
     'rooms: for room in rooms {
-        let turn = &turns[all.len()];
-        all.push(prove_turn(alloc, crowd, prices, raise, turn, room)?)?;
+        let place = all.len();
+        all.push(prove_turn(alloc, chosen, place, room)?)?;
     }
     Ok(())
 }
 
-/// The turns in their order, each with the tree of its bundle. At most so many workers write the
-/// trees to rooms of this many bytes, group after group; a tree that does not fit is built
-/// afterwards.
+/// The turns in their order, each with the tree of its bundle. The trees are written group after
+/// group; a tree that does not fit its room is built afterwards.
 pub(crate) fn prove_turns<R: Threads + Sync>(
     rt: &R,
     alloc: Global,
-    workers: u16,
-    size: usize,
+    writers: Writers,
     crowd: &Crowd,
     prices: &[Tokens],
     raise: u8,
@@ -178,14 +163,20 @@ pub(crate) fn prove_turns<R: Threads + Sync>(
         (turns_of turns.now) (map published_of all.items)) }
     ensures form { IfOk result (λ all. All HasTurnForm (map published_of all.items)) }
 {
+    let chosen = Chosen {
+        crowd,
+        prices,
+        raise,
+        turns,
+    };
     let mut all = Vec::with_capacity(alloc, turns.len())?;
-    let mut rooms = reserve_rooms(alloc, turns.len(), size)?;
+    let mut rooms = reserve_rooms(alloc, turns.len(), writers.room)?;
     'groups: while all.len() < turns.len() {
         let first = all.len();
         let count = rooms.len().min(turns.len() - first);
         let group = &mut rooms[..count];
-        fill_rooms(rt, workers, crowd, prices, raise, turns, first, group);
-        put_turns(alloc, crowd, prices, raise, turns, group, &mut all)?;
+        fill_rooms(rt, writers.workers, &chosen, first, group);
+        put_turns(alloc, &chosen, group, &mut all)?;
     }
     Ok(all)
 }

@@ -6,3 +6,4 @@ pub mod Holdings
 pub mod Passes
 pub mod Allocations
 pub mod Laws
+pub mod Views

@@ -1,15 +1,25 @@
--- Bundles with the trees that prove them best.
-use Rattle.std.specs.Prelude.{ℕ, Bool, None, List, nat_lt}
+-- What is offered to students, and bundles with the trees that prove them best.
+use Rattle.std.specs.Prelude.{ℕ, Bool, None, List, [], nat_lt, slice_index_or}
 use Rattle.bundle_rules.specs.Demand.{IsBest}
 use Rattle.bundle_rules.specs.Menus.{wishes_of}
 use Rattle.bundle_bounds.specs.Offers.{OfferData}
-use Rattle.demand_api.specs.Crowds.{Student}
+use Rattle.demand_api.specs.Crowds.{CrowdData, Student}
 use Rattle.proof_tree.specs.Texts.{IsTreeText}
 use Rattle.market_certificate.specs.Publications.{Proved}
 
 -- the sections of a catalogue with so many
 abbrev pub all_sections : ℕ → ℕ → Bool
 all_sections count s = nat_lt s count
+
+-- the student of a number; a number that no student has stands for one that wants nothing and has a
+-- budget of 0
+abbrev pub student_in : CrowdData → ℕ → Student
+student_in crowd student =
+    slice_index_or crowd.students student
+    (record {
+      menu = record { places = []; pairs = []; clashes = []; credits = 0; courses = 0 };
+      budget = 0;
+    })
 
 -- what is offered to a student at given prices, with this budget and these sections
 abbrev pub offer_to : Student → (ℕ → ℕ) → ℕ → (ℕ → Bool) → OfferData

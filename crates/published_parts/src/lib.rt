@@ -1,5 +1,9 @@
 //! The parts of a publication: what a market's journal, crowd, bundles, turns and seats have to be,
-//! whoever publishes them and whoever checks them. Definitions and their laws alone.
+//! whoever publishes them and whoever checks them; and the market itself, as it is passed to both.
+//! Definitions and their laws, and no code.
 #![tactic(auto)]
 
 pub mod laws;
+mod market;
+
+pub use market::Market;

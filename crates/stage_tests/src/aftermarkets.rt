@@ -7,7 +7,7 @@ ghost use Rattle.demand_api.specs.Views.{data_of};
 ghost use Rattle.held_seats.specs.Choices.{AreHeldWithin};
 ghost use Rattle.demand_api.specs.Asking.{AreSectionPrices};
 
-use crate::crowds::{are_bundles, crowd_of, join, nobody, rated};
+use crate::crowds::{Student, Wish, are_bundles, crowd_of};
 use aftermarket_stage::{After, Turn, aftermarket};
 use bundle_rules::{Bundle, best_plain};
 use demand_api::Crowd;
@@ -84,41 +84,26 @@ fn held<R: Abort>(
     aftermarket(alloc, crowd, seats, prices, &bundles, raise).expect(rt, "memory")
 }
 
-// Students with these budgets and ratings of two sections, of which each may take one.
-fn choosers(rt: &impl Abort, alloc: Global, wants: &[(u32, [u8; 2])]) -> Crowd {
-    let mut students = nobody(alloc);
-    for (budget, ratings) in wants {
-        let places = [rated(0, 0, ratings[0]), rated(1, 1, ratings[1])];
-        join(
-            rt,
-            alloc,
-            &mut students,
-            (*budget, 1),
-            &places,
-            &[],
-            &[0, 0],
-        );
-    }
-    crowd_of(rt, students, 2)
-}
+// What one rates who wants the first of two sections most.
+const RIVAL: &[Wish] = &[(0, 0, 50), (1, 1, 1)];
 
-// Students with these budgets, who all want the first section most.
-fn rivals(rt: &impl Abort, alloc: Global, budgets: &[u32]) -> Crowd {
-    let mut students = nobody(alloc);
-    let places = [rated(0, 0, 50), rated(1, 1, 1)];
-    for budget in budgets {
-        join(
-            rt,
-            alloc,
-            &mut students,
-            (*budget, 1),
-            &places,
-            &[],
-            &[0, 0],
-        );
-    }
-    crowd_of(rt, students, 2)
-}
+const TWO_RIVALS: [Student<'static>; 2] = [
+    (100, 1, RIVAL, &[], &[0; 2]),
+    (100, 1, RIVAL, &[], &[0; 2]),
+];
+
+const FOUR_RIVALS: [Student<'static>; 4] = [
+    (100, 1, RIVAL, &[], &[0; 2]),
+    (101, 1, RIVAL, &[], &[0; 2]),
+    (102, 1, RIVAL, &[], &[0; 2]),
+    (103, 1, RIVAL, &[], &[0; 2]),
+];
+
+// Two students, of whom the first wants the second section more.
+const CHOOSERS: [Student<'static>; 2] = [
+    (110, 1, &[(0, 0, 50), (1, 1, 60)], &[], &[0; 2]),
+    (100, 1, RIVAL, &[], &[0; 2]),
+];
 
 // The only section of a bundle, if it has one.
 fn only(bundle: &Bundle) -> Option<u16> {
@@ -153,7 +138,7 @@ fn assert_after(
 
 #[test]
 fn two_students_and_one_seat(rt: HostRuntime) -> Result<(), Fail> {
-    let crowd = rivals(&rt, rt.alloc(), &[100, 100]);
+    let crowd = crowd_of(&rt, rt.alloc(), &TWO_RIVALS, 2);
     let prices = [Tokens(101), Tokens(1_000_001)];
     let after = held(&rt, rt.alloc(), &crowd, &[1, 0], &prices, 10);
     let turns = [
@@ -168,7 +153,7 @@ fn two_students_and_one_seat(rt: HostRuntime) -> Result<(), Fail> {
 
 #[test]
 fn nobody_can_pay_without_a_raise(rt: HostRuntime) -> Result<(), Fail> {
-    let crowd = rivals(&rt, rt.alloc(), &[100, 100]);
+    let crowd = crowd_of(&rt, rt.alloc(), &TWO_RIVALS, 2);
     let prices = [Tokens(101), Tokens(1_000_001)];
     let after = held(&rt, rt.alloc(), &crowd, &[1, 0], &prices, 0);
     let turns = [(1, 0, true, false, None), (1, 1, true, false, None)];
@@ -178,7 +163,7 @@ fn nobody_can_pay_without_a_raise(rt: HostRuntime) -> Result<(), Fail> {
 
 #[test]
 fn the_greatest_budget_goes_first(rt: HostRuntime) -> Result<(), Fail> {
-    let crowd = rivals(&rt, rt.alloc(), &[100, 101, 102, 103]);
+    let crowd = crowd_of(&rt, rt.alloc(), &FOUR_RIVALS, 2);
     let prices = [Tokens(103), Tokens(1_000_001)];
     let after = held(&rt, rt.alloc(), &crowd, &[1, 0], &prices, 10);
     let turns = [
@@ -194,7 +179,7 @@ fn the_greatest_budget_goes_first(rt: HostRuntime) -> Result<(), Fail> {
 
 #[test]
 fn a_seat_that_is_given_up_is_free_at_the_next_turn(rt: HostRuntime) -> Result<(), Fail> {
-    let crowd = choosers(&rt, rt.alloc(), &[(110, [50, 60]), (100, [50, 1])]);
+    let crowd = crowd_of(&rt, rt.alloc(), &CHOOSERS, 2);
     // The first student has the first section, and with the raise the second one too is within its
     // budget.
     let prices = [Tokens(105), Tokens(115)];
@@ -211,7 +196,7 @@ fn a_seat_that_is_given_up_is_free_at_the_next_turn(rt: HostRuntime) -> Result<(
 
 #[test]
 fn without_students_there_is_no_pass(rt: HostRuntime) -> Result<(), Fail> {
-    let crowd = rivals(&rt, rt.alloc(), &[]);
+    let crowd = crowd_of(&rt, rt.alloc(), &[], 2);
     let after = held(&rt, rt.alloc(), &crowd, &[1, 2], &[Tokens(0); 2], 10);
     assert_after(&rt, &after, &[], 0, [0, 0]);
     assert_eq!(rt; after.bundles.len(), 0);

@@ -5,61 +5,52 @@ use market_units::{SectionNo, Tokens};
 use std::alloc::Global;
 use std::process::Abort;
 
-/// A section of one credit, with the number of its course and its rating.
-pub fn rated(section: u16, course: u16, rating: u8) -> Rated {
+/// A section of one credit that a student rates, the number of its course, and the rating.
+pub type Wish = (u16, u16, u8);
+
+/// A student: its budget, the most sections that it may take, what it rates, its adjustments, and
+/// with which of its places each place clashes.
+pub type Student<'a> = (u32, u8, &'a [Wish], &'a [(u8, u8, i16)], &'a [u64]);
+
+/// Four students who want the one section.
+pub const FOUR_RIVALS: [Student<'static>; 4] = [
+    (100, 1, ONE_WISH, &[], &[0]),
+    (101, 1, ONE_WISH, &[], &[0]),
+    (102, 1, ONE_WISH, &[], &[0]),
+    (103, 1, ONE_WISH, &[], &[0]),
+];
+
+/// What one rates who wants the one section.
+pub const ONE_WISH: &[Wish] = &[(0, 0, 50)];
+
+/// The crowd of these students, where there are so many sections.
+pub fn crowd_of<R: Abort>(rt: &R, alloc: Global, students: &[Student], sections: u16) -> Crowd {
+    let mut menus = Vec::new(alloc);
+    let mut budgets = Vec::new(alloc);
+    for student in students {
+        menus.push(menu_of(rt, alloc, student)).expect(rt, "memory");
+        budgets.push(Tokens(student.0)).expect(rt, "memory");
+    }
+    Crowd::of(menus, budgets, sections).expect(rt, "a crowd")
+}
+
+fn menu_of<R: Abort>(rt: &R, alloc: Global, student: &Student) -> Menu {
+    let (_, courses, wishes, pairs, clashes) = *student;
+    let mut places = Vec::new(alloc);
+    for wish in wishes {
+        places.push(place_of(*wish)).expect(rt, "memory");
+    }
+    assert!(rt; Menu::may_build(&places, pairs, clashes, 10, courses));
+    Menu::build(alloc, &places, pairs, clashes, 10, courses).expect(rt, "memory")
+}
+
+fn place_of((section, course, rating): Wish) -> Rated {
     Rated {
         section: SectionNo(section),
         course,
         rating,
         credits: 1,
     }
-}
-
-/// Students, before they are a crowd: a menu and a budget each.
-#[derive(Drop)]
-pub struct Students {
-    menus: Vec<Menu>,
-    budgets: Vec<Tokens>,
-}
-
-/// No students yet.
-pub fn nobody(alloc: Global) -> Students {
-    Students {
-        menus: Vec::new(alloc),
-        budgets: Vec::new(alloc),
-    }
-}
-
-/// The crowd of these students, and so many sections.
-pub fn crowd_of<R: Abort>(rt: &R, students: Students, sections: u16) -> Crowd {
-    Crowd::of(students.menus, students.budgets, sections).expect(rt, "a crowd")
-}
-
-/// One student more: its budget and how many sections it may take, what it rates, its adjustments,
-/// and with which of its places each place clashes.
-pub fn join<R: Abort>(
-    rt: &R,
-    alloc: Global,
-    students: &mut Students,
-    (budget, courses): (u32, u8),
-    places: &[Rated],
-    pairs: &[(u8, u8, i16)],
-    clashes: &[u64],
-) {
-    assert!(rt; Menu::may_build(places, pairs, clashes, 10, courses));
-    let menu = Menu::build(alloc, places, pairs, clashes, 10, courses).expect(rt, "memory");
-    students.menus.push(menu).expect(rt, "memory");
-    students.budgets.push(Tokens(budget)).expect(rt, "memory");
-}
-
-/// Students of these budgets who want the one section.
-pub fn rivals<R: Abort>(rt: &R, alloc: Global, budgets: &[u32]) -> Crowd {
-    let mut students = nobody(alloc);
-    let places = [rated(0, 0, 50)];
-    for budget in budgets {
-        join(rt, alloc, &mut students, (*budget, 1), &places, &[], &[0]);
-    }
-    crowd_of(rt, students, 1)
 }
 
 /// Whether these are the bundles, by the ordinals of their sections.

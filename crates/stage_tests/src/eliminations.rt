@@ -1,5 +1,5 @@
 // Eliminations whose prices are plain to see.
-use crate::crowds::{are_bundles, crowd_of, join, nobody, rated, rivals};
+use crate::crowds::{FOUR_RIVALS, Student, are_bundles, crowd_of};
 use demand_api::{Crowd, PlainDemands};
 use market_units::Tokens;
 use oversubscription_stage::{Settled, settle};
@@ -39,7 +39,7 @@ fn assert_settled(
 
 #[test]
 fn four_students_of_one_seat(rt: HostRuntime) -> Result<(), Fail> {
-    let crowd = rivals(&rt, rt.alloc(), &[100, 101, 102, 103]);
+    let crowd = crowd_of(&rt, rt.alloc(), &FOUR_RIVALS, 1);
     // Three too many: at most two may take it, at 102. One too many: at most one, at 103.
     let settled = settled(&rt, rt.alloc(), crowd, &[1], &[Tokens(0)]);
     assert_settled(&rt, &settled, &[Tokens(103)], 2, &[&[], &[], &[], &[0]]);
@@ -47,28 +47,15 @@ fn four_students_of_one_seat(rt: HostRuntime) -> Result<(), Fail> {
 }
 
 // Three students of the ordinary term, whose first section and fourth clash.
-fn ordinary_term<R: Abort>(rt: &R, alloc: Global) -> Crowd {
-    let mut students = nobody(alloc);
-    let ann = [rated(0, 0, 60), rated(1, 1, 30)];
-    join(rt, alloc, &mut students, (104, 2), &ann, &[], &[0, 0]);
-    let bob = [rated(0, 0, 50), rated(2, 2, 40)];
-    join(
-        rt,
-        alloc,
-        &mut students,
-        (103, 2),
-        &bob,
-        &[(0, 1, 10)],
-        &[0, 0],
-    );
-    let cat = [rated(0, 0, 20), rated(3, 0, 45)];
-    join(rt, alloc, &mut students, (102, 2), &cat, &[], &[2, 1]);
-    crowd_of(rt, students, 4)
-}
+const ORDINARY: [Student<'static>; 3] = [
+    (104, 2, &[(0, 0, 60), (1, 1, 30)], &[], &[0; 2]),
+    (103, 2, &[(0, 0, 50), (2, 2, 40)], &[(0, 1, 10)], &[0; 2]),
+    (102, 2, &[(0, 0, 20), (3, 0, 45)], &[], &[2, 1]),
+];
 
 #[test]
 fn an_ordinary_term(rt: HostRuntime) -> Result<(), Fail> {
-    let crowd = ordinary_term(&rt, rt.alloc());
+    let crowd = crowd_of(&rt, rt.alloc(), &ORDINARY, 4);
     // The first section has two students and one seat; the second of them affords it up to 103.
     let settled = settled(&rt, rt.alloc(), crowd, &[1, 2, 2, 1], &[Tokens(0); 4]);
     let prices = [Tokens(104), Tokens(0), Tokens(0), Tokens(0)];

@@ -1,6 +1,6 @@
 //! Tests of the stages: the search for prices, its neighbours, own prices, the elimination, seats
-//! that are held, and the aftermarket. There is nothing else here, so that what they stand on is
-//! proved once.
+//! that are held, and the aftermarket; and that search and elimination ask all workers, which no
+//! clause says. There is nothing else here, so that what they stand on is proved once.
 #![tactic(auto)]
 
 #[cfg(test)]
@@ -11,6 +11,8 @@ mod crowds;
 mod eliminations;
 #[cfg(test)]
 mod floors;
+#[cfg(test)]
+mod meetings;
 #[cfg(test)]
 mod neighbours;
 #[cfg(test)]

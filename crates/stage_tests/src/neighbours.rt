@@ -4,8 +4,7 @@ ghost use Rattle.bundle_rules.specs.Demand.{price_in};
 ghost use Rattle.demand_api.specs.Crowds.{counts};
 ghost use Rattle.demand_api.specs.Asking.{ArePricesFor};
 
-use crate::crowds::{crowd_of, join, nobody, rated};
-use bundle_rules::Rated;
+use crate::crowds::{ONE_WISH, Student, crowd_of};
 use demand_api::{Crowd, Demands, PlainDemands};
 use market_units::Tokens;
 use price_neighbours::neighbours;
@@ -15,15 +14,17 @@ use std::sync::{Arc, Wait};
 use std::test::Fail;
 use std::thread::Threads;
 
-// Two students of budgets 100 and 105 who both want these sections, up to two of them.
-fn two_students<R: Abort>(rt: &R, alloc: Global, places: &[Rated], sections: u16) -> Crowd {
-    let mut students = nobody(alloc);
-    let clashes = vec![in alloc; 0u64; places.len()].expect(rt, "memory");
-    for budget in [100, 105] {
-        join(rt, alloc, &mut students, (budget, 2), places, &[], &clashes);
-    }
-    crowd_of(rt, students, sections)
-}
+// Two students who both want the one section.
+const OF_ONE: [Student<'static>; 2] = [
+    (100, 2, ONE_WISH, &[], &[0]),
+    (105, 2, ONE_WISH, &[], &[0]),
+];
+
+// Two students who both want two sections.
+const OF_TWO: [Student<'static>; 2] = [
+    (100, 2, &[(0, 0, 50), (1, 1, 40)], &[], &[0; 2]),
+    (105, 2, &[(0, 0, 50), (1, 1, 40)], &[], &[0; 2]),
+];
 
 // The neighbours of a vector, over a crowd, where each section has one seat.
 fn neighbours_of<R: Abort + Threads + Wait + Sync>(
@@ -75,7 +76,7 @@ const CASES: [Case; 4] = [
 fn neighbours_of_one_section(rt: HostRuntime) -> Result<(), Fail> {
     let alloc = rt.alloc();
     for (price, steps, count, wanted) in CASES.iter() {
-        let crowd = two_students(&rt, alloc, &[rated(0, 0, 50)], 1);
+        let crowd = crowd_of(&rt, alloc, &OF_ONE, 1);
         let found = neighbours_of(&rt, alloc, crowd, &[Tokens(*price)], steps);
         assert_eq!(rt; found.len(), *count);
         for (place, vector) in found.iter().enumerate() {
@@ -89,8 +90,7 @@ fn neighbours_of_one_section(rt: HostRuntime) -> Result<(), Fail> {
 #[test]
 fn neighbours_of_two_sections(rt: HostRuntime) -> Result<(), Fail> {
     let alloc = rt.alloc();
-    let places = [rated(0, 0, 50), rated(1, 1, 40)];
-    let crowd = two_students(&rt, alloc, &places, 2);
+    let crowd = crowd_of(&rt, alloc, &OF_TWO, 2);
     // The second student has 105 tokens: at price 5 the second section is too dear beside the
     // first.
     let prices = [Tokens(101), Tokens(0)];

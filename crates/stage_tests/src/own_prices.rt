@@ -1,5 +1,7 @@
 // What the price of one section does that four students want.
-use crate::crowds::{are_bundles, rivals};
+ghost use Rattle.std.specs.Prelude.{◌≡◌};
+
+use crate::crowds::{FOUR_RIVALS, are_bundles, crowd_of};
 use bundle_rules::Bundle;
 use demand_api::{Demands, PlainDemands};
 use market_units::{NoMemory, SectionNo, StudentNo, Tokens};
@@ -18,6 +20,19 @@ struct Counting {
     students: Vec<StudentNo>,
     questions: u32,
     comparisons: u32,
+}
+
+impl Counting {
+    fn of(alloc: Global, plain: PlainDemands) -> Self
+        ensures { result.plain ≡ plain }
+    {
+        Counting {
+            plain,
+            students: Vec::new(alloc),
+            questions: 0,
+            comparisons: 0,
+        }
+    }
 }
 
 impl Demands for Counting {
@@ -77,16 +92,12 @@ fn assert_held(rt: &impl Abort, held: &Held, price: u32, bundles: &[&[u16]]) {
 #[test]
 fn the_least_price_is_found_by_halving(rt: HostRuntime) -> Result<(), Fail> {
     let alloc = rt.alloc();
-    let crowd = rivals(&rt, alloc, &[100, 101, 102, 103]);
+    let crowd = crowd_of(&rt, alloc, &FOUR_RIVALS, 1);
     // The present price of the section tells nothing: the least is sought from 0.
     let prices = [Tokens(103)];
     assert!(rt; crowd.has_prices(&prices));
-    let mut demands = Counting {
-        plain: PlainDemands::make(Arc::new(alloc, crowd).expect(&rt, "memory")),
-        students: Vec::new(alloc),
-        questions: 0,
-        comparisons: 0,
-    };
+    let plain = PlainDemands::make(Arc::new(alloc, crowd).expect(&rt, "memory"));
+    let mut demands = Counting::of(alloc, plain);
     assert_eq!(rt; demands.students(), 4);
     let three = least_price(&rt, alloc, &mut demands, &prices, SectionNo(0), 3);
     assert_eq!(rt; three.expect(&rt, "memory"), Tokens(101));
@@ -104,16 +115,12 @@ fn the_least_price_is_found_by_halving(rt: HostRuntime) -> Result<(), Fail> {
 #[test]
 fn only_holders_are_asked_again(rt: HostRuntime) -> Result<(), Fail> {
     let alloc = rt.alloc();
-    let crowd = rivals(&rt, alloc, &[100, 101, 102, 103]);
+    let crowd = crowd_of(&rt, alloc, &FOUR_RIVALS, 1);
     let prices = [Tokens(102)];
     assert!(rt; crowd.has_prices(&prices));
     assert_eq!(rt; crowd.top(), Tokens(104));
-    let mut demands = Counting {
-        plain: PlainDemands::make(Arc::new(alloc, crowd).expect(&rt, "memory")),
-        students: Vec::new(alloc),
-        questions: 0,
-        comparisons: 0,
-    };
+    let plain = PlainDemands::make(Arc::new(alloc, crowd).expect(&rt, "memory"));
+    let mut demands = Counting::of(alloc, plain);
     assert_eq!(rt; demands.students(), 4);
     let mut held = Held::take(&rt, alloc, &mut demands, &prices).expect(&rt, "memory");
     assert_eq!(rt; demands.students.len(), 4);

@@ -1,5 +1,5 @@
 // Searches over small crowds, with one seat for each section.
-use crate::crowds::{crowd_of, join, nobody, rated, rivals};
+use crate::crowds::{ONE_WISH, Student, crowd_of};
 use demand_api::{Crowd, PlainDemands};
 use market_settings::{Settings, StepSizes, are_step_sizes};
 use std::alloc::Global;
@@ -9,9 +9,14 @@ use std::test::Fail;
 use std::thread::Threads;
 use tabu_search::{Found, SearchEnd, search};
 
-// Settings of a search: the seed, the accepted error, the turns, the tabu window, the patience, and
-// the steps.
-fn settings_of<R: Abort>(rt: &R, alloc: Global, numbers: [u32; 5], steps: &[u32]) -> Settings {
+/// Settings of a search: the seed, the accepted error, the turns, the tabu window, the patience, and
+/// the steps.
+pub(crate) fn settings_of<R: Abort>(
+    rt: &R,
+    alloc: Global,
+    numbers: [u32; 5],
+    steps: &[u32],
+) -> Settings {
     let [seed, accept, turns, tabu, patience] = numbers;
     assert!(rt; are_step_sizes(steps));
     Settings {
@@ -60,10 +65,15 @@ fn try_search<R: Abort + Threads + Wait + Sync>(
     Ok(turns)
 }
 
+const TWO_RIVALS: [Student<'static>; 2] = [
+    (100, 1, ONE_WISH, &[], &[0]),
+    (105, 1, ONE_WISH, &[], &[0]),
+];
+
 #[test]
 fn a_search_moves(rt: HostRuntime) -> Result<(), Fail> {
     let alloc = rt.alloc();
-    let crowd = rivals(&rt, alloc, &[100, 105]);
+    let crowd = crowd_of(&rt, alloc, &TWO_RIVALS, 1);
     // The zero vector has error 1. Price 1 is tabu, and 101 clears the market.
     let turns = try_search(&rt, alloc, crowd, [0, 0, 3, 5, 3], &[1], "[Tokens(101)] 0")?;
     assert_eq!(rt; turns, 1);
@@ -73,11 +83,11 @@ fn a_search_moves(rt: HostRuntime) -> Result<(), Fail> {
 #[test]
 fn no_turn_is_made(rt: HostRuntime) -> Result<(), Fail> {
     let alloc = rt.alloc();
-    let crowd = rivals(&rt, alloc, &[100, 105]);
+    let crowd = crowd_of(&rt, alloc, &TWO_RIVALS, 1);
     let none = "NoPrices { least: 1 }";
     try_search(&rt, alloc, crowd, [0, 0, 0, 5, 3], &[1], none)?;
     // An error of 1 is accepted where it may be 1.
-    let crowd = rivals(&rt, alloc, &[100, 105]);
+    let crowd = crowd_of(&rt, alloc, &TWO_RIVALS, 1);
     try_search(&rt, alloc, crowd, [0, 1, 0, 5, 3], &[1], "[Tokens(0)] 1")?;
     Ok(())
 }
@@ -85,7 +95,7 @@ fn no_turn_is_made(rt: HostRuntime) -> Result<(), Fail> {
 #[test]
 fn nobody_searches(rt: HostRuntime) -> Result<(), Fail> {
     let alloc = rt.alloc();
-    let crowd = crowd_of(&rt, nobody(alloc), 2);
+    let crowd = crowd_of(&rt, alloc, &[], 2);
     let free = "[Tokens(0), Tokens(0)] 0";
     let turns = try_search(&rt, alloc, crowd, [0, 0, 3, 5, 3], &[1], free)?;
     assert_eq!(rt; turns, 0);
@@ -93,72 +103,44 @@ fn nobody_searches(rt: HostRuntime) -> Result<(), Fail> {
 }
 
 // Four students of three sections.
-fn four_students<R: Abort>(rt: &R, alloc: Global) -> Crowd {
-    let mut students = nobody(alloc);
-    let places = [rated(0, 0, 50), rated(1, 1, 40)];
-    join(rt, alloc, &mut students, (100, 2), &places, &[], &[0, 0]);
-    let places = [rated(0, 0, 50), rated(2, 2, 45)];
-    join(rt, alloc, &mut students, (103, 2), &places, &[], &[0, 0]);
-    let places = [rated(1, 1, 50), rated(2, 2, 20)];
-    join(rt, alloc, &mut students, (103, 2), &places, &[], &[0, 0]);
-    let places = [rated(0, 0, 60), rated(1, 1, 61)];
-    join(
-        rt,
-        alloc,
-        &mut students,
-        (106, 2),
-        &places,
-        &[(0, 1, -30)],
-        &[0, 0],
-    );
-    crowd_of(rt, students, 3)
-}
+const FOUR_STUDENTS: [Student<'static>; 4] = [
+    (100, 2, &[(0, 0, 50), (1, 1, 40)], &[], &[0; 2]),
+    (103, 2, &[(0, 0, 50), (2, 2, 45)], &[], &[0; 2]),
+    (103, 2, &[(1, 1, 50), (2, 2, 20)], &[], &[0; 2]),
+    (106, 2, &[(0, 0, 60), (1, 1, 61)], &[(0, 1, -30)], &[0; 2]),
+];
 
 #[test]
 fn restarts_draw_prices(rt: HostRuntime) -> Result<(), Fail> {
     let alloc = rt.alloc();
-    let crowd = four_students(&rt, alloc);
+    let crowd = crowd_of(&rt, alloc, &FOUR_STUDENTS, 3);
     let prices = "[Tokens(80), Tokens(104), Tokens(40)] 1";
     try_search(&rt, alloc, crowd, [5, 1, 60, 2, 1], &[40], prices)?;
     Ok(())
 }
 
 // Four students of one budget who each may take one of two sections; two of them rate both.
-fn four_of_one_budget<R: Abort>(rt: &R, alloc: Global) -> Crowd {
-    let mut students = nobody(alloc);
-    let both = [rated(0, 0, 50), rated(1, 1, 2)];
-    join(rt, alloc, &mut students, (100, 1), &both, &[], &[0, 0]);
-    join(rt, alloc, &mut students, (100, 1), &both, &[], &[0, 0]);
-    join(rt, alloc, &mut students, (100, 1), &both[..1], &[], &[0]);
-    join(rt, alloc, &mut students, (100, 1), &both[..1], &[], &[0]);
-    crowd_of(rt, students, 2)
-}
+const FOUR_OF_ONE_BUDGET: [Student<'static>; 4] = [
+    (100, 1, &[(0, 0, 50), (1, 1, 2)], &[], &[0; 2]),
+    (100, 1, &[(0, 0, 50), (1, 1, 2)], &[], &[0; 2]),
+    (100, 1, ONE_WISH, &[], &[0]),
+    (100, 1, ONE_WISH, &[], &[0]),
+];
 
 #[test]
 fn no_prices_after_restarts(rt: HostRuntime) -> Result<(), Fail> {
     let alloc = rt.alloc();
-    let crowd = four_of_one_budget(&rt, alloc);
+    let crowd = crowd_of(&rt, alloc, &FOUR_OF_ONE_BUDGET, 2);
     let none = "NoPrices { least: 2 }";
     try_search(&rt, alloc, crowd, [3, 0, 30, 1, 1], &[7, 1], none)?;
     Ok(())
 }
 
 // Two students of budget 9: one wants the second section, the other both, the first one more.
-fn two_sections<R: Abort>(rt: &R, alloc: Global) -> Crowd {
-    let mut students = nobody(alloc);
-    join(
-        rt,
-        alloc,
-        &mut students,
-        (9, 1),
-        &[rated(1, 1, 40)],
-        &[],
-        &[0],
-    );
-    let places = [rated(0, 0, 90), rated(1, 1, 40)];
-    join(rt, alloc, &mut students, (9, 2), &places, &[], &[0, 0]);
-    crowd_of(rt, students, 2)
-}
+const TWO_SECTIONS: [Student<'static>; 2] = [
+    (9, 1, &[(1, 1, 40)], &[], &[0]),
+    (9, 2, &[(0, 0, 90), (1, 1, 40)], &[], &[0; 2]),
+];
 
 // A window of four counts leads out of the circle in which one alone is caught. What is wanted was
 // told by a plain program of the whole market, of another hand and without proofs, for this market
@@ -166,10 +148,10 @@ fn two_sections<R: Abort>(rt: &R, alloc: Global) -> Crowd {
 #[test]
 fn a_tabu_candidate_is_passed_over(rt: HostRuntime) -> Result<(), Fail> {
     let alloc = rt.alloc();
-    let crowd = two_sections(&rt, alloc);
+    let crowd = crowd_of(&rt, alloc, &TWO_SECTIONS, 2);
     let prices = "[Tokens(6), Tokens(9)] 0";
     try_search(&rt, alloc, crowd, [1, 0, 8, 4, 100], &[2], prices)?;
-    let crowd = two_sections(&rt, alloc);
+    let crowd = crowd_of(&rt, alloc, &TWO_SECTIONS, 2);
     let none = "NoPrices { least: 1 }";
     try_search(&rt, alloc, crowd, [1, 0, 8, 1, 100], &[2], none)?;
     Ok(())

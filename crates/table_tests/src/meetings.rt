@@ -145,21 +145,15 @@ fn assert_clashes(rt: &impl Abort, table: &ClashTable, sections: u16, pairs: &[(
 
 #[test]
 fn sections_that_clash_in_parts_of_a_term(rt: HostRuntime) -> Result<(), Fail> {
-    let meetings = [
-        read(b"M0900-1020"),
-        read(b"M0900-1020"),
-        read(b"M0900-1020"),
-        read(b""),
-    ];
+    let at_nine = read(b"M0900-1020");
+    let meetings = [at_nine, at_nine, at_nine, read(b"")];
     let parts = [
         Parts::FIRST_HALF,
         Parts::SECOND_HALF,
         Parts::WHOLE_TERM,
         Parts::SECOND_HALF,
     ];
-    let Ok(table) = ClashTable::build(rt.alloc(), &meetings, &[0, 1, 2, 0], &parts) else {
-        return Err(Fail::from("no memory"));
-    };
+    let table = ClashTable::build(rt.alloc(), &meetings, &[0, 1, 2, 0], &parts)?;
     assert_clashes(&rt, &table, 4, &[(0, 2), (1, 2), (0, 3)]);
     Ok(())
 }
@@ -180,10 +174,7 @@ fn sections_that_clash(rt: HostRuntime) -> Result<(), Fail> {
         read(b""),
     ];
     let courses = [0, 1, 2, 3, 4, 5, 3];
-    let Ok(table) = ClashTable::build(rt.alloc(), &meetings, &courses, &[Parts::WHOLE_TERM; 7])
-    else {
-        return Err(Fail::from("no memory"));
-    };
+    let table = ClashTable::build(rt.alloc(), &meetings, &courses, &[Parts::WHOLE_TERM; 7])?;
     assert_clashes(&rt, &table, 7, &[(0, 2), (0, 4), (1, 2), (3, 6)]);
     assert!(rt; overlap(&meetings[0], &meetings[2]) && !overlap(&meetings[0], &meetings[1]));
     Ok(())
@@ -199,10 +190,7 @@ fn four_hundred_sections(rt: HostRuntime) -> Result<(), Fail> {
         }
         courses[section] = section as u16;
     }
-    let Ok(table) = ClashTable::build(rt.alloc(), &meetings, &courses, &[Parts::WHOLE_TERM; 400])
-    else {
-        return Err(Fail::from("no memory"));
-    };
+    let table = ClashTable::build(rt.alloc(), &meetings, &courses, &[Parts::WHOLE_TERM; 400])?;
     assert!(rt; table.clash(SectionNo(1), SectionNo(399)));
     assert!(rt; !table.clash(SectionNo(0), SectionNo(399)));
     Ok(())

@@ -130,31 +130,19 @@ fn said_by_catalogue(alloc: Global, catalog: &Catalog) -> Result<String, Fail> {
     let version = catalog.version();
     let mut said = format!(in alloc; "version {version}, seats {:?}", catalog.all_seats())?;
     for section in 0..catalog.len() {
-        put_section(alloc, &mut said, catalog, SectionNo(section))?;
+        let section = SectionNo(section);
+        let halves = halves_of(catalog.parts(section));
+        let seats = catalog.seats(section);
+        let credits = catalog.credits(section);
+        let course = catalog.course(section);
+        let numbers = format!(in alloc; " {seats} {credits} {course} {halves}")?;
+        put_entry(&mut said, catalog.name(section), numbers.as_str())?;
     }
     said.push_str(", clashes")?;
     for section in 0..catalog.len() {
         put_clashes(alloc, &mut said, catalog, SectionNo(section))?;
     }
     Ok(said)
-}
-
-fn put_section(
-    alloc: Global,
-    said: &mut String,
-    catalog: &Catalog,
-    section: SectionNo,
-) -> Result<(), Fail>
-    requires { section.0 < length catalog.now.sections }
-{
-    let seats = catalog.seats(section);
-    let credits = catalog.credits(section);
-    let course = catalog.course(section);
-    let halves = halves_of(catalog.parts(section));
-    put_name(said, catalog.name(section))?;
-    let numbers = format!(in alloc; " {seats} {credits} {course} {halves}")?;
-    said.push_str(numbers.as_str())?;
-    Ok(())
 }
 
 fn halves_of(parts: Parts) -> &'static str {
@@ -192,33 +180,23 @@ pub fn said_by_roll(alloc: Global, roll: &Roll) -> Result<String, Fail> {
         said.push_str(", nobody")?;
     }
     for student in 0..roll.len() {
-        put_student(alloc, &mut said, roll, StudentNo(student))?;
+        let student = StudentNo(student);
+        let base = roll.base(student);
+        let credits = roll.credits(student);
+        let courses = roll.courses(student);
+        let carry = roll.carry(student);
+        let numbers = format!(in alloc; " {base} {credits} {courses} {carry}")?;
+        put_entry(&mut said, roll.name(student), numbers.as_str())?;
     }
     Ok(said)
 }
 
-fn put_student(
-    alloc: Global,
-    said: &mut String,
-    roll: &Roll,
-    student: StudentNo,
-) -> Result<(), Fail>
-    requires { student.0 < length roll.now.students }
-{
-    let base = roll.base(student);
-    let credits = roll.credits(student);
-    let courses = roll.courses(student);
-    let carry = roll.carry(student);
-    put_name(said, roll.name(student))?;
-    let numbers = format!(in alloc; " {base} {credits} {courses} {carry}")?;
-    said.push_str(numbers.as_str())?;
-    Ok(())
-}
-
-fn put_name(said: &mut String, name: Name) -> Result<(), Fail> {
+// Puts a name and the numbers behind it.
+fn put_entry(said: &mut String, name: Name, numbers: &str) -> Result<(), Fail> {
     said.push_str(", ")?;
     for byte in name.bytes() {
         said.push(char::from(*byte))?;
     }
+    said.push_str(numbers)?;
     Ok(())
 }

@@ -1,212 +1,63 @@
 // What a published text is read as, and that it is written again as it was.
 
-use crate::readers::{catalog_in, roll_in};
+use crate::readers::tables_in;
 use course_catalog::Catalog;
-use market_certificate::{LineFault, Publication, TextRefusal, put_publication, read_publication};
-use market_units::Tokens;
+use market_certificate::{Publication, TextRefusal, put_publication, read_publication};
+use market_units::{Tokens, read_number};
 use std::alloc::Global;
 use std::process::Abort;
 use std::test::Fail;
 use student_roll::Roll;
 use worked_terms::{
-    CARRIED_TERM, EQUAL_ROLL, FOUR_TERM, NO_SECTIONS_TERM, NOBODY_TERM, ORDINARY_TERM, WorkedTerm,
-};
-
-// Aftermarket swaps in later passes.
-const AFTERMARKET_SWAPS_IN_LATER_PASSES: WorkedTerm = WorkedTerm {
-    catalogue: b"section,course,seats,credits,meetings
-A,AA,1,1,
-B,BB,1,1,
-C,CC,1,1,
-",
-    roll: b"student,budget,credits,courses
-u,100,10,1
-v,100,10,1
-w,99,10,1
-",
-    text: "course-match 1
-order 1 1 1 1 1 1 1
-budget u 100
-budget v 100
-budget w 99
-start A 0
-start B 0
-start C 0
-error 4
-price A 101
-price B 100
-price C 100
-bundle u [B] -+*n
-bundle v [C] -+*n
-bundle w [] ---*
-turn 1 u [A] +-*n
-turn 1 v [C] -+*n
-turn 1 w [B] -+-*n
-turn 2 u [A] +-*n
-turn 2 v [C] -+*n
-turn 2 w [B] -+-*n
-final u [A]
-final v [C]
-final w [B]
-used A 1 1
-used B 1 1
-used C 1 1
-end
-",
+    CARRIED_TERM, EQUAL_TERM, FOUR_MARKET, NO_SECTIONS_CATALOGUE, NO_SECTIONS_TERM, NOBODY_ROLL,
+    NOBODY_TERM, ORDINARY_TERM, SWAPS_MARKET, TIES_MARKET, WorkedTerm,
 };
 
 // Nothing but headers.
 const NOTHING_BUT_HEADERS: WorkedTerm = WorkedTerm {
-    catalogue: b"section,course,seats,credits,meetings
-",
-    roll: b"student,budget,credits,courses
-",
-    text: "course-match 1
-order
-error 0
-end
-",
+    catalogue: NO_SECTIONS_CATALOGUE,
+    roll: NOBODY_ROLL,
+    text: "course-match 1\norder\nerror 0\nend\n",
 };
 
-// Part terms make version two.
-const PART_TERMS_MAKE_VERSION_TWO: WorkedTerm = WorkedTerm {
-    catalogue: b"section,course,seats,credits,meetings,parts
-X,XX,1,1,,12
-",
-    roll: EQUAL_ROLL,
-    text: "course-match 2
-order 1 1
-budget u 100
-budget v 100
-start X 0
-error 1
-price X 101
-bundle u [] -*
-bundle v [] -*
-turn 1 u [X] +*n
-turn 1 v [] -*
-turn 2 u [X] +*n
-turn 2 v [] -*
-final u [X]
-final v []
-used X 1 1
-end
-",
-};
-
-// Ties of excess raise the lowest ordinal.
-const TIES_OF_EXCESS_RAISE_THE_LOWEST_ORDINAL: WorkedTerm = WorkedTerm {
-    catalogue: b"section,course,seats,credits,meetings
-A,AA,1,1,
-B,BB,1,1,
-",
-    roll: b"student,budget,credits,courses
-u,100,10,2
-v,101,10,2
-w,102,10,2
-",
-    text: "course-match 1
-order 1 1 1 1 1 1
-budget u 100
-budget v 101
-budget w 102
-start A 0
-start B 0
-error 8
-price A 102
-price B 101
-bundle u [] --*
-bundle v [B] -+*n
-bundle w [A] +-*n
-turn 1 w [A] +-*n
-turn 1 v [B] -+*n
-turn 1 u [] --*
-final u []
-final v [B]
-final w [A]
-used A 1 1
-used B 1 1
-end
-",
-};
-
-// Where bytes of the ordinary term's text are others, how many they are, what stands there instead,
-// and the line and the fault of the defect that this makes.
-type Change = (usize, usize, &'static [u8], u32, LineFault);
-
-const FIRST_CHANGES: [Change; 17] = [
-    // Budget with leading zero.
-    (63, 0, b"0", 4, LineFault::Form),
-    // Bundle not ascending.
-    (309, 3, b"B,A", 21, LineFault::Form),
-    // Bundle of no section of the catalogue.
-    (325, 1, b"E", 22, LineFault::Form),
-    // Bundle with a section twice.
-    (311, 1, b"A", 21, LineFault::Form),
-    // Bytes after the end without line feed.
-    (390, 0, b" ", 29, LineFault::Rest),
-    // Carriage return before the last line feed.
-    (389, 0, b"\r", 28, LineFault::Form),
-    // Empty line within the text.
-    (122, 0, b"\n", 10, LineFault::Form),
-    // Empty text.
-    (0, 390, b"", 1, LineFault::Missing),
-    // End line left away.
-    (386, 4, b"", 28, LineFault::Missing),
-    // Error of sixty five bits.
-    (129, 0, b"8446744073709551616", 10, LineFault::Form),
-    // Error with leading zero.
-    (128, 0, b"0", 10, LineFault::Form),
-    // Final lines change places.
-    (304, 22, b"bob [C]\nfinal ann [A,B", 21, LineFault::Form),
-    // First line of another version.
-    (13, 1, b"3", 1, LineFault::Form),
-    // Last line feed left away.
-    (389, 1, b"", 28, LineFault::Missing),
-    // Order of session sixty five.
-    (35, 1, b"65", 2, LineFault::Form),
-    // Order of session zero.
-    (35, 1, b"0", 2, LineFault::Form),
-    // Price above its limit in the text.
-    (170, 1, b"1000002", 14, LineFault::Form),
-];
-
-const SECOND_CHANGES: [Change; 17] = [
-    // Seats above their limit in the text.
-    (385, 0, b"0000", 27, LineFault::Form),
-    // Second end line.
-    (390, 0, b"end\n", 29, LineFault::Rest),
-    // Space at the end of a line.
-    (129, 0, b" ", 10, LineFault::Form),
-    // Start lines change places.
-    (88, 11, b"B 0\nstart A", 6, LineFault::Form),
-    // Text cut within a line.
-    (145, 245, b"", 12, LineFault::Missing),
-    // Text with byte order mark.
-    (0, 0, b"\xef\xbb\xbf", 1, LineFault::Form),
-    // Tree left empty.
-    (189, 5, b"", 15, LineFault::Form),
-    // Tree of another byte.
-    (193, 1, b"x", 15, LineFault::Form),
-    // Turn of no student.
-    (242, 3, b"zoe", 18, LineFault::Form),
-    // Turn of pass zero.
-    (240, 1, b"0", 18, LineFault::Form),
-    // Two spaces between fields.
-    (128, 0, b" ", 10, LineFault::Form),
-    // A turn before the bundles.
-    (172, 0, b"turn 1 ann [] *\n", 15, LineFault::Form),
-    // An error of twenty-one digits.
-    (128, 1, b"184467440737095516161", 10, LineFault::Form),
-    // A second fault behind the first.
-    (90, 300, b"x\nstart B x\n", 6, LineFault::Form),
-    // A turn of the last section without a line feed.
-    (386, 0, b"turn 1 ann [] *\n", 28, LineFault::Form),
-    // Nine sections in a bundle.
-    (184, 3, b"A,A,A,A,A,A,A,A,A", 15, LineFault::Form),
-    // A comma behind a section.
-    (185, 2, b",", 15, LineFault::Form),
-];
+// What a change of the ordinary term's text is, what stands where for how many bytes, and the line
+// and the fault of the defect that this makes; `|` is a line feed.
+const CHANGES: &str = "\
+Budget with leading zero: 0 at 63 for 0 => 4 Form
+Bundle not ascending: B,A at 309 for 3 => 21 Form
+Bundle of no section of the catalogue: E at 325 for 1 => 22 Form
+Bundle with a section twice: A at 311 for 1 => 21 Form
+Bytes after the end without line feed:   at 390 for 0 => 29 Rest
+Carriage return before the last line feed: \r at 389 for 0 => 28 Form
+Empty line within the text: | at 122 for 0 => 10 Form
+Empty text:  at 0 for 390 => 1 Missing
+End line left away:  at 386 for 4 => 28 Missing
+Error of sixty five bits: 8446744073709551616 at 129 for 0 => 10 Form
+Error with leading zero: 0 at 128 for 0 => 10 Form
+Final lines change places: bob [C]|final ann [A,B at 304 for 22 => 21 Form
+First line of another version: 3 at 13 for 1 => 1 Form
+Last line feed left away:  at 389 for 1 => 28 Missing
+Order of session sixty five: 65 at 35 for 1 => 2 Form
+Order of session zero: 0 at 35 for 1 => 2 Form
+Price above its limit in the text: 1000002 at 170 for 1 => 14 Form
+Seats above their limit in the text: 0000 at 385 for 0 => 27 Form
+Second end line: end| at 390 for 0 => 29 Rest
+Space at the end of a line:   at 129 for 0 => 10 Form
+Start lines change places: B 0|start A at 88 for 11 => 6 Form
+Text cut within a line:  at 145 for 245 => 12 Missing
+Text with byte order mark: \u{feff} at 0 for 0 => 1 Form
+Tree left empty:  at 189 for 5 => 15 Form
+Tree of another byte: x at 193 for 1 => 15 Form
+Turn of no student: zoe at 242 for 3 => 18 Form
+Turn of pass zero: 0 at 240 for 1 => 18 Form
+Two spaces between fields:   at 128 for 0 => 10 Form
+A turn before the bundles: turn 1 ann [] *| at 172 for 0 => 15 Form
+An error of twenty-one digits: 184467440737095516161 at 128 for 1 => 10 Form
+A second fault behind the first: x|start B x| at 90 for 300 => 6 Form
+A turn of the last section without a line feed: turn 1 ann [] *| at 386 for 0 => 28 Form
+Nine sections in a bundle: A,A,A,A,A,A,A,A,A at 184 for 3 => 15 Form
+A comma behind a section: , at 185 for 2 => 15 Form
+";
 
 // What a text is read as with the tables of a term.
 fn read(
@@ -215,8 +66,7 @@ fn read(
     term: &WorkedTerm,
     text: &[u8],
 ) -> Result<Publication, TextRefusal> {
-    let catalog = catalog_in(rt, alloc, term.catalogue);
-    let roll = roll_in(rt, alloc, term.roll);
+    let (catalog, roll) = tables_in(rt, alloc, term.catalogue, term.roll);
     assert!(rt; text.len() < 10_000);
     read_publication(alloc, &catalog, &roll, text)
 }
@@ -234,70 +84,94 @@ fn written_again(
     put_publication(alloc, catalog, roll, &publication).expect(rt, "memory")
 }
 
-// The text is read, and written again as it was.
+// The text is read with these tables, and written again as it was.
+fn try_text(rt: &impl Abort, alloc: Global, catalogue: &[u8], roll: &[u8], text: &[u8]) {
+    let (catalog, roll) = tables_in(rt, alloc, catalogue, roll);
+    let written = written_again(rt, alloc, &catalog, &roll, text);
+    assert!(rt; written.as_slice() == text);
+}
+
 fn try_case(rt: &impl Abort, alloc: Global, case: &WorkedTerm) {
-    let catalog = catalog_in(rt, alloc, case.catalogue);
-    let roll = roll_in(rt, alloc, case.roll);
-    let written = written_again(rt, alloc, &catalog, &roll, case.text.as_bytes());
-    assert!(rt; written.as_slice() == case.text.as_bytes());
+    try_text(rt, alloc, case.catalogue, case.roll, case.text.as_bytes());
+}
+
+// What a row of changes says: what stands there, where, for how many bytes, and the defect.
+fn change_of(row: &str) -> Option<(&str, u64, u64, &str)> {
+    let (_, change) = row.split_once(": ")?;
+    let (change, defect) = change.split_once(" => ")?;
+    let (new, place) = change.split_once(" at ")?;
+    let (from, old) = place.split_once(" for ")?;
+    let from = read_number(from.as_bytes(), 400)?;
+    let old = read_number(old.as_bytes(), 400)?;
+    Some((new, from, old, defect))
 }
 
 // The text of the ordinary term, changed.
-fn with_change(rt: &impl Abort, alloc: Global, change: &Change) -> Result<Vec<u8>, Fail> {
-    let (from, old, new, ..) = *change;
+fn with_change(alloc: Global, new: &str, from: u64, old: u64) -> Result<Vec<u8>, Fail> {
     let base = ORDINARY_TERM.text.as_bytes();
-    assert!(rt; from < 10_000);
-    assert!(rt; old < 10_000);
-    let behind = from + old;
-    assert!(rt; behind <= base.len());
-    let mut text = Vec::new(alloc);
-    text.extend_from_slice(&base[..from])?;
-    text.extend_from_slice(new)?;
-    text.extend_from_slice(&base[behind..])?;
+    let behind = from.saturating_add(old);
+    let (Some(front), Some(rest)) = (base.get(..from as usize), base.get(behind as usize..)) else {
+        return Err(Fail::from("a place behind the text"));
+    };
+    let new = new.replace(alloc, "|", "\n")?;
+    let mut text = front.to_vec(alloc)?;
+    text.extend_from_slice(new.as_bytes())?;
+    text.extend_from_slice(rest)?;
     Ok(text)
 }
 
-// The changed text has this defect.
-fn try_change(rt: &impl Abort, alloc: Global, change: &Change) -> Result<(), Fail> {
-    let (_, _, _, line, kind) = *change;
-    let text = with_change(rt, alloc, change)?;
-    match read(rt, alloc, &ORDINARY_TERM, &text) {
-        Ok(_) => assert!(rt; false),
-        Err(refusal) => assert_eq!(rt; refusal, TextRefusal::Defect { line, kind }),
+// What is told of a text of the ordinary term.
+fn told(rt: &impl Abort, alloc: Global, text: &[u8]) -> Result<String, Fail> {
+    match read(rt, alloc, &ORDINARY_TERM, text) {
+        Err(TextRefusal::Defect { line, kind }) => Ok(format!(in alloc; "{line} {kind:?}")?),
+        _ => Ok(String::from_str(alloc, "no defect")?),
     }
+}
+
+// The changed text has this defect.
+fn try_change(rt: &impl Abort, alloc: Global, row: &str) -> Result<(), Fail> {
+    let Some((new, from, old, defect)) = change_of(row) else {
+        return Err(Fail::from("no change"));
+    };
+    let text = with_change(alloc, new, from, old)?;
+    let told = told(rt, alloc, &text)?;
+    assert_eq!(rt; told.as_str(), defect, "{row}");
     Ok(())
 }
 
 #[test]
 fn a_published_text_is_read_and_written_again(rt: HostRuntime) {
     let cases = [
-        AFTERMARKET_SWAPS_IN_LATER_PASSES,
+        SWAPS_MARKET.term,
         CARRIED_TERM,
         NOBODY_TERM,
-        FOUR_TERM,
+        FOUR_MARKET.term,
         NO_SECTIONS_TERM,
         NOTHING_BUT_HEADERS,
         ORDINARY_TERM,
-    ];
-    for case in cases.iter() {
-        try_case(&rt, rt.alloc(), case);
-    }
-    let cases = [
-        PART_TERMS_MAKE_VERSION_TWO,
-        TIES_OF_EXCESS_RAISE_THE_LOWEST_ORDINAL,
+        TIES_MARKET.term,
     ];
     for case in cases.iter() {
         try_case(&rt, rt.alloc(), case);
     }
 }
 
+// Part terms make version two.
+#[test]
+fn part_terms_make_version_two(rt: HostRuntime) -> Result<(), Fail> {
+    let term = EQUAL_TERM;
+    let text = term
+        .text
+        .replace(rt.alloc(), "course-match 1", "course-match 2")?;
+    let catalogue = b"section,course,seats,credits,meetings,parts\nX,XX,1,1,,12\n";
+    try_text(&rt, rt.alloc(), catalogue, term.roll, text.as_bytes());
+    Ok(())
+}
+
 #[test]
 fn the_first_defect_is_told(rt: HostRuntime) -> Result<(), Fail> {
-    for change in FIRST_CHANGES.iter() {
-        try_change(&rt, rt.alloc(), change)?;
-    }
-    for change in SECOND_CHANGES.iter() {
-        try_change(&rt, rt.alloc(), change)?;
+    for row in CHANGES.lines() {
+        try_change(&rt, rt.alloc(), row)?;
     }
     Ok(())
 }

@@ -1,16 +1,10 @@
 // A worked term and its forged texts, each with the line of its finding.
-ghost use Rattle.market_settings.specs.Settings.{AreInRange};
-
-use crate::readers::{catalog_in, roll_in, settings_in, streams_in};
+use crate::readers::{settings_in, streams_in, tables_in};
 use certificate_checker::{CheckEnd, check, finding_line};
-use course_catalog::Catalog;
-use market_settings::Settings;
 use market_units::read_number;
 use std::alloc::Global;
 use std::process::Abort;
 use std::test::Fail;
-use student_roll::Roll;
-use utility_language::Command;
 use worked_terms::{FOUR_MARKET, ORDINARY_MARKET, WorkedMarket};
 
 // The number of a line, what stands there instead, or nothing where the line is left out, and what
@@ -52,40 +46,24 @@ fn with_line(alloc: Global, text: &str, number: u64, with: &str) -> Result<Strin
 }
 
 // The line of the first finding on a text of this market, or none where it is accepted.
-fn judged(
-    rt: &impl Abort,
-    alloc: Global,
-    catalog: &Catalog,
-    roll: &Roll,
-    settings: &Settings,
-    streams: &[Vec<Command>],
-    text: &[u8],
-) -> Result<Vec<u8>, Fail>
-    requires { AreInRange settings.now }
-{
-    assert!(rt; text.len() < 1_000_000);
-    match check(alloc, catalog, roll, settings, streams, text) {
-        Ok(()) => Ok(Vec::new(alloc)),
-        Err(CheckEnd::Found(finding)) => {
-            let line = finding_line(catalog, roll, finding);
-            Ok(line.as_bytes().to_vec(alloc)?)
-        }
-        Err(CheckEnd::NoMemory) => Err(Fail::from("memory")),
-    }
-}
-
-// The same, where the market is one of worked texts.
 fn found(
     rt: &impl Abort,
     alloc: Global,
     market: &WorkedMarket,
     text: &[u8],
 ) -> Result<Vec<u8>, Fail> {
-    let catalog = catalog_in(rt, alloc, market.term.catalogue);
-    let roll = roll_in(rt, alloc, market.term.roll);
+    let (catalog, roll) = tables_in(rt, alloc, market.term.catalogue, market.term.roll);
     let settings = settings_in(rt, alloc, market.settings);
     let streams = streams_in(rt, alloc, market.session);
-    judged(rt, alloc, &catalog, &roll, &settings, &streams, text)
+    assert!(rt; text.len() < 1_000_000);
+    match check(alloc, &catalog, &roll, &settings, &streams, text) {
+        Ok(()) => Ok(Vec::new(alloc)),
+        Err(CheckEnd::Found(finding)) => {
+            let line = finding_line(&catalog, &roll, finding);
+            Ok(line.as_bytes().to_vec(alloc)?)
+        }
+        Err(CheckEnd::NoMemory) => Err(Fail::from("memory")),
+    }
 }
 
 // The text where a line of this number is another one, or left out, has this finding.

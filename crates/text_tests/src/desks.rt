@@ -5,7 +5,7 @@ ghost use Rattle.market_settings.specs.Settings.{AreInRange};
 ghost use Rattle.preference_desk.specs.DeskView.{entries_of, names_of};
 ghost use Rattle.published_parts.specs.Markets.{market_of, names_in};
 
-use crate::readers::{catalog_in, commands_in, roll_in, settings_in};
+use crate::readers::{commands_in, settings_in, tables_in};
 use course_catalog::Catalog;
 use market_maker::make;
 use market_settings::Settings;
@@ -56,8 +56,7 @@ pub fn market_said(
         ≡ names_in (market_of result.catalog result.roll result.settings) }
     ensures settings { AreInRange result.settings }
 {
-    let catalog = catalog_in(rt, alloc, texts.0);
-    let roll = roll_in(rt, alloc, texts.1);
+    let (catalog, roll) = tables_in(rt, alloc, texts.0, texts.1);
     let settings = settings_in(rt, alloc, texts.2);
     let mut desk = Desk::prepare(alloc, &catalog, &roll, 200).expect(rt, "memory");
     say_each(rt, &mut desk, first.0, &commands_in(rt, alloc, first.1));

@@ -1,6 +1,6 @@
 // Made markets, as their texts are read.
 use course_catalog::Catalog;
-use made_run::{MadeMarket, make_market};
+use made_run::{MadeMarket, Numbers, make_market};
 use market_settings::Settings;
 use market_units::{Name, SectionNo, StudentNo, read_name};
 use std::process::Abort;
@@ -88,10 +88,24 @@ fn are_commands_of_two(rt: &impl Abort, streams: &[Vec<Command>]) {
     assert_eq!(rt; even.as_slice(), second.as_slice());
 }
 
+const TWO_AND_TWO: Numbers = Numbers {
+    seed: 7,
+    students: 2,
+    sections: 2,
+    accept: 0,
+};
+
+const GREATEST: Numbers = Numbers {
+    seed: u64::MAX,
+    students: 2_000,
+    sections: 400,
+    accept: 1_000_000_000_000,
+};
+
 // Two students and two sections of one course.
 #[test]
 fn two_students_two_sections(rt: HostRuntime) -> Result<(), Fail> {
-    let made = make_market(rt.alloc(), 7, 2, 2, 0)?;
+    let made = make_market(rt.alloc(), TWO_AND_TWO)?;
     is_catalog_of_two(&rt, &made.catalog);
     has_credits_of_two(&rt, &made.catalog);
     is_roll_of_two(&rt, &made.roll);
@@ -113,7 +127,7 @@ fn has_sizes(rt: &impl Abort, made: &MadeMarket, rows: [u16; 2], commands: usize
 // The greatest market: each of 2,000 students rates 20 sections and has one adjustment.
 #[test]
 fn greatest_market(rt: HostRuntime) -> Result<(), Fail> {
-    let made = make_market(rt.alloc(), u64::MAX, 2_000, 400, 1_000_000_000_000)?;
+    let made = make_market(rt.alloc(), GREATEST)?;
     has_sizes(&rt, &made, [400, 2_000], 21_000);
     let wanted = [u64::MAX, 1_000_000_000_000];
     assert_eq!(rt; [made.settings.seed, made.settings.accept], wanted);

@@ -1,7 +1,7 @@
 // Made markets that are run. The summaries are worked examples that were computed apart from this
 // program.
 use crate::summaries::TWO_STUDENTS;
-use made_run::made_summary;
+use made_run::{Numbers, made_summary};
 use market_edge::OpenGate;
 use published_market::PublishEnd;
 use std::alloc::Global;
@@ -20,9 +20,13 @@ fn summary_by<R: Abort + Threads + Wait + Sync>(
     assert!(rt; students >= 1 && students <= 2000);
     assert!(rt; sections >= 1 && sections <= 400);
     assert!(rt; accept <= 1_000_000_000_000);
-    match made_summary(
-        rt, alloc, workers, seed, students, sections, accept, &OpenGate,
-    ) {
+    let numbers = Numbers {
+        seed,
+        students,
+        sections,
+        accept,
+    };
+    match made_summary(rt, alloc, workers, numbers, &OpenGate) {
         Ok(text) => Ok(text),
         Err(PublishEnd::NoPrices { least }) => Err(least),
         Err(PublishEnd::NoMemory) => panic!(rt; "memory"),

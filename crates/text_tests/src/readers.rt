@@ -14,10 +14,11 @@ pub fn catalog_in(rt: &impl Abort, alloc: Global, text: &[u8]) -> Catalog {
     read_catalog(alloc, text).expect(rt, "a catalogue")
 }
 
-/// The roll that this text is; the test fails where it is none.
-pub fn roll_in(rt: &impl Abort, alloc: Global, text: &[u8]) -> Roll {
-    assert!(rt; text.len() < 10_000);
-    read_roll(alloc, text).expect(rt, "a roll")
+/// The catalogue and the roll that these texts are; the test fails where one is none.
+pub fn tables_in(rt: &impl Abort, alloc: Global, catalogue: &[u8], roll: &[u8]) -> (Catalog, Roll) {
+    assert!(rt; roll.len() < 10_000);
+    let catalog = catalog_in(rt, alloc, catalogue);
+    (catalog, read_roll(alloc, roll).expect(rt, "a roll"))
 }
 
 /// The settings that this text is; the test fails where it is none.

@@ -7,15 +7,16 @@ ghost use Rattle.published_parts.specs.Markets.{market_of, names_in};
 use crate::desks::{Said, has_sessions, market_said, two_students};
 use crate::summaries::TWO_STUDENTS;
 use market_edge::OpenGate;
-use market_run::{made_summary, published_text};
+use market_run::{MarketDesk, made_summary, published_text};
 use market_units::MAX_WORKERS;
 use published_market::PublishEnd;
+use published_parts::Market;
 use std::alloc::Global;
 use std::process::Abort;
 use std::sync::Wait;
 use std::test::Fail;
 use std::thread::Threads;
-use worked_terms::{ACCEPT_8, ACCEPT_9, FOUR_TERM};
+use worked_terms::{ACCEPT_8, ACCEPT_9, FOUR_FIRST_TWO, FOUR_LAST_TWO, FOUR_MARKET};
 
 // What these workers publish after the desk's journal, or the least error.
 fn text_by<R: Abort + Threads + Wait + Sync>(
@@ -36,7 +37,13 @@ fn text_by<R: Abort + Threads + Wait + Sync>(
         desk,
     } = market;
     assert!(rt; has_sessions(desk));
-    match published_text(rt, alloc, workers, catalog, roll, settings, desk, &OpenGate) {
+    let market = Market {
+        catalog,
+        roll,
+        settings,
+    };
+    let heard = MarketDesk { market, desk };
+    match published_text(rt, alloc, workers, &heard, &OpenGate) {
         Ok(text) => Ok(text),
         Err(PublishEnd::NoPrices { least }) => Err(least),
         Err(PublishEnd::NoMemory) => panic!(rt; "memory"),
@@ -53,10 +60,8 @@ fn four_by<R: Abort + Threads + Wait + Sync>(
 ) -> Result<Vec<u8>, u64>
     requires { (1 ≤ workers) × (workers ≤ MAX_WORKERS) }
 {
-    let texts = (FOUR_TERM.catalogue, FOUR_TERM.roll, settings);
-    let first = b"rate s1 X 50\nrate s2 X 50\n";
-    let second = b"rate s3 X 50\nrate s4 X 50\n";
-    let market = market_said(rt, alloc, texts, (2, second), (1, first));
+    let texts = (FOUR_MARKET.term.catalogue, FOUR_MARKET.term.roll, settings);
+    let market = market_said(rt, alloc, texts, (2, FOUR_LAST_TWO), (1, FOUR_FIRST_TWO));
     text_by(rt, alloc, workers, &market)
 }
 
@@ -71,18 +76,24 @@ fn two_by<R: Abort + Threads + Wait + Sync>(rt: &R, alloc: Global, workers: u16)
         desk,
     } = &two_students(rt, alloc);
     assert!(rt; has_sessions(desk));
-    made_summary(rt, alloc, workers, catalog, roll, settings, desk, &OpenGate).expect(rt, "prices")
+    let market = Market {
+        catalog,
+        roll,
+        settings,
+    };
+    let heard = MarketDesk { market, desk };
+    made_summary(rt, alloc, workers, &heard, &OpenGate).expect(rt, "prices")
 }
 
-const FOUR_IN_TWO_SESSIONS: &[u8] =
-    b"course-match 1\norder 2 2 1 1\nbudget s1 100\nbudget s2 101\nbudget s3 102\nbudget s4 103\nstart X 0\nerror 9\nprice X 103\nbundle s1 [] -*\nbundle s2 [] -*\nbundle s3 [] -*\nbundle s4 [X] +*n\nturn 1 s4 [X] +*n\nturn 1 s3 [] -*\nturn 1 s2 [] -*\nturn 1 s1 [] -*\nfinal s1 []\nfinal s2 []\nfinal s3 []\nfinal s4 [X]\nused X 1 1\nend\n";
-
 #[test]
-fn four_students_of_one_seat_in_two_sessions(rt: HostRuntime) {
-    let by_one = four_by(&rt, rt.alloc(), 1, ACCEPT_9).expect(&rt, "prices");
-    assert_eq!(rt; by_one.as_slice(), FOUR_IN_TWO_SESSIONS);
-    let by_three = four_by(&rt, rt.alloc(), 3, ACCEPT_9).expect(&rt, "prices");
-    assert_eq!(rt; by_three.as_slice(), FOUR_IN_TWO_SESSIONS);
+fn four_students_of_one_seat_in_two_sessions(rt: HostRuntime) -> Result<(), Fail> {
+    let text = FOUR_MARKET.term.text;
+    let wanted = text.replace(rt.alloc(), "order 1 1 1 1", "order 2 2 1 1")?;
+    for workers in [1, 3] {
+        let told = four_by(&rt, rt.alloc(), workers, ACCEPT_9).expect(&rt, "prices");
+        assert_eq!(rt; told.as_slice(), wanted.as_bytes(), "{workers} workers");
+    }
+    Ok(())
 }
 
 #[test]
@@ -94,8 +105,8 @@ fn an_error_that_is_not_accepted(rt: HostRuntime) -> Result<(), Fail> {
 
 #[test]
 fn two_students_and_two_sections(rt: HostRuntime) {
-    let by_one = two_by(&rt, rt.alloc(), 1);
-    assert_eq!(rt; by_one.as_slice(), TWO_STUDENTS);
-    let by_two = two_by(&rt, rt.alloc(), 2);
-    assert_eq!(rt; by_two.as_slice(), TWO_STUDENTS);
+    for workers in [1, 2] {
+        let told = two_by(&rt, rt.alloc(), workers);
+        assert_eq!(rt; told.as_slice(), TWO_STUDENTS, "{workers} workers");
+    }
 }

@@ -2,22 +2,20 @@
 // program.
 ghost use Rattle.std.specs.Prelude.{◌≡◌};
 ghost use Rattle.std.specs.Arc.{arc_value};
-ghost use Rattle.market_settings.specs.Settings.{AreInRange};
 ghost use Rattle.preference_desk.specs.DeskView.{names_of};
-ghost use Rattle.published_parts.specs.Markets.{market_of, names_in};
+ghost use Rattle.published_parts.specs.Markets.{names_in};
+ghost use Rattle.published_parts.specs.Views.{market_in};
 
 use crate::desks::{Said, two_students};
-use course_catalog::Catalog;
 use demand_api::PlainDemands;
 use market_run::summary_text;
-use market_settings::Settings;
 use preference_desk::Desk;
-use published_market::{are_sessions, crowd_after, publish};
+use published_market::{Writers, are_sessions, crowd_after, publish};
+use published_parts::Market;
 use std::alloc::Global;
 use std::process::Abort;
 use std::sync::{Arc, Wait};
 use std::thread::Threads;
-use student_roll::Roll;
 
 /// The summary of the market of two students and two sections, which was computed apart from this
 /// program.
@@ -28,26 +26,21 @@ pub const TWO_STUDENTS: &[u8] =
 fn summary_of<R: Abort + Threads + Wait + Sync>(
     rt: &R,
     alloc: Global,
-    catalog: &Catalog,
-    roll: &Roll,
-    settings: &Settings,
+    market: &Market,
     desk: &Desk,
 ) -> Vec<u8>
-    requires names { names_of desk.now ≡ names_in (market_of catalog.now roll.now settings.now) }
-    requires settings { AreInRange settings.now }
+    requires { names_of desk.now ≡ names_in (market_in market.now) }
 {
     let journal = desk.journal();
     assert!(rt; are_sessions(journal));
-    let crowd = crowd_after(alloc, catalog, roll, settings, desk).expect(rt, "memory");
+    let crowd = crowd_after(alloc, market, desk).expect(rt, "memory");
     let crowd = Arc::new(alloc, crowd).expect(rt, "memory");
     let mut demands = PlainDemands::make(crowd.clone().expect(rt, "memory"));
     let published = publish(
         rt,
         alloc,
-        1,
-        catalog,
-        roll,
-        settings,
+        Writers::of(1),
+        market,
         journal,
         &crowd,
         &mut demands,
@@ -64,6 +57,11 @@ fn two_students_and_two_sections(rt: HostRuntime) {
         settings,
         desk,
     } = &two_students(&rt, rt.alloc());
-    let text = summary_of(&rt, rt.alloc(), catalog, roll, settings, desk);
+    let market = Market {
+        catalog,
+        roll,
+        settings,
+    };
+    let text = summary_of(&rt, rt.alloc(), &market, desk);
     assert_eq!(rt; text.as_slice(), TWO_STUDENTS);
 }

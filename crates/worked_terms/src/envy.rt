@@ -66,3 +66,14 @@ final v 0 1 1
 sees u [A,B] beyond one
 final total 0 1 1
 ";
+
+/// The audit where a student sees only what it rates.
+pub const USEFUL_ENVY: &str = "settled u 0 0 0
+settled v 0 1 0
+sees u [B] but for B
+settled total 0 1 0
+final u 0 0 0
+final v 0 1 0
+sees u [B] but for B
+final total 0 1 0
+";

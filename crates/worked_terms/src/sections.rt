@@ -1,4 +1,4 @@
-// Terms of other catalogues: one with nobody, and two of several sections with two students.
+// Terms of other catalogues: one with nobody, and those of several sections with two students.
 
 use crate::{ACCEPT_0, ACCEPT_99, WorkedMarket, WorkedTerm};
 
@@ -28,6 +28,14 @@ pub const NOBODY_CATALOGUE: &[u8] = b"section,course,seats,credits,meetings\nA,A
 
 /// A roll with no student.
 pub const NOBODY_ROLL: &[u8] = b"student,budget,credits,courses\n";
+
+/// Two sections of one seat.
+pub const TWO_SECTIONS_CATALOGUE: &[u8] =
+    b"section,course,seats,credits,meetings\nA,AA,1,1,\nB,BB,1,1,\n";
+
+/// Three sections of one seat.
+pub const THREE_SECTIONS_CATALOGUE: &[u8] =
+    b"section,course,seats,credits,meetings\nA,AA,1,1,\nB,BB,1,1,\nC,CC,1,1,\n";
 
 /// Credits and courses that do not suffice.
 pub const TIGHT_MARKET: WorkedMarket = WorkedMarket {
@@ -75,7 +83,7 @@ rate bob B 9
 /// Without either of two sections of equal rating the other is still better than nothing.
 pub const BEYOND_ONE_MARKET: WorkedMarket = WorkedMarket {
     term: WorkedTerm {
-        catalogue: b"section,course,seats,credits,meetings\nA,AA,1,1,\nB,BB,1,1,\nC,CC,1,1,\n",
+        catalogue: THREE_SECTIONS_CATALOGUE,
         roll: b"student,budget,credits,courses\nu,300,10,3\nv,100,10,3\n",
         text: "course-match 1
 order 1 1 1 1 1
@@ -102,4 +110,33 @@ end
     },
     settings: ACCEPT_99,
     session: b"rate u A 50\nrate u B 50\nrate v A 50\nrate v B 50\nrate u C 10\n",
+};
+
+/// Of two sections that a student has another one rates the second alone.
+pub const USEFUL_MARKET: WorkedMarket = WorkedMarket {
+    term: WorkedTerm {
+        catalogue: TWO_SECTIONS_CATALOGUE,
+        roll: b"student,budget,credits,courses\nu,300,10,2\nv,100,10,2\n",
+        text: "course-match 1
+order 1 1 1
+budget u 300
+budget v 100
+start A 0
+start B 0
+error 1
+price A 0
+price B 101
+bundle u [A,B] ++*nn
+bundle v [] -*
+turn 1 u [A,B] ++*nn
+turn 1 v [] -*
+final u [A,B]
+final v []
+used A 1 1
+used B 1 1
+end
+",
+    },
+    settings: ACCEPT_99,
+    session: b"rate u A 50\nrate u B 50\nrate v B 50\n",
 };

@@ -21,3 +21,14 @@ pub struct WorkedMarket {
     /// The lines of the session.
     pub session: &'static [u8],
 }
+
+/// A hall that opens with a term: the requests of its one session, and what is told of them.
+#[derive(Clone, Copy)]
+pub struct WorkedHall {
+    /// The catalogue, the roll and the published text.
+    pub term: WorkedTerm,
+    /// The lines of the session.
+    pub requests: &'static [u8],
+    /// What is told.
+    pub told: &'static str,
+}

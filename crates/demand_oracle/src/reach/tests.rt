@@ -59,27 +59,28 @@ fn champion_of(menu: &Menu, prices: &[Tokens], first: bool, second: bool) -> Sum
 {
     let root = SummedNode::root();
     match (first, second) {
-        (true, true) => root.with_next(menu, prices).with_next(menu, prices),
-        (true, false) => root.with_next(menu, prices),
-        (false, true) => root.without_next().with_next(menu, prices),
+        (true, true) => root.with_place(menu, prices, 0).with_place(menu, prices, 1),
+        (true, false) => root.with_place(menu, prices, 0),
+        (false, true) => root.with_place(menu, prices, 1),
         (false, false) => root,
     }
 }
 
-// Whether a node is pruned.
+// Whether a node is pruned where the places below this one are decided.
 fn is_pruned(
     reach: &Reach,
     menu: &Menu,
     budget: Tokens,
     summed: &SummedNode,
+    place: u8,
     champion: &SummedNode,
 ) -> bool
     requires summed { (price : ℕ → ℕ) × IsSummed menu.now price summed.now }
-    requires place { summed.now.node.place ≤ length menu.now.places }
+    requires place { place ≤ length menu.now.places }
 {
-    prove!(summed.node.place <= menu.len());
+    prove!(place <= menu.len());
     let column = reach.column(menu, budget, summed);
-    reach.prunes(menu, &column, summed, summed.node.place, champion)
+    reach.prunes(menu, &column, summed, place, champion)
 }
 
 // Whether the nodes at the first place, at the second with the first section, and at the second
@@ -98,12 +99,11 @@ fn prunings<R: Abort>(
     let mut reach = Reach::empty();
     reach.measure(menu, prices, budget, &SectionSet::full(400));
     let root = SummedNode::root();
-    let with_it = root.with_next(menu, prices);
-    let without = root.without_next();
+    let with_it = root.with_place(menu, prices, 0);
     [
-        is_pruned(&reach, menu, budget, &root, &champion),
-        is_pruned(&reach, menu, budget, &with_it, &champion),
-        is_pruned(&reach, menu, budget, &without, &champion),
+        is_pruned(&reach, menu, budget, &root, 0, &champion),
+        is_pruned(&reach, menu, budget, &with_it, 1, &champion),
+        is_pruned(&reach, menu, budget, &root, 1, &champion),
     ]
 }
 

@@ -1,12 +1,24 @@
-// Cases as text. A case begins with `== ` and what it shows; below stand its commands, one a line.
-// Then come its files, each below a line of `-- ` and the file's name, and its lawful answers, each
-// below a line of `=> ` and the number of the status, or the status as it prints itself. A file
-// that does not end in a line feed is followed by the next mark at once. Where a line of a file or
-// of an answer names a text of the shelf too, it is that text, but for the lines that stand below
-// (`changes`). A command may name what stands on the shelf, too.
+// Cases as text. A case begins with `== ` and what it shows; below stand its commands, one a line;
+// one with the word `1,2,16` stands for three, by so many workers. Then come its files, each below a
+// line of `-- ` and the file's name, and its lawful answers, each below a line of `=> ` and the
+// number of the status, or the status as it prints itself. A file that does not end in a line feed
+// is followed by the next mark at once. Where a line of a file or of an answer names a text of the
+// shelf too, it is that text, but for the lines that stand below (`changes`). An answer with the line
+// `order any` is lawful with each order of two sessions with two commands each. A command may name
+// what stands on the shelf, too.
 use super::changes::text_with;
 use super::shelf::text_named;
 use super::*;
+
+// The orders of two sessions with two commands each.
+const ORDERS: [&str; 6] = [
+    "order 1 1 2 2\n",
+    "order 1 2 1 2\n",
+    "order 1 2 2 1\n",
+    "order 2 1 1 2\n",
+    "order 2 1 2 1\n",
+    "order 2 2 1 1\n",
+];
 
 /// Runs each command of each case, and fails where one has none of the answers of its case. The
 /// head of this file tells what a case is made of.
@@ -39,10 +51,7 @@ fn try_case<R: Threads + Wait + Sync + Abort>(
         return Err(Fail::from("a case without a command"));
     }
     for command in commands.split_terminator('\n') {
-        let mut held = named_files(alloc, command)?;
-        put_files(&mut held, alloc, files)?;
-        let answer = run_held(rt, alloc, command, held, (0, 0), ROOM, &OpenGate)?;
-        assert_told(rt, alloc, shows, answers, &answer)?;
+        try_command(rt, alloc, shows, command, files, answers)?;
     }
     Ok(())
 }
@@ -63,6 +72,39 @@ fn first_word(title: &str) -> &str {
         Some((word, _)) => word,
         None => title,
     }
+}
+
+// Runs the command, by each number of workers where it has several.
+fn try_command<R: Threads + Wait + Sync + Abort>(
+    rt: &R,
+    alloc: Global,
+    shows: &str,
+    command: &str,
+    files: &str,
+    answers: &str,
+) -> Result<(), Fail> {
+    let Some((form, inputs)) = command.split_once(" 1,2,16 ") else {
+        return try_line(rt, alloc, shows, command, files, answers);
+    };
+    for workers in [1, 2, 16u8] {
+        let line = format!(in alloc; "{form} {workers} {inputs}")?;
+        try_line(rt, alloc, shows, line.as_str(), files, answers)?;
+    }
+    Ok(())
+}
+
+fn try_line<R: Threads + Wait + Sync + Abort>(
+    rt: &R,
+    alloc: Global,
+    shows: &str,
+    line: &str,
+    files: &str,
+    answers: &str,
+) -> Result<(), Fail> {
+    let mut held = named_files(alloc, line)?;
+    put_files(&mut held, alloc, files)?;
+    let answer = run_held(rt, alloc, line, held, (0, 0), ROOM, &OpenGate)?;
+    assert_told(rt, alloc, shows, answers, &answer)
 }
 
 /// The bytes of a file in a case. Where its line names a text of the shelf behind its own name, it
@@ -104,14 +146,21 @@ pub(super) fn assert_told<R: Abort>(
 
 fn is_told(alloc: Global, answers: &str, answer: &Answer) -> Result<bool, Fail> {
     for told in answers.split("=> ") {
-        let Some((title, text)) = told.split_once('\n') else {
-            return Err(Fail::from("an answer without a text"));
-        };
-        if is_status(alloc, title, &answer.0)? && is_text(alloc, title, text, answer.1.as_str())? {
-            return Ok(true);
+        for order in ORDERS {
+            let told = told.replace(alloc, "order any\n", order)?;
+            if is_answer(alloc, told.as_str(), answer)? {
+                return Ok(true);
+            }
         }
     }
     Ok(false)
+}
+
+fn is_answer(alloc: Global, told: &str, answer: &Answer) -> Result<bool, Fail> {
+    let Some((title, text)) = told.split_once('\n') else {
+        return Err(Fail::from("an answer without a text"));
+    };
+    Ok(is_status(alloc, title, &answer.0)? && is_text(alloc, title, text, answer.1.as_str())?)
 }
 
 // Whether the line begins with the number of the status, or is the status as it prints itself.

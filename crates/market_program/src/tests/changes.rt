@@ -3,6 +3,7 @@ use super::*;
 
 /// The text with these changes, one a line: the number of a line, from 1, and what stands in its
 /// place, or nothing where the line is left out. More lines than one may stand in the place of one.
+/// Behind a number and `+` is what stands below that line.
 pub(super) fn text_with(alloc: Global, text: &[u8], changes: &str) -> Result<Vec<u8>, Fail> {
     let mut made = Vec::new(alloc);
     for (place, line) in text.split(|byte| *byte == b'\n').enumerate() {
@@ -12,7 +13,7 @@ pub(super) fn text_with(alloc: Global, text: &[u8], changes: &str) -> Result<Vec
     Ok(made)
 }
 
-// Puts the line of this number, or what stands in its place.
+// Puts the line of this number, or what stands in its place, and what stands below it.
 fn put_changed(made: &mut Vec<u8>, line: &[u8], number: &str, changes: &str) -> Result<(), Fail> {
     let mut is_changed = false;
     for change in changes.split_terminator('\n') {
@@ -25,6 +26,17 @@ fn put_changed(made: &mut Vec<u8>, line: &[u8], number: &str, changes: &str) -> 
     }
     if !is_changed {
         put_line(made, line)?;
+    }
+    put_below(made, number, changes)
+}
+
+fn put_below(made: &mut Vec<u8>, number: &str, changes: &str) -> Result<(), Fail> {
+    for change in changes.split_terminator('\n') {
+        if let Some(rest) = change.strip_prefix(number)
+            && let Some(below) = rest.strip_prefix("+ ")
+        {
+            put_line(made, below.as_bytes())?;
+        }
     }
     Ok(())
 }

@@ -199,15 +199,9 @@ clear u
 => 8
 finding: student u tree branch at 0
 == two sessions in turn accepted
-check four.cat four.stu four.set TEXT S1 S2
+check four.cat four.stu four.set TEXT FIRST-TWO LAST-TWO
 -- TEXT four.text
 2 order 2 1 2 1
--- S1
-rate s1 X 50
-rate s2 X 50
--- S2
-rate s3 X 50
-rate s4 X 50
 => 0
 accepted
 ";

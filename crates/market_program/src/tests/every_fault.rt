@@ -120,24 +120,13 @@ fn try_faults<R: Threads + Wait + Sync + Abort>(
     try_failing(rt, alloc, line, (next, 0), answer)
 }
 
-// Where the first write fails nothing is written; a second one is not made.
-fn try_writes<R: Threads + Wait + Sync + Abort>(
-    rt: &R,
-    alloc: Global,
-    line: &str,
-    answer: &str,
-) -> Result<(), Fail> {
-    try_failing(rt, alloc, line, (0, 1), "6\n")?;
-    try_failing(rt, alloc, line, (0, 2), answer)
-}
-
 // A sink that has less room than the text takes the first bytes of it.
 fn try_rooms<R: Threads + Wait + Sync + Abort>(
     rt: &R,
     alloc: Global,
-    line: &str,
-    answer: &str,
+    command: &Command,
 ) -> Result<(), Fail> {
+    let (line, _, answer) = command;
     let Some((title, text)) = answer.split_once('\n') else {
         return Err(Fail::from("an answer without a text"));
     };
@@ -164,7 +153,8 @@ fn assert_front<R: Abort>(
     );
 }
 
-// Each call of the shelf and each write of the sink.
+// Each call of the shelf and each write of the sink. Where the first write fails nothing is written;
+// a second one is not made.
 fn try_calls<R: Threads + Wait + Sync + Abort>(
     rt: &R,
     alloc: Global,
@@ -172,7 +162,8 @@ fn try_calls<R: Threads + Wait + Sync + Abort>(
 ) -> Result<(), Fail> {
     for (line, inputs, answer) in commands {
         try_faults(rt, alloc, line, *inputs, answer)?;
-        try_writes(rt, alloc, line, answer)?;
+        try_failing(rt, alloc, line, (0, 1), "6\n")?;
+        try_failing(rt, alloc, line, (0, 2), answer)?;
     }
     Ok(())
 }
@@ -200,8 +191,8 @@ fn try_all_rooms<R: Threads + Wait + Sync + Abort>(
     alloc: Global,
     commands: &[Command],
 ) -> Result<(), Fail> {
-    for (line, _, answer) in commands {
-        try_rooms(rt, alloc, line, answer)?;
+    for command in commands {
+        try_rooms(rt, alloc, command)?;
     }
     Ok(())
 }

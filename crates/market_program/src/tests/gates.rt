@@ -1,8 +1,7 @@
 // Sessions and workers that meet, and how often they pass the gate.
 use super::*;
-use market_edge::{MeetingGate, Passes, Stop};
-use std::sync::atomic::{AtomicU64, Ordering};
-use worked_terms::{FOUR_ENVY, FOUR_TEXT};
+use market_edge::MeetingGate;
+use worked_terms::{FIVE_SECTIONS_HELD, FOUR_ENVY};
 
 // What stands on a shelf, and whoever passes this gate: the text of a command whose work is done.
 fn done_past<R: Threads + Wait + Sync + Abort>(
@@ -18,30 +17,34 @@ fn done_past<R: Threads + Wait + Sync + Abort>(
     Ok(text)
 }
 
-// Whether the entries of the text that begin so are these, in order.
-fn has_entries(text: &str, start: &str, entries: &[&str]) -> bool {
-    let mut rest = entries;
-    for line in text.split('\n') {
-        if line.strip_prefix(start).is_none() {
-            continue;
+// The lines of the text that begin so.
+fn lines_of(alloc: Global, text: &str, start: &str) -> Result<String, Fail> {
+    let mut lines = String::new(alloc);
+    for line in text.split_terminator('\n') {
+        if line.strip_prefix(start).is_some() {
+            lines.push_str(line)?;
+            lines.push_str("\n")?;
         }
-        let [entry, more @ ..] = rest else {
-            return false;
-        };
-        if *entry != line {
-            return false;
-        }
-        rest = more;
     }
-    rest.is_empty()
+    Ok(lines)
 }
 
 // The entries of two sessions, and no entry of a third one, which made no call.
-fn assert_entries<R: Abort>(rt: &R, text: &str, first: &[&str], second: &[&str], end: &str) {
-    assert!(rt; has_entries(text, "entry 1 ", first), "{text}");
-    assert!(rt; has_entries(text, "entry 2 ", second), "{text}");
-    assert!(rt; has_entries(text, "entry 3 ", &[]), "{text}");
+fn assert_entries<R: Abort>(
+    rt: &R,
+    alloc: Global,
+    text: &str,
+    entries: &[&str; 2],
+    end: &str,
+) -> Result<(), Fail> {
+    let first = lines_of(alloc, text, "entry 1 ")?;
+    let second = lines_of(alloc, text, "entry 2 ")?;
+    let third = lines_of(alloc, text, "entry 3 ")?;
+    assert_eq!(rt; first.as_str(), entries[0]);
+    assert_eq!(rt; second.as_str(), entries[1]);
+    assert_eq!(rt; third.as_str(), "");
     assert!(rt; text.ends_with(end), "{text}");
+    Ok(())
 }
 
 // The sessions started and made so many calls, and met; nothing else passed.
@@ -72,15 +75,13 @@ fn try_sessions<R: Threads + Wait + Sync + Abort>(
     alloc: Global,
     line: &str,
     files: &[File],
-    first: &[&str],
-    second: &[&str],
+    entries: &[&str; 2],
     end: &str,
 ) -> Result<(), Fail> {
     let gate = MeetingGate::new();
     let text = done_past(rt, alloc, line, files, &gate)?;
     assert_counts(rt, &gate, CALLS_OF_SESSIONS);
-    assert_entries(rt, text.as_str(), first, second, end);
-    Ok(())
+    assert_entries(rt, alloc, text.as_str(), entries, end)
 }
 
 // The calls of two sessions with two commands each.
@@ -98,17 +99,16 @@ const SESSIONS: [File<'static>; 3] = [
     ("S3", b""),
 ];
 
-const FIRST_ENTRIES: [&str; 4] = [
-    "entry 1 done rate ann A 10",
-    "entry 1 no-student rate zoe A 1",
-    "entry 1 done rate ann A 30",
-    "entry 1 no-section rate ann Q 1",
-];
-
-const SECOND_ENTRIES: [&str; 3] = [
-    "entry 2 done rate bob B 20",
-    "entry 2 unreadable unreadable",
-    "entry 2 done pair bob B A -5",
+const ENTRIES: [&str; 2] = [
+    "entry 1 done rate ann A 10
+entry 1 no-student rate zoe A 1
+entry 1 done rate ann A 30
+entry 1 no-section rate ann Q 1
+",
+    "entry 2 done rate bob B 20
+entry 2 unreadable unreadable
+entry 2 done pair bob B A -5
+",
 ];
 
 const CLOSED: &str = "rate ann A 30\nrate bob B 20\npair bob A B -5\n";
@@ -118,100 +118,43 @@ const CLOSED: &str = "rate ann A 30\nrate bob B 20\npair bob A B -5\n";
 #[test]
 fn two_sessions_post_at_once(rt: HostRuntime) -> Result<(), Fail> {
     let line = "prefer TWO ANN+BOB S1 S2 S3";
-    try_sessions(
-        &rt,
-        rt.alloc(),
-        line,
-        &SESSIONS,
-        &FIRST_ENTRIES,
-        &SECOND_ENTRIES,
-        CLOSED,
-    )
+    try_sessions(&rt, rt.alloc(), line, &SESSIONS, &ENTRIES, CLOSED)
 }
 
-const REQUESTS: [File<'static>; 3] = [
-    ("first", b"drop u A\nadd u D\nadd u E\nadd u Q\n"),
-    ("second", b"add v B\nno request\nadd w C\n"),
-    ("third", b"# nothing\n"),
+const REPLIES: [&str; 2] = [
+    "entry 1 drop u A: dropped 0
+entry 1 add u D: added
+entry 1 add u E: added
+entry 1 add u Q: no-section
+",
+    "entry 2 add v B: added
+entry 2 unreadable: unreadable
+entry 2 add w C: added
+",
 ];
-
-const FIRST_REPLIES: [&str; 4] = [
-    "entry 1 drop u A: dropped 0",
-    "entry 1 add u D: added",
-    "entry 1 add u E: added",
-    "entry 1 add u Q: no-section",
-];
-
-const SECOND_REPLIES: [&str; 3] = [
-    "entry 2 add v B: added",
-    "entry 2 unreadable: unreadable",
-    "entry 2 add w C: added",
-];
-
-const HELD: &str =
-    "final u [D,E]\nfinal v [B]\nfinal w [C]\nused A 0 1\nused B 1 2\nused C 1 9\nused D 1 9\nused E 1 9\n";
 
 // Two sessions of a hall whose calls meet: neither can make all its requests before the other has
 // made one. A third session has no request.
 #[test]
 fn two_sessions_of_a_hall_request_at_once(rt: HostRuntime) -> Result<(), Fail> {
-    let line = "hall five.cat five.stu five.text first second third";
-    try_sessions(
-        &rt,
-        rt.alloc(),
-        line,
-        &REQUESTS,
-        &FIRST_REPLIES,
-        &SECOND_REPLIES,
-        HELD,
-    )
+    let line = "hall five.cat five.stu five.text five.first five.second COMMENT";
+    try_sessions(&rt, rt.alloc(), line, &[], &REPLIES, FIVE_SECTIONS_HELD)
 }
 
-const RATINGS: [File<'static>; 2] = [
-    ("S1", b"rate s1 X 50\nrate s2 X 50\n"),
-    ("S2", b"rate s3 X 50\nrate s4 X 50\n"),
-];
-
-// The orders of two sessions with two commands each.
-const ORDERS: [&str; 6] = [
-    "order 1 1 2 2\n",
-    "order 1 2 1 2\n",
-    "order 1 2 2 1\n",
-    "order 2 1 1 2\n",
-    "order 2 1 2 1\n",
-    "order 2 2 1 1\n",
-];
-
-// Whether a text has a lawful order behind this front, and behind it this end.
-fn is_lawful(text: &str, front: &str, end: &str) -> bool {
-    let Some(rest) = text.strip_prefix(front) else {
-        return false;
-    };
-    for order in ORDERS {
-        if rest.strip_prefix(order) == Some(end) {
-            return true;
-        }
-    }
-    false
-}
-
-const TAKEN: &str =
-    "bundle s1 []\nbundle s2 []\nbundle s3 [X]\nbundle s4 [X]\ncount X 2\nerror 1\n";
-
-// Two sessions meet, and two workers, who made a call for each of four students; each session
-// passes the gate as often as it has commands.
+// Two sessions meet, and two workers, who together made at least so many calls; each session passes
+// the gate as often as it has commands.
 fn try_workers<R: Threads + Wait + Sync + Abort>(
     rt: &R,
     alloc: Global,
     line: &str,
-    front: &str,
-    end: &str,
+    calls: u64,
+    answers: &str,
 ) -> Result<(), Fail> {
     let gate = MeetingGate::new();
-    let text = done_past(rt, alloc, line, &RATINGS, &gate)?;
-    assert!(rt; is_lawful(text.as_str(), front, end), "{text}");
+    let answer = run_by(rt, alloc, line, (0, 0), ROOM, &gate)?;
+    assert_told(rt, alloc, line, answers, &answer)?;
     assert_counts(rt, &gate, CALLS_OF_TWO);
-    assert_workers_met(rt, &gate, 4);
+    assert_workers_met(rt, &gate, calls);
     Ok(())
 }
 
@@ -219,25 +162,15 @@ fn try_workers<R: Threads + Wait + Sync + Abort>(
 // is a task for each student.
 #[test]
 fn two_workers_post_at_once(rt: HostRuntime) -> Result<(), Fail> {
-    let line = "demand 2 four.cat four.stu four.set X=102 S1 S2";
-    try_workers(&rt, rt.alloc(), line, "", TAKEN)
+    let line = "demand 2 four.cat four.stu four.set X=102 FIRST-TWO LAST-TWO";
+    try_workers(&rt, rt.alloc(), line, 4, "0 four.demand\n1 order any\n")
 }
 
-const FRONT: &str = "course-match 1\n";
-
-// What is published of the four students of one seat, behind its order.
-fn end_of_published() -> &'static str {
-    match FOUR_TEXT.strip_prefix("course-match 1\norder 1 1 1 1\n") {
-        Some(end) => end,
-        None => "no such text",
-    }
-}
-
-// In one run sessions meet and workers meet.
+// In one run sessions meet and workers meet. There is a task for each of four students.
 #[test]
 fn sessions_and_workers_of_a_run_post_at_once(rt: HostRuntime) -> Result<(), Fail> {
-    let line = "run 2 four.cat four.stu four.set S1 S2";
-    try_workers(&rt, rt.alloc(), line, FRONT, end_of_published())
+    let line = "run 2 four.cat four.stu four.set FIRST-TWO LAST-TWO";
+    try_workers(&rt, rt.alloc(), line, 4, "0 four.text\n2 order any\n")
 }
 
 // Two workers of an audit whose calls meet: neither can post all rows before the other has posted
@@ -259,47 +192,4 @@ fn assert_rows_posted<R: Abort>(rt: &R, gate: &MeetingGate) {
     assert_eq!(rt; (first_starts, second_starts), (2, 2));
     assert!(rt; of_first > 0 && of_second > 0);
     assert_eq!(rt; of_first.saturating_add(of_second), 8);
-}
-
-// Counts the stops of two sessions and of all workers, and lets each pass.
-#[derive(Drop)]
-struct CountingGate {
-    first: Passes,
-    second: Passes,
-    workers: Passes,
-    others: AtomicU64,
-}
-
-impl Gate for CountingGate {
-    fn pass(&self, stop: Stop) {
-        match stop {
-            Stop::SessionStart(1) => self.first.count_start(),
-            Stop::SessionStart(2) => self.second.count_start(),
-            Stop::SessionCall(1) => self.first.count_call(),
-            Stop::SessionCall(2) => self.second.count_call(),
-            Stop::WorkerStart(_) => self.workers.count_start(),
-            Stop::WorkerCall(_) => self.workers.count_call(),
-            _ => {
-                self.others.fetch_add(1, Ordering::SeqCst);
-            }
-        }
-    }
-}
-
-// The sessions and the workers of a made market pass the gate too: each student rates two sections
-// and pairs them.
-#[test]
-fn a_made_market_passes_the_gate(rt: HostRuntime) -> Result<(), Fail> {
-    let gate = CountingGate {
-        first: Passes::none(),
-        second: Passes::none(),
-        workers: Passes::none(),
-        others: AtomicU64::new(0),
-    };
-    let _text = done_past(&rt, rt.alloc(), "make 2 7 2 2 0", &[], &gate)?;
-    let (_, calls) = gate.workers.counts();
-    assert_eq!(rt; [gate.first.counts(), gate.second.counts()], [(1, 3); 2]);
-    assert!(rt; calls >= 2);
-    assert_eq!(rt; gate.others.load(Ordering::SeqCst), 0);
-    Ok(())
 }

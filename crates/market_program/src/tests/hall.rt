@@ -3,82 +3,11 @@ use super::*;
 
 const HALLS: &str = "\
 == dropped seat goes to the first waiting
-hall equal.cat equal.stu equal.text first
--- first
-add v X
-drop u X
-add u X
-drop v X
-=> 0
-entry 1 add v X: queued 0
-entry 1 drop u X: dropped 0 to v
-entry 1 add u X: queued 0
-entry 1 drop v X: dropped 0 to u
-final u [X]
-final v []
-used X 1 1
+hall equal.cat equal.stu equal.text dropped.requests
+=> 0 dropped.told
 == every reply
-hall five.cat five.stu five.text first
--- first
-drop
-add z Q
-add u Q
-leave z A
-add u A
-add u B
-add u C
-add u D
-add u E
-add v A
-add v A
-add w A
-leave w B
-drop v B
-drop u A
-add u A
-drop v A
-leave w A
-leave u A
-add w D
-add w E
-add w B
-drop w D
-add w C #
-add w C
-=> 0
-entry 1 unreadable: unreadable
-entry 1 add z Q: no-student
-entry 1 add u Q: no-section
-entry 1 leave z A: no-student
-entry 1 add u A: holding
-entry 1 add u B: clash A
-entry 1 add u C: credits
-entry 1 add u D: added
-entry 1 add u E: courses
-entry 1 add v A: queued 0
-entry 1 add v A: waiting
-entry 1 add w A: queued 1
-entry 1 leave w B: not-waiting
-entry 1 drop v B: not-holding
-entry 1 drop u A: dropped 0 to v
-entry 1 add u A: queued 1
-entry 1 drop v A: dropped 0 to w
-entry 1 leave w A: not-waiting
-entry 1 leave u A: left
-entry 1 add w D: added
-entry 1 add w E: courses
-entry 1 add w B: clash A
-entry 1 drop w D: dropped 0
-entry 1 unreadable: unreadable
-entry 1 add w C: credits
-final u [D]
-final v []
-final w [A]
-used A 1 1
-used B 0 2
-used C 0 9
-used D 1 9
-used E 0 9
+hall five.cat five.stu five.text each.requests
+=> 0 each.told
 == no requests
 hall equal.cat equal.stu equal.text EMPTY
 => 0
@@ -163,35 +92,14 @@ used A 1 1
 used B 2 9
 used C 0 9
 == waiting list is printed
-hall five.cat five.stu five.text first
--- first
-add v A
-add w A
-=> 0
-entry 1 add v A: queued 0
-entry 1 add w A: queued 1
-final u [A]
-final v []
-final w []
-wait A v w
-used A 1 1
-used B 0 2
-used C 0 9
-used D 0 9
-used E 0 9
+hall five.cat five.stu five.text waiting.requests
+=> 0 waiting.told
 == waiting student lapses
-hall CAT equal.stu TEXT first
--- CAT
-section,course,seats,credits,meetings
-X,XX,1,1,
-Y,YY,2,1,
+hall X+Y equal.stu TEXT first
 -- TEXT equal.text
-5 start X 0
-5 start Y 0
-7 price X 101
-7 price Y 0
-16 used X 1 1
-16 used Y 0 2
+5+ start Y 0
+7+ price Y 0
+16+ used Y 0 2
 -- first
 add v X
 add v Y
@@ -209,23 +117,16 @@ final v [Y]
 used X 1 1
 used Y 1 2
 == the last seat goes to the first to ask
-hall CAT equal.stu TEXT first second
--- CAT
-section,course,seats,credits,meetings
-X,XX,1,1,
-Y,YY,2,1,
--- TEXT equal.text
-5 start X 0
-5 start Y 0
-7 price X 101
-7 price Y 0
-16 used X 1 1
-16 used Y 0 2
+hall X+Y equal.stu TEXT first second
 -- first
 drop u X
 add u X
 -- second
 add v X
+-- TEXT equal.text
+5+ start Y 0
+7+ price Y 0
+16+ used Y 0 2
 => 0
 entry 1 drop u X: dropped 0
 entry 1 add u X: added
@@ -235,24 +136,10 @@ final v []
 wait X v
 used X 1 1
 used Y 0 2
-=> 0
-entry 1 drop u X: dropped 0
-entry 2 add v X: added
-entry 1 add u X: queued 0
-final u []
-final v [X]
-wait X u
-used X 1 1
-used Y 0 2
-=> 0
-entry 2 add v X: queued 0
-entry 1 drop u X: dropped 0 to v
-entry 1 add u X: queued 0
-final u []
-final v [X]
-wait X u
-used X 1 1
-used Y 0 2
+=> 0 last.told
+=> 0 last.told
+1 entry 2 add v X: queued 0
+2 entry 1 drop u X: dropped 0 to v
 ";
 
 // Texts with which no hall opens.

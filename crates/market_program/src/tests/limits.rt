@@ -1,141 +1,73 @@
 // Inputs at their limits, and one beyond.
 use super::*;
+use market_units::read_number;
 
-// A text, and behind it a row for each number from the first to before the last: the head, and each
-// of the pieces behind the number.
-type Part = (
-    &'static str,
-    (u32, u32),
-    &'static str,
-    &'static [&'static str],
-);
-
-// Cases that consist of such parts.
-fn made_of(alloc: Global, parts: &[Part]) -> Result<String, Fail> {
+// In these cases a line as `0..400 S#,C#,1,1,` stands for one with each number from the first to
+// before the last.
+fn with_rows(alloc: Global, cases: &str) -> Result<String, Fail> {
     let mut text = String::new(alloc);
-    for (start, numbers, head, pieces) in parts {
-        text.push_str(start)?;
-        put_rows(&mut text, alloc, *numbers, head, pieces)?;
+    for line in cases.split_terminator('\n') {
+        put_rows(&mut text, alloc, line)?;
     }
     Ok(text)
 }
 
-fn put_rows(
-    text: &mut String,
-    alloc: Global,
-    numbers: (u32, u32),
-    head: &str,
-    pieces: &[&str],
-) -> Result<(), Fail> {
-    for number in numbers.0..numbers.1 {
+fn put_rows(text: &mut String, alloc: Global, line: &str) -> Result<(), Fail> {
+    let Some((first, last, row)) = rows_of(line) else {
+        return put_row(text, line);
+    };
+    for number in first..last {
         let digits = format!(in alloc; "{number}")?;
-        text.push_str(head)?;
-        put_pieces(text, digits.as_str(), pieces)?;
+        let row = row.replace(alloc, "#", digits.as_str())?;
+        put_row(text, row.as_str())?;
     }
     Ok(())
 }
 
-fn put_pieces(text: &mut String, digits: &str, pieces: &[&str]) -> Result<(), Fail> {
-    for piece in pieces {
-        text.push_str(digits)?;
-        text.push_str(piece)?;
-    }
+fn put_row(text: &mut String, row: &str) -> Result<(), Fail> {
+    text.push_str(row)?;
+    text.push_str("\n")?;
     Ok(())
 }
 
-const SECTIONS: [Part; 3] = [
-    (
-        "== four hundred sections
-quote CAT S1 ann 10 8
+// The two numbers of a line that stands for several, and what each is but for its number.
+fn rows_of(line: &str) -> Option<(u64, u64, &str)> {
+    let (first, rest) = line.split_once("..")?;
+    let (last, row) = rest.split_once(' ')?;
+    let first = read_number(first.as_bytes(), 9_999)?;
+    let last = read_number(last.as_bytes(), 9_999)?;
+    Some((first, last, row))
+}
+
+// A crowd of one student that takes the last section: each section is told with its own count.
+const COUNTS: &str = "\
+== counts of four hundred sections
+demand 1 CAT ANN ACCEPT0 PRICES S1
 -- CAT
 section,course,seats,credits,meetings
-",
-        (0, 400),
-        "S",
-        &[",C", ",1,1,\n"],
-    ),
-    (
-        "-- S1
-rate ann S399 7
-rate ann S400 8
-=> 0
-bundle ann [S399]
-utility 7
-== one more
-quote CAT S1 ann 10 8
--- CAT
-section,course,seats,credits,meetings
-",
-        (0, 400),
-        "S",
-        &[",C", ",1,1,\n"],
-    ),
-    (
-        "S0
+0..400 S#,C#,1,1,
+-- PRICES
+section,price
 -- S1
 rate ann S399 7
-rate ann S400 8
-=> 3
-input 1 row 402: too many rows
-",
-        (0, 0),
-        "",
-        &[],
-    ),
-];
-
-const STUDENTS: [Part; 3] = [
-    (
-        "== two thousand students
-prefer TWO STU S1
--- STU
-student,budget,credits,courses
-",
-        (0, 2000),
-        "t",
-        &[",900000,800,8\n"],
-    ),
-    (
-        "-- S1
-rate t1999 B 100
 => 0
-entry 1 done rate t1999 B 100
-rate t1999 B 100
-== one more
-prefer TWO STU NONE
--- STU
-student,budget,credits,courses
-",
-        (0, 2000),
-        "t",
-        &[",900000,800,8\n"],
-    ),
-    (
-        "t2000,1,1,1
-=> 3
-input 2 row 2002: too many rows
-",
-        (0, 0),
-        "",
-        &[],
-    ),
-];
+order 1
+bundle ann [S399]
+0..399 count S# 0
+count S399 1
+error 0
+";
 
 // A student rates at most sixty sections; one that goes makes room for another.
-const RATINGS: [Part; 5] = [
-    (
-        "== sixty rated sections
+const RATINGS: &str = "\
+== sixty rated sections
 prefer CAT ANN S1
 -- CAT
 section,course,seats,credits,meetings
-",
-        (1, 62),
-        "X",
-        &[",K", ",1,1,\n"],
-    ),
-    ("-- S1\n", (1, 61), "rate ann X", &[" 1\n"]),
-    (
-        "rate ann X61 1
+1..62 X#,K#,1,1,
+-- S1
+1..61 rate ann X# 1
+rate ann X61 1
 rate ann X1 2
 rate ann X1 0
 rate ann X61 3
@@ -146,13 +78,8 @@ pair ann X2 X2 5
 rate ann X2 101
 pair ann X2 X3 201
 => 0
-",
-        (1, 61),
-        "entry 1 done rate ann X",
-        &[" 1\n"],
-    ),
-    (
-        "entry 1 too-many rate ann X61 1
+1..61 entry 1 done rate ann X# 1
+entry 1 too-many rate ann X61 1
 entry 1 done rate ann X1 2
 entry 1 done rate ann X1 0
 entry 1 done rate ann X61 3
@@ -162,28 +89,63 @@ entry 1 no-section rate ann Q 1
 entry 1 same-pair pair ann X2 X2 5
 entry 1 out-of-range rate ann X2 101
 entry 1 out-of-range pair ann X2 X3 201
-",
-        (2, 61),
-        "rate ann X",
-        &[" 1\n"],
-    ),
-    ("rate ann X61 3\n", (0, 0), "", &[]),
-];
+2..61 rate ann X# 1
+rate ann X61 3
+";
 
-fn try_parts<R: Threads + Wait + Sync + Abort>(
-    rt: &R,
-    alloc: Global,
-    parts: &[Part],
-) -> Result<(), Fail> {
-    let cases = made_of(alloc, parts)?;
-    try_cases(rt, alloc, cases.as_str())
-}
+const SECTIONS: &str = "\
+== four hundred sections
+quote CAT S1 ann 10 8
+-- CAT
+section,course,seats,credits,meetings
+0..400 S#,C#,1,1,
+-- S1
+rate ann S399 7
+rate ann S400 8
+=> 0
+bundle ann [S399]
+utility 7
+== one more
+quote CAT S1 ann 10 8
+-- S1
+rate ann S399 7
+rate ann S400 8
+-- CAT
+section,course,seats,credits,meetings
+0..400 S#,C#,1,1,
+S0
+=> 3
+input 1 row 402: too many rows
+";
+
+const STUDENTS: &str = "\
+== two thousand students
+prefer TWO STU S1
+-- STU
+student,budget,credits,courses
+0..2000 t#,900000,800,8
+-- S1
+rate t1999 B 100
+=> 0
+entry 1 done rate t1999 B 100
+rate t1999 B 100
+== one more
+prefer TWO STU NONE
+-- STU
+student,budget,credits,courses
+0..2000 t#,900000,800,8
+t2000,1,1,1
+=> 3
+input 2 row 2002: too many rows
+";
 
 #[test]
 fn tables_at_their_limit(rt: HostRuntime) -> Result<(), Fail> {
-    try_parts(&rt, rt.alloc(), &SECTIONS)?;
-    try_parts(&rt, rt.alloc(), &STUDENTS)?;
-    try_parts(&rt, rt.alloc(), &RATINGS)
+    for cases in [RATINGS, SECTIONS, COUNTS, STUDENTS] {
+        let cases = with_rows(rt.alloc(), cases)?;
+        try_cases(&rt, rt.alloc(), cases.as_str())?;
+    }
+    Ok(())
 }
 
 // The commands of all sessions together are counted, and so are the requests of all streams; the
@@ -218,6 +180,24 @@ fn two_hundred_thousand_lines(rt: HostRuntime) -> Result<(), Fail> {
 // A command over a file of so many bytes, the first of them left away or not, and its answer.
 type Long = (&'static str, usize, &'static str);
 
+// Tries commands over a file of so many of this byte.
+fn try_long<R: Threads + Wait + Sync + Abort>(
+    rt: &R,
+    alloc: Global,
+    byte: u8,
+    count: usize,
+    cases: &[Long],
+) -> Result<(), Fail> {
+    let bytes = vec![in alloc; byte; count]?;
+    for (line, from, answers) in cases {
+        let Some(long) = bytes.get(*from..) else {
+            return Err(Fail::from("no bytes"));
+        };
+        try_run(rt, alloc, line, &[("LONG", long)], answers)?;
+    }
+    Ok(())
+}
+
 // Each input has a limit of its own, and one byte more is too long, whatever the byte.
 const LONG_INPUTS: [Long; 5] = [
     ("quote LONG TIE ann 10 1", 0, "4\ninput 1 is too long\n"),
@@ -231,12 +211,22 @@ const LONG_INPUTS: [Long; 5] = [
     ("prefer TWO ANN TIE LONG", 0, "4\ninput 4 is too long\n"),
 ];
 
+#[test]
+fn inputs_at_their_limit(rt: HostRuntime) -> Result<(), Fail> {
+    try_long(&rt, rt.alloc(), b'\n', 16_777_217, &LONG_INPUTS)
+}
+
 // The catalogue of a market that is run has the same limit.
 const LONG_CATALOGUES: [Long; 1] = [("run 2 LONG STU SET S1", 0, "4\ninput 1 is too long\n")];
 
+#[test]
+fn catalogues_beyond_their_limit(rt: HostRuntime) -> Result<(), Fail> {
+    try_long(&rt, rt.alloc(), b' ', 16_777_217, &LONG_CATALOGUES)
+}
+
 // A published text at its limit is read, and one byte more is too long, and is told before a
 // session that can not be read and before a name that is not known.
-const LONG_TEXTS: [Long; 3] = [
+const LONG_TEXTS: [Long; 6] = [
     (
         "check term.cat term.stu term.set LONG NONE",
         0,
@@ -252,9 +242,6 @@ const LONG_TEXTS: [Long; 3] = [
         1,
         "8\nfinding: line 1 missing\n",
     ),
-];
-
-const LONG_TEXTS_OF_OTHER_FORMS: [Long; 3] = [
     (
         "hall equal.cat equal.stu LONG EMPTY",
         0,
@@ -272,41 +259,7 @@ const LONG_TEXTS_OF_OTHER_FORMS: [Long; 3] = [
     ),
 ];
 
-fn try_long<R: Threads + Wait + Sync + Abort>(
-    rt: &R,
-    alloc: Global,
-    bytes: &[u8],
-    cases: &[Long],
-) -> Result<(), Fail> {
-    for (line, from, answers) in cases {
-        let Some(long) = bytes.get(*from..) else {
-            return Err(Fail::from("no bytes"));
-        };
-        try_run(rt, alloc, line, &[("LONG", long)], answers)?;
-    }
-    Ok(())
-}
-
-#[test]
-fn inputs_at_their_limit(rt: HostRuntime) -> Result<(), Fail> {
-    let bytes = vec![in rt.alloc(); b'\n'; 16_777_217]?;
-    try_long(&rt, rt.alloc(), &bytes, &LONG_INPUTS)
-}
-
-#[test]
-fn catalogues_beyond_their_limit(rt: HostRuntime) -> Result<(), Fail> {
-    let bytes = vec![in rt.alloc(); b' '; 16_777_217]?;
-    try_long(&rt, rt.alloc(), &bytes, &LONG_CATALOGUES)
-}
-
 #[test]
 fn published_texts_at_their_limit(rt: HostRuntime) -> Result<(), Fail> {
-    let bytes = vec![in rt.alloc(); b'x'; 67_108_865]?;
-    try_long(&rt, rt.alloc(), &bytes, &LONG_TEXTS)
-}
-
-#[test]
-fn published_texts_of_other_forms_at_their_limit(rt: HostRuntime) -> Result<(), Fail> {
-    let bytes = vec![in rt.alloc(); b'x'; 67_108_865]?;
-    try_long(&rt, rt.alloc(), &bytes, &LONG_TEXTS_OF_OTHER_FORMS)
+    try_long(&rt, rt.alloc(), b'x', 67_108_865, &LONG_TEXTS)
 }

@@ -3,16 +3,8 @@ use super::*;
 
 const DESK: &str = "\
 == adjustments stay when a rating goes
-prefer THREE ANN+BOB S1
--- S1
-rate ann A 4
-pair ann A B 9
-rate ann A 0
-=> 0
-entry 1 done rate ann A 4
-entry 1 done pair ann A B 9
-entry 1 done rate ann A 0
-pair ann A B 9
+prefer THREE ANN+BOB staying.said
+=> 0 staying.told
 == clear removes ratings and adjustments
 prefer THREE ANN+BOB S1
 -- S1
@@ -45,30 +37,8 @@ entry 1 closed rate ann A 9
 entry 1 closed close
 rate ann A 5
 == preferences student by student
-prefer THREE ANN+BOB S1
--- S1
-pair bob C A 7
-rate bob C 1
-rate ann B 2
-pair ann B A -3
-rate ann A 4
-rate bob A 5
-pair ann C B 6
-=> 0
-entry 1 done pair bob C A 7
-entry 1 done rate bob C 1
-entry 1 done rate ann B 2
-entry 1 done pair ann B A -3
-entry 1 done rate ann A 4
-entry 1 done rate bob A 5
-entry 1 done pair ann C B 6
-rate ann A 4
-rate ann B 2
-pair ann A B -3
-pair ann B C 6
-rate bob A 5
-rate bob C 1
-pair bob A C 7
+prefer THREE ANN+BOB students.said
+=> 0 students.told
 == replies in their order
 prefer THREE ANN+BOB S1
 -- S1
@@ -293,32 +263,23 @@ fn preferences(rt: HostRuntime) -> Result<(), Fail> {
     Ok(())
 }
 
-// Sixty-three sessions without a command, and one with one. A name may stand for several sessions.
-#[test]
-fn sixty_four_sessions(rt: HostRuntime) -> Result<(), Fail> {
-    let alloc = rt.alloc();
-    let mut line = String::from_str(alloc, "prefer ONE ANN")?;
-    for _ in 0..63u32 {
-        line.push_str(" S1")?;
-    }
-    line.push_str(" LAST")?;
-    try_sessions(&rt, alloc, line.as_str(), TAKEN)?;
-    line.push_str(" LAST")?;
-    try_sessions(&rt, alloc, line.as_str(), NO_FORM)
-}
-
 const TAKEN: &str = "0\nentry 64 done rate ann A 64\nrate ann A 64\n";
 
 const NO_FORM: &str = "1
 usage: run, check, prefer, demand, quote, make, explain, hall, audit
 ";
 
-fn try_sessions<R: Threads + Wait + Sync + Abort>(
-    rt: &R,
-    alloc: Global,
-    line: &str,
-    answers: &str,
-) -> Result<(), Fail> {
+// Sixty-three sessions without a command, and one with one. A name may stand for several sessions.
+#[test]
+fn sixty_four_sessions(rt: HostRuntime) -> Result<(), Fail> {
+    let alloc = rt.alloc();
     let files: [File; 2] = [("S1", b"# nothing\n"), ("LAST", b"rate ann A 64\n")];
-    try_run(rt, alloc, line, &files, answers)
+    let mut line = String::from_str(alloc, "prefer ONE ANN")?;
+    for _ in 0..63u32 {
+        line.push_str(" S1")?;
+    }
+    line.push_str(" LAST")?;
+    try_run(&rt, alloc, line.as_str(), &files, TAKEN)?;
+    line.push_str(" LAST")?;
+    try_run(&rt, alloc, line.as_str(), &files, NO_FORM)
 }

@@ -43,17 +43,11 @@ rate ann A 90
 bundle ann [B]
 utility 5
 == one of many meetings clashes
-quote CAT S1 ann 10 8
--- CAT
-section,course,seats,credits,meetings
-A,AA,1,1,M0900-1000;W0900-1000;F0900-1000
-B,BB,1,1,T0900-1000;F0959-1100
--- S1
-rate ann A 10
-rate ann B 10
-=> 0
-bundle ann [A]
-utility 10
+quote CAT RATE-A+B ann 10 8
+-- CAT TWO
+2 A,AA,1,1,M0900-1000;W0900-1000;F0900-1000
+3 B,BB,1,1,T0900-1000;F0959-1100
+=> 0 takes.A
 == other students have no effect
 quote TWO S1 ann 10 8
 -- S1
@@ -95,111 +89,81 @@ utility 50
 ";
 
 const REFUSED: &str = "\
-== missing catalogue
-quote NONE S1 ann 10 8
--- S1
-rate ann A 50
-=> 2
-input 1 can not be read
-== refusal comes before missing session
-quote EMPTY NONE ann 10 8
-=> 3
-input 1 row 1: header
 == refused catalogue with two byte order marks
-quote CAT S1 ann 10 8
+quote CAT RATE-A ann 10 8
 -- CAT
 \u{feff}\u{feff}section,course,seats,credits,meetings
 A,AA,1,1,
 B,BB,1,1,
--- S1
-rate ann A 50
 => 3
 input 1 row 1: header
 == refused too few fields
-quote CAT S1 ann 10 8
+quote CAT RATE-A ann 10 8
 -- CAT
 section,course,seats,credits,meetings
 A,AA,2,1
--- S1
-rate ann A 50
 => 3
 input 1 row 2: fields
 == refused first bad row is told
-quote CAT S1 ann 10 8
+quote CAT RATE-A ann 10 8
 -- CAT
 section,course,seats,credits,meetings
 A,AA,1,1,M
 A,AA,x,1,
--- S1
-rate ann A 50
 => 3
 input 1 row 2: meetings
+== refusal comes before missing session
+quote EMPTY NONE ann 10 8
+=> 3
+input 1 row 1: header
+== missing catalogue
+quote NONE RATE-A ann 10 8
+=> 2
+input 1 can not be read
 == refused repeat names the first row
-quote CAT S1 ann 10 8
+quote CAT RATE-A ann 10 8
 -- CAT
 section,course,seats,credits,meetings
 A,AA,1,1,
 B,BB,1,1,
 C,CC,1,1,
 B,BB,1,1,
--- S1
-rate ann A 50
 => 3
 input 1 row 5: repeats row 3
 == refused first bad column is told
-quote CAT S1 ann 10 8
+quote CAT RATE-A ann 10 8
 -- CAT
 section,course,seats,credits,meetings
 A,AA,x,y,z
--- S1
-rate ann A 50
 => 3
 input 1 row 2: number in column 3
 ";
 
 const PARTS: &str = "\
 == part terms apart do not clash
-quote CAT S1 ann 10 8
--- CAT
-section,course,seats,credits,meetings,parts
-A,AA,1,1,M0900-1020,1
-B,BB,1,1,M0900-1020,2
--- S1
-rate ann A 10
-rate ann B 10
-=> 0
-bundle ann [A,B]
-utility 20
+quote CAT RATE-A+B ann 10 8
+-- CAT PARTS
+2 A,AA,1,1,M0900-1020,1
+3 B,BB,1,1,M0900-1020,2
+=> 0 takes.A+B
 == part terms shared do clash
-quote CAT S1 ann 10 8
--- CAT
-section,course,seats,credits,meetings,parts
-A,AA,1,1,M0900-1020,1
-B,BB,1,1,M0900-1020,12
--- S1
-rate ann A 10
-rate ann B 10
-=> 0
-bundle ann [A]
-utility 10
+quote CAT RATE-A+B ann 10 8
+-- CAT PARTS
+2 A,AA,1,1,M0900-1020,1
+3 B,BB,1,1,M0900-1020,12
+=> 0 takes.A
 == part terms spelt backwards
-quote CAT S1 ann 10 8
--- CAT
-section,course,seats,credits,meetings,parts
-A,AA,1,1,M0900-1020,1
-B,BB,1,1,M0900-1020,21
--- S1
-rate ann A 10
-rate ann B 10
+quote CAT RATE-A+B ann 10 8
+-- CAT PARTS
+2 A,AA,1,1,M0900-1020,1
+3 B,BB,1,1,M0900-1020,21
 => 3
 input 1 row 3: parts
 == part terms without their header
-quote CAT S1 ann 10 8
+quote CAT RATE-A ann 10 8
 -- CAT
 section,course,seats,credits,meetings
 A,AA,1,1,,1
--- S1
-rate ann A 50
 => 3
 input 1 row 2: fields
 ";
@@ -216,82 +180,43 @@ pair ann A B -200
 bundle ann [A]
 utility 80
 == touching meetings do not clash
-quote CAT S1 ann 10 8
--- CAT
-section,course,seats,credits,meetings
-A,AA,1,1,M0900-1020
-B,BB,1,1,M1020-1140
--- S1
-rate ann A 10
-rate ann B 10
-=> 0
-bundle ann [A,B]
-utility 20
+quote CAT RATE-A+B ann 10 8
+-- CAT TWO
+2 A,AA,1,1,M0900-1020
+3 B,BB,1,1,M1020-1140
+=> 0 takes.A+B
 == overlapping meetings clash
-quote CAT S1 ann 10 8
--- CAT
-section,course,seats,credits,meetings
-A,AA,1,1,M0900-1020
-B,BB,1,1,M1019-1140
--- S1
-rate ann A 10
-rate ann B 10
-=> 0
-bundle ann [A]
-utility 10
+quote CAT RATE-A+B ann 10 8
+-- CAT TWO
+2 A,AA,1,1,M0900-1020
+3 B,BB,1,1,M1019-1140
+=> 0 takes.A
 == meetings on other days do not clash
-quote CAT S1 ann 10 8
--- CAT
-section,course,seats,credits,meetings
-A,AA,1,1,T0900-1020
-B,BB,1,1,R0900-1020
--- S1
-rate ann A 10
-rate ann B 10
-=> 0
-bundle ann [A,B]
-utility 20
+quote CAT RATE-A+B ann 10 8
+-- CAT TWO
+2 A,AA,1,1,T0900-1020
+3 B,BB,1,1,R0900-1020
+=> 0 takes.A+B
 == sections of one course clash
-quote CAT S1 ann 10 8
--- CAT
-section,course,seats,credits,meetings
-A,AA,1,1,
-B,AA,1,1,
--- S1
-rate ann A 10
-rate ann B 10
-=> 0
-bundle ann [A]
-utility 10
+quote CAT RATE-A+B ann 10 8
+-- CAT TWO
+3 B,AA,1,1,
+=> 0 takes.A
 == part terms of one course clash
-quote CAT S1 ann 10 8
--- CAT
-section,course,seats,credits,meetings,parts
-A,AA,1,1,,1
-B,AA,1,1,,2
--- S1
-rate ann A 10
-rate ann B 10
-=> 0
-bundle ann [A]
-utility 10
+quote CAT RATE-A+B ann 10 8
+-- CAT PARTS
+2 A,AA,1,1,,1
+3 B,AA,1,1,,2
+=> 0 takes.A
 == no course allowed
-quote TWO S1 ann 10 0
--- S1
-rate ann A 10
-rate ann B 10
+quote TWO RATE-A+B ann 10 0
 => 0
 bundle ann []
 utility 0
 == no credit allowed
-quote CAT S1 ann 0 8
--- CAT
-section,course,seats,credits,meetings
-A,AA,1,1,
-B,BB,1,0,
--- S1
-rate ann A 10
-rate ann B 10
+quote CAT RATE-A+B ann 0 8
+-- CAT TWO
+3 B,BB,1,0,
 => 0
 bundle ann [B]
 utility 10
@@ -305,17 +230,11 @@ pair ann A B -10
 bundle ann [A,B]
 utility 10
 == seats play no part
-quote CAT S1 ann 10 8
--- CAT
-section,course,seats,credits,meetings
-A,AA,0,1,
-B,BB,0,1,
--- S1
-rate ann A 10
-rate ann B 10
-=> 0
-bundle ann [A,B]
-utility 20
+quote CAT RATE-A+B ann 10 8
+-- CAT TWO
+2 A,AA,0,1,
+3 B,BB,0,1,
+=> 0 takes.A+B
 == empty session
 quote TWO EMPTY ann 10 1
 => 0

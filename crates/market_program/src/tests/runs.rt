@@ -3,64 +3,31 @@ use super::*;
 
 const MARKETS: &str = "\
 == an ordinary term
-run 1 term.cat term.stu term.set term.s1
-run 2 term.cat term.stu term.set term.s1
-run 16 term.cat term.stu term.set term.s1
+run 1,2,16 term.cat term.stu term.set term.s1
 => 0 term.text
 == four students of one seat
-run 1 four.cat four.stu four.set four.s1
-run 2 four.cat four.stu four.set four.s1
-run 16 four.cat four.stu four.set four.s1
+run 1,2,16 four.cat four.stu four.set four.s1
 => 0 four.text
 == the least error is not accepted
-run 1 four.cat four.stu ACCEPT8 four.s1
-run 2 four.cat four.stu ACCEPT8 four.s1
-run 16 four.cat four.stu ACCEPT8 four.s1
+run 1,2,16 four.cat four.stu ACCEPT8 four.s1
 => 5
 order 1 1 1 1
 no prices: least error 9
 == carried tokens raise the budget
-run 1 carried.cat carried.stu ACCEPT1 equal.s1
-run 2 carried.cat carried.stu ACCEPT1 equal.s1
-run 16 carried.cat carried.stu ACCEPT1 equal.s1
+run 1,2,16 carried.cat carried.stu ACCEPT1 equal.s1
 => 0 carried.text
 == no sections
-run 1 none.cat none.stu term.set term.s1
-run 2 none.cat none.stu term.set term.s1
-run 16 none.cat none.stu term.set term.s1
+run 1,2,16 none.cat none.stu term.set term.s1
 => 0 none.text
 == settings that are no object
-run 1 four.cat four.stu SET four.s1
-run 2 four.cat four.stu SET four.s1
-run 16 four.cat four.stu SET four.s1
+run 1,2,16 four.cat four.stu SET four.s1
 -- SET
 []=> 3
 input 3 row 0: not an object
 == two sessions without prices
-run 2 four.cat four.stu ACCEPT8 S1 S2
--- S1
-rate s1 X 50
-rate s2 X 50
--- S2
-rate s3 X 50
-rate s4 X 50
+run 2 four.cat four.stu ACCEPT8 FIRST-TWO LAST-TWO
 => NoPrices { least: 9 }
-order 1 1 2 2
-no prices: least error 9
-=> NoPrices { least: 9 }
-order 1 2 1 2
-no prices: least error 9
-=> NoPrices { least: 9 }
-order 1 2 2 1
-no prices: least error 9
-=> NoPrices { least: 9 }
-order 2 1 1 2
-no prices: least error 9
-=> NoPrices { least: 9 }
-order 2 1 2 1
-no prices: least error 9
-=> NoPrices { least: 9 }
-order 2 2 1 1
+order any
 no prices: least error 9
 ";
 
@@ -114,52 +81,16 @@ run 2 equal.cat equal.stu equal.set equal.s1
 => 0 equal.text
 == search moves by own price
 run 2 equal.cat STU SET equal.s1
--- STU
-student,budget,credits,courses
-u,100,10,1
-v,105,10,1
+-- STU equal.stu
+3 v,105,10,1
 -- SET
 {\"seed\":0,\"spread\":0,\"accept\":0,\"turns\":3,\"tabu\":5,\"patience\":3,\"steps\":[1],\"raise\":10}=> 0 carried.text
 1 course-match 1
 5 start X 101
 6 error 0
 == ties of excess raise the lowest ordinal
-run 2 TWO STU ACCEPT99 S1
--- STU
-student,budget,credits,courses
-u,100,10,2
-v,101,10,2
-w,102,10,2
--- S1
-rate u A 50
-rate u B 50
-rate v A 50
-rate v B 50
-rate w A 50
-rate w B 50
-=> 0
-course-match 1
-order 1 1 1 1 1 1
-budget u 100
-budget v 101
-budget w 102
-start A 0
-start B 0
-error 8
-price A 102
-price B 101
-bundle u [] --*
-bundle v [B] -+*n
-bundle w [A] +-*n
-turn 1 w [A] +-*n
-turn 1 v [B] -+*n
-turn 1 u [] --*
-final u []
-final v [B]
-final w [A]
-used A 1 1
-used B 1 1
-end
+run 2 ties.cat ties.stu ties.set ties.s1
+=> 0 ties.text
 == aftermarket order by unraised budget
 run 2 CAT STU equal.set S1
 -- CAT
@@ -195,50 +126,8 @@ final w [X]
 used X 2 2
 end
 == aftermarket swaps in later passes
-run 2 THREE STU SET S1
--- STU
-student,budget,credits,courses
-u,100,10,1
-v,100,10,1
-w,99,10,1
--- SET
-{\"seed\":0,\"spread\":0,\"accept\":20,\"turns\":0,\"tabu\":5,\"patience\":3,\"steps\":[1],\"raise\":10}-- S1
-rate u A 60
-rate u B 50
-rate v A 60
-rate v C 30
-rate w B 60
-rate w C 50
-rate w A 70
-=> 0
-course-match 1
-order 1 1 1 1 1 1 1
-budget u 100
-budget v 100
-budget w 99
-start A 0
-start B 0
-start C 0
-error 4
-price A 101
-price B 100
-price C 100
-bundle u [B] -+*n
-bundle v [C] -+*n
-bundle w [] ---*
-turn 1 u [A] +-*n
-turn 1 v [C] -+*n
-turn 1 w [B] -+-*n
-turn 2 u [A] +-*n
-turn 2 v [C] -+*n
-turn 2 w [B] -+-*n
-final u [A]
-final v [C]
-final w [B]
-used A 1 1
-used B 1 1
-used C 1 1
-end
+run 2 swaps.cat swaps.stu swaps.set swaps.s1
+=> 0 swaps.text
 == restarts draw prices
 run 2 THREE STU SET S1
 -- STU
@@ -313,18 +202,14 @@ order 1 1 1 1 1 1
 no prices: least error 2
 == carried tokens at the limit
 run 2 equal.cat STU equal.set equal.s1
--- STU
-student,budget,credits,courses,carry
-u,100,10,1,0
-v,100,10,1,899900
+-- STU carried.stu
+3 v,100,10,1,899900
 => 0 carried.text
 4 budget v 900000
 == carried tokens of nobody still version two
 run 2 equal.cat STU equal.set equal.s1
--- STU
-student,budget,credits,courses,carry
-u,100,10,1,0
-v,100,10,1,0
+-- STU carried.stu
+3 v,100,10,1,0
 => 0 equal.text
 1 course-match 2
 == part terms make version two
@@ -339,22 +224,10 @@ X,XX,1,1,,12
 // Byte order marks, and lines that end in CR LF.
 const OF_SPREADSHEETS: &str = "\
 == ordinary term as a spreadsheet writes it
-run 2 CAT term.stu term.set term.s1
--- CAT
-\u{feff}section,course,seats,credits,meetings\r
-A,ACCT,1,1,M0900-1020;W0900-1020\r
-B,BIOL,2,1,M1020-1140\r
-C,CHEM,2,1,T0900-1020\r
-D,ACCT,1,1,M1000-1100\r
+run 2 CRLF-TERM term.stu term.set term.s1
 => 0 term.text
 == every input as a spreadsheet writes it
-run 2 CAT STU SET S1
--- CAT
-\u{feff}section,course,seats,credits,meetings\r
-A,ACCT,1,1,M0900-1020;W0900-1020\r
-B,BIOL,2,1,M1020-1140\r
-C,CHEM,2,1,T0900-1020\r
-D,ACCT,1,1,M1000-1100\r
+run 2 CRLF-TERM STU SET S1
 -- STU
 \u{feff}student,budget,credits,courses\r
 ann,100,10,2\r
@@ -414,10 +287,8 @@ run 2 term.cat term.stu SET term.s1
 input 3 row 0: range of spread
 == carried tokens beyond the limit
 run 2 equal.cat STU equal.set equal.s1
--- STU
-student,budget,credits,courses,carry
-u,100,10,1,0
-v,100,10,1,899901
+-- STU carried.stu
+3 v,100,10,1,899901
 => 3
 input 2 row 3: number in column 5
 == first bad input is told

@@ -1,4 +1,4 @@
-use Rattle.std.proofs.Common.{◌+◌, ◌*◌, ◌∷◌, subst, arith}
+use Rattle.std.proofs.Common.{◌+◌, ◌-◌, ◌*◌, ◌∷◌, ◌∙◌, ap, subst, arith}
 use Rattle.std.specs.Prelude.{IfSome}
 use Rattle.bundle_bounds.specs.Bounds.{over_price}
 use Rattle.bundle_bounds.specs.Tangents.{IsTangent}
@@ -7,27 +7,31 @@ use Rattle.bundle_bounds.proofs.leaving.later.Goals as goal
 
 pub overflow_sub-result : goal.overflow_sub-result
 overflow_sub-result c =
-    let is = subst (λ t. IfSome t (IsTangent c.requires.tangent.0 c.args.resource (c.args.prospect.now ∷ c.args.more.now))) c.in-Some.is c.requires.tangent.1 in
-    (sum_without (over_price c.args.resource c.in-Some.tangent.price) c.args.prospect.now c.args.more.now (c.in-Some.tangent.price * c.requires.tangent.0)
-    c.in-Some.tangent.sum c.added-here.result is.here c.added-here.ensures.value).fits
+    let is = subst (λ t. IfSome t (IsTangent c.requires.tangent.0 c.args.resource (c.args.one.now ∷ c.args.more.now))) c.in-Some.is c.requires.tangent.1 in
+    let f = over_price c.args.resource c.in-Some.tangent.price in
+    (sum_without f c.args.one.now c.args.more.now (c.in-Some.tangent.price * c.requires.tangent.0) c.in-Some.tangent.sum c.added_twice-here.result.0 is.here
+    (c.added_twice-here.ensures.here ∙ ap (λ n. f c.args.one.now - n) (c.requires.firsts f))).fits
 
 pub overflow_sub-result-in-Some : goal.overflow_sub-result-in-Some
 overflow_sub-result-in-Some c =
-    let is = subst (λ t. IfSome t (IsTangent c.requires.tangent.0 c.args.resource (c.args.prospect.now ∷ c.args.more.now))) c.in-Some.is c.requires.tangent.1 in
-    (sum_without (over_price c.args.resource (c.in-Some.tangent.price + 1)) c.args.prospect.now c.args.more.now
-    ((c.in-Some.tangent.price + 1) * c.requires.tangent.0) c.in-Some.tangent.next c.added-after.result is.after c.added-after.ensures.value).fits
+    let is = subst (λ t. IfSome t (IsTangent c.requires.tangent.0 c.args.resource (c.args.one.now ∷ c.args.more.now))) c.in-Some.is c.requires.tangent.1 in
+    let f = over_price c.args.resource (c.in-Some.tangent.price + 1) in
+    (sum_without f c.args.one.now c.args.more.now ((c.in-Some.tangent.price + 1) * c.requires.tangent.0) c.in-Some.tangent.next c.added_twice-here.result.1
+    is.after (c.added_twice-here.ensures.after ∙ ap (λ n. f c.args.one.now - n) (c.requires.firsts f))).fits
 
 pub returns-in-Some : goal.returns-in-Some
 returns-in-Some c = λ rest tangent.
-    let is = subst (λ t. IfSome t (IsTangent rest c.args.resource (c.args.prospect.now ∷ c.args.more.now))) c.in-Some.is tangent in
+    let is = subst (λ t. IfSome t (IsTangent rest c.args.resource (c.args.one.now ∷ c.args.more.now))) c.in-Some.is tangent in
     let small = is.small in
+    let f = over_price c.args.resource c.in-Some.tangent.price in
+    let g = over_price c.args.resource (c.in-Some.tangent.price + 1) in
     record {
       low = is.low;
       here =
-          (sum_without (over_price c.args.resource c.in-Some.tangent.price) c.args.prospect.now c.args.more.now (c.in-Some.tangent.price * rest)
-          c.in-Some.tangent.sum c.added-here.result is.here c.added-here.ensures.value).left;
+          (sum_without f c.args.one.now c.args.more.now (c.in-Some.tangent.price * rest) c.in-Some.tangent.sum c.added_twice-here.result.0 is.here
+          (c.added_twice-here.ensures.here ∙ ap (λ n. f c.args.one.now - n) (c.requires.firsts f))).left;
       after =
-          (sum_without (over_price c.args.resource (c.in-Some.tangent.price + 1)) c.args.prospect.now c.args.more.now ((c.in-Some.tangent.price + 1) * rest)
-          c.in-Some.tangent.next c.added-after.result is.after c.added-after.ensures.value).left;
+          (sum_without g c.args.one.now c.args.more.now ((c.in-Some.tangent.price + 1) * rest) c.in-Some.tangent.next c.added_twice-here.result.1 is.after
+          (c.added_twice-here.ensures.after ∙ ap (λ n. g c.args.one.now - n) (c.requires.firsts g))).left;
       small = omega arith;
     }

@@ -1,24 +1,47 @@
-use Rattle.std.proofs.Common.{◌≡◌, ◌<◌, ◌≤◌, ◌+◌, ◌-◌, ◌*◌, ℕ, true, false, [], length, drop, get_or, length-set, refl, sym, ap, subst, ◌∙◌, arith}
+use Rattle.std.proofs.Common.{◌≡◌, ◌<◌, ◌≤◌, ◌+◌, ◌-◌, ◌*◌, ◌==◌, ℕ, true, [], length, drop, get_or, refl, sym, ap, subst, ◌∙◌, arith}
+use Rattle.std.specs.Prelude.{not}
+use Rattle.std.specs.Int.{bit_at}
 use Rattle.std.proofs.Math.Seq.{drop-length}
-use Rattle.std.proofs.lemmas.List.{get_or-replicate}
+use Rattle.std.proofs.lemmas.Nat.Bits.{bit_at-zero}
+use Rattle.std.proofs.lemmas.Bool.{not-true}
 use Rattle.bundle_bounds.specs.Courses.{has_course, greatest, by_course}
 use Rattle.bundle_bounds.specs.Bounds.{over_price}
+use Rattle.bundle_bounds.specs.Peaks.{IsPeak}
 use Rattle.bundle_bounds.proofs.Outlook.{rest_whole}
 use Rattle.bundle_bounds.proofs.Steps.{no_prospect}
-use Rattle.bundle_bounds.proofs.Adding.{added_front, there_more}
+use Rattle.bundle_bounds.proofs.Adding.{added_front, courses_more, peak_front}
 use Rattle.bundle_bounds.proofs.prospects.add_up_twice.Goals as goal
 
 pub loop-index-init : goal.loop-index-init
 loop-index-init c =
     let none : drop (length c.args.all.now.list.now) c.args.all.now.list.now ≡ [] = drop-length c.args.all.now.list.now in
     record {
-      whole = refl;
-      there = λ course low. get_or-replicate 60 course false false low ∙ sym (ap (λ ps. has_course ps course) none);
+      there = λ course. ap (λ n. n == 1) (bit_at-zero course) ∙ sym (ap (λ ps. has_course ps course) none);
+      peak = record {
+        here_is = sym (ap (greatest (over_price c.args.resource c.args.price) 0) none);
+        after_is = sym (ap (greatest (over_price c.args.resource (c.args.price + 1)) 0) none);
+      };
       total_is = sym (ap (by_course (over_price c.args.resource c.args.price)) none);
       next_is = sym (ap (by_course (over_price c.args.resource (c.args.price + 1))) none);
       small = omega arith;
       next_small = omega arith;
     }
+
+pub peak_behind-most-requires-clause-none : goal.peak_behind-most-requires-clause-none
+peak_behind-most-requires-clause-none c = λ new.
+    let ps = c.args.all.now.list.now in
+    let next : c.loop-index.index ≡ (c.loop-index.index - 1) + 1 = omega arith in
+    let course = (get_or ps (c.loop-index.index - 1) no_prospect).course in
+    let none : not (bit_at c.loop-index.courses course == 1) ≡ true = ap not (sym c.is_in-is_new.ensures) ∙ new in
+    let there = subst (λ n. (bit_at c.loop-index.courses course == 1) ≡ has_course (drop n ps) course) next (c.loop-index.invariant.there course) in
+    ap (λ l. has_course l course) (rest_whole ps ((c.loop-index.index - 1) + 1)) ∙ sym there ∙ not-true _ none
+
+pub peak_behind-most-requires-clause-last : goal.peak_behind-most-requires-clause-last
+peak_behind-most-requires-clause-last c =
+    let ps = c.args.all.now.list.now in
+    let next : c.loop-index.index ≡ (c.loop-index.index - 1) + 1 = omega arith in
+    subst (λ l. IsPeak c.args.resource c.args.price l c.loop-index.last) (sym (rest_whole ps ((c.loop-index.index - 1) + 1)))
+    (subst (λ n. IsPeak c.args.resource c.args.price (drop n ps) c.loop-index.last) next c.loop-index.invariant.peak)
 
 pub loop-index-preserved : goal.loop-index-preserved
 loop-index-preserved c =
@@ -28,29 +51,43 @@ loop-index-preserved c =
     let is = c.loop-index.invariant in
     let low : c.loop-index.index - 1 < length c.args.all.now.list.now = omega arith in
     let next : c.loop-index.index ≡ (c.loop-index.index - 1) + 1 = omega arith in
-    let course : (get_or c.args.all.now.list.now (c.loop-index.index - 1) no_prospect).course < 60 =
-    (c.args.all.now.modest (c.loop-index.index - 1) no_prospect low).course_low in
-    let course_low : c.from-course.result < 60 = subst (λ n. n < 60) (sym c.from-course.ensures) course in
-    let more : c.added_twice-here.result.0 ≤ 20000000 = c.added_twice-here.ensures.high in
-    let more' : c.added_twice-here.result.1 ≤ 20000000 = c.added_twice-here.ensures.after_high in
+    let whole = rest_whole ps ((c.loop-index.index - 1) + 1) in
+    let course = (get_or ps (c.loop-index.index - 1) no_prospect).course in
+    let most = c.peak_behind-most.result in
+    let own = c.peak_of-own.result in
+    let most_is = c.peak_behind-most.ensures in
+    let here : most.here ≡ greatest f course (drop ((c.loop-index.index - 1) + 1) ps) =
+    most_is.peak.here_is ∙ (λ j. greatest f (most_is.course j) (whole j)) in
+    let after : most.after ≡ greatest g course (drop ((c.loop-index.index - 1) + 1) ps) =
+    most_is.peak.after_is ∙ (λ j. greatest g (most_is.course j) (whole j)) in
+    let more : own.here ≤ 20000000 = c.peak_of-own.ensures.high in
+    let more' : own.after ≤ 20000000 = c.peak_of-own.ensures.after_high in
+    let less : c.saturating_sub-sum.result ≡ own.here - most.here = c.saturating_sub-sum.ensures in
+    let less' : c.saturating_sub-next.result ≡ own.after - most.after = c.saturating_sub-next.ensures in
     let so_far' : c.loop-index.next ≤ 20000000 * (length c.args.all.now.list.now - c.loop-index.index) = is.next_small in
     let so_far : c.loop-index.sum ≤ 20000000 * (length c.args.all.now.list.now - c.loop-index.index) = is.small in
+    let named : c.higher-last.result.course ≡ course = c.higher-last.ensures.course ∙ c.peak_of-own.ensures.course in
     record {
-      whole = length-set c.loop-index.is_there c.from-course.result true ∙ is.whole;
-      there = there_more c.loop-index.is_there ps (c.loop-index.index - 1) c.from-course.result no_prospect low is.whole c.from-course.ensures course_low
-          (subst (λ n. (course : ℕ) → course < 60 → get_or c.loop-index.is_there course false ≡ has_course (drop n ps) course) next is.there);
+      there =
+          courses_more c.loop-index.courses c.with-courses.result ps (c.loop-index.index - 1) course no_prospect low refl
+          c.with-courses.ensures.same c.with-courses.ensures.others
+          (subst (λ n. (other : ℕ) → (bit_at c.loop-index.courses other == 1) ≡ has_course (drop n ps) other) next is.there);
+      peak = record {
+        here_is =
+            peak_front f ps (c.loop-index.index - 1) own.here most.here c.higher-last.result.here no_prospect low c.peak_of-own.ensures.here here
+            c.higher-last.ensures.here
+            ∙ ap (λ n. greatest f n (drop (c.loop-index.index - 1) ps)) (sym named);
+        after_is =
+            peak_front g ps (c.loop-index.index - 1) own.after most.after c.higher-last.result.after no_prospect low c.peak_of-own.ensures.after after
+            c.higher-last.ensures.after
+            ∙ ap (λ n. greatest g n (drop (c.loop-index.index - 1) ps)) (sym named);
+      };
       total_is =
-          added_front f ps (c.loop-index.index - 1) c.loop-index.sum c.added_twice-here.result.0 no_prospect low
-          (is.total_is ∙ ap (λ n. by_course f (drop n ps)) next)
-          (c.added_twice-here.ensures.here
-          ∙ ap (λ l. f (get_or ps (c.loop-index.index - 1) no_prospect) - greatest f (get_or ps (c.loop-index.index - 1) no_prospect).course l)
-          (rest_whole ps ((c.loop-index.index - 1) + 1)));
+          added_front f ps (c.loop-index.index - 1) c.loop-index.sum c.saturating_sub-sum.result no_prospect low
+          (is.total_is ∙ ap (λ n. by_course f (drop n ps)) next) (less ∙ (λ j. c.peak_of-own.ensures.here j - here j));
       next_is =
-          added_front g ps (c.loop-index.index - 1) c.loop-index.next c.added_twice-here.result.1 no_prospect low
-          (is.next_is ∙ ap (λ n. by_course g (drop n ps)) next)
-          (c.added_twice-here.ensures.after
-          ∙ ap (λ l. g (get_or ps (c.loop-index.index - 1) no_prospect) - greatest g (get_or ps (c.loop-index.index - 1) no_prospect).course l)
-          (rest_whole ps ((c.loop-index.index - 1) + 1)));
+          added_front g ps (c.loop-index.index - 1) c.loop-index.next c.saturating_sub-next.result no_prospect low
+          (is.next_is ∙ ap (λ n. by_course g (drop n ps)) next) (less' ∙ (λ j. c.peak_of-own.ensures.after j - after j));
       small = omega arith;
       next_small = omega arith;
     }

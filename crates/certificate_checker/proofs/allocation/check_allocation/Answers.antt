@@ -12,7 +12,7 @@ index-requires-in-loop-place c =
     let p = publication_of c.args.publication.now in
     let long : HasLengths c.args.terms.now c.args.publication.now = lengths c.args.terms.now c.args.publication.now c.requires.terms in
     let held : length c.args.floor.now.held.items ≡ length c.args.terms.now.crowd.menus.items =
-    sym (length_map sections_of c.args.floor.now.held.items) ∙ ap length c.requires.held
+    sym (length_map sections_of c.args.floor.now.held.items) ∙ ap length c.requires.floor.held
     ∙ after_length c.args.terms.now c.args.publication.now p.turns c.requires.terms in
     omega arith
 
@@ -22,41 +22,43 @@ overflow_cast-result c =
     let few : c.loop-place.place ≤ 2000 = omega arith in
     search rules
 
-pub returns-then-ne-clause-first : goal.returns-then-ne-clause-first
-returns-then-ne-clause-first c =
+pub returns-then-ne : goal.returns-then-ne
+returns-then-ne c =
     let p = publication_of c.args.publication.now in
     let long : HasLengths c.args.terms.now c.args.publication.now = lengths c.args.terms.now c.args.publication.now c.requires.terms in
     let held : length c.args.floor.now.held.items ≡ length c.args.terms.now.crowd.menus.items =
-    sym (length_map sections_of c.args.floor.now.held.items) ∙ ap length c.requires.held
+    sym (length_map sections_of c.args.floor.now.held.items) ∙ ap length c.requires.floor.held
     ∙ after_length c.args.terms.now c.args.publication.now p.turns c.requires.terms in
     let low : c.loop-place.place < length c.args.publication.now.allocation.items = omega arith in
-    let small : c.loop-place.place < length c.args.floor.now.held.items = omega arith in
-    record {
-      before = c.requires.before;
-      found = record {
-        within = omega arith;
-        before = c.loop-place.invariant;
-        fails =
-            are_unequal c.args.publication.now.allocation.items c.args.floor.now.held.items (held_after (demanded p) p.turns) c.loop-place.place
-            c.index.result.now c.index-in-loop-place.result.now low small c.index.ensures c.index-in-loop-place.ensures c.requires.held
-            (sym c.ne.ensures ∙ c.if-ne.true);
-      };
-    }
+    let small : c.loop-place.place < length c.args.floor.now.held.items = omega arith in (
+      tt,
+      record {
+        before = c.requires.before;
+        found = record {
+          within = omega arith;
+          before = c.loop-place.invariant;
+          fails =
+              are_unequal c.args.publication.now.allocation.items c.args.floor.now.held.items (held_after (demanded p) p.turns) c.loop-place.place
+              c.index.result.now c.index-in-loop-place.result.now low small c.index.ensures c.index-in-loop-place.ensures c.requires.floor.held
+              (sym c.ne.ensures ∙ c.if-ne.true);
+        };
+      },
+    )
 
 pub loop-place-preserved : goal.loop-place-preserved
 loop-place-preserved c =
     let p = publication_of c.args.publication.now in
     let long : HasLengths c.args.terms.now c.args.publication.now = lengths c.args.terms.now c.args.publication.now c.requires.terms in
     let held : length c.args.floor.now.held.items ≡ length c.args.terms.now.crowd.menus.items =
-    sym (length_map sections_of c.args.floor.now.held.items) ∙ ap length c.requires.held
+    sym (length_map sections_of c.args.floor.now.held.items) ∙ ap length c.requires.floor.held
     ∙ after_length c.args.terms.now c.args.publication.now p.turns c.requires.terms in
     let low : c.loop-place.place < length c.args.publication.now.allocation.items = omega arith in
     let small : c.loop-place.place < length c.args.floor.now.held.items = omega arith in
     below_more _ _ c.loop-place.invariant
     (are_equal c.args.publication.now.allocation.items c.args.floor.now.held.items (held_after (demanded p) p.turns) c.loop-place.place c.index.result.now
-    c.index-in-loop-place.result.now low small c.index.ensures c.index-in-loop-place.ensures c.requires.held (sym c.ne.ensures ∙ c.if-ne.false))
+    c.index-in-loop-place.result.now low small c.index.ensures c.index-in-loop-place.ensures c.requires.floor.held (sym c.ne.ensures ∙ c.if-ne.false))
 
-pub returns-clause-ok : goal.returns-clause-ok
-returns-clause-ok c =
+pub returns : goal.returns
+returns c =
     let long : HasLengths c.args.terms.now c.args.publication.now = lengths c.args.terms.now c.args.publication.now c.requires.terms in
-    (c.requires.before, fewer _ c.loop-place.place _ (omega arith) c.loop-place.invariant)
+    ((c.requires.before, fewer _ c.loop-place.place _ (omega arith) c.loop-place.invariant), tt)

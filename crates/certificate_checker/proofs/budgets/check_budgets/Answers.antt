@@ -1,7 +1,7 @@
 use Rattle.std.proofs.Common.{◌≡◌, ◌<◌, ◌≤◌, length, get_or, map, below_more, arith, rules, sym, ◌∙◌}
 use Rattle.market_units.specs.declared.units.Tokens.{Tokens}
 use Rattle.demand_api.specs.Views.{data_of}
-use Rattle.certificate_checker.specs.Students.{student_in}
+use Rattle.published_parts.specs.Offers.{student_in}
 use Rattle.certificate_checker.proofs.Reading.{HasLengths, are_apart, are_same, drawn_is, fewer, lengths, printed_is}
 use Rattle.certificate_checker.proofs.budgets.check_budgets.Goals as goal
 use Rattle.certificate_checker.proofs.budgets.check_budgets.Goals.{After-ne}
@@ -27,18 +27,20 @@ overflow_cast-result c =
     let few : c.loop-place.place ≤ 2000 = omega arith in
     search rules
 
-pub returns-then-ne-clause-first : goal.returns-then-ne-clause-first
-returns-then-ne-clause-first c =
-    let is = compared (goal.at.returns-then-ne-clause-first c).After-ne in
-    let long : HasLengths c.args.terms.now c.args.publication.now = lengths c.args.terms.now c.args.publication.now c.requires in
-    record {
-      before = tt;
-      found = record {
-        within = omega arith;
-        before = c.loop-place.invariant;
-        fails = λ has. are_apart c.index.result.now.0 c.index-in-loop-place.result.now.0 (sym c.ne.ensures ∙ c.if-ne.true) (sym is.0 ∙ has ∙ is.1);
-      };
-    }
+pub returns-then-ne : goal.returns-then-ne
+returns-then-ne c =
+    let is = compared (goal.at.returns-then-ne c).After-ne in
+    let long : HasLengths c.args.terms.now c.args.publication.now = lengths c.args.terms.now c.args.publication.now c.requires in (
+      tt,
+      record {
+        before = tt;
+        found = record {
+          within = omega arith;
+          before = c.loop-place.invariant;
+          fails = λ has. are_apart c.index.result.now.0 c.index-in-loop-place.result.now.0 (sym c.ne.ensures ∙ c.if-ne.true) (sym is.0 ∙ has ∙ is.1);
+        };
+      },
+    )
 
 pub loop-place-preserved : goal.loop-place-preserved
 loop-place-preserved c =
@@ -46,7 +48,7 @@ loop-place-preserved c =
     below_more _ _ c.loop-place.invariant
     (is.0 ∙ are_same c.index.result.now.0 c.index-in-loop-place.result.now.0 (sym c.ne.ensures ∙ c.if-ne.false) ∙ sym is.1)
 
-pub returns-clause-ok : goal.returns-clause-ok
-returns-clause-ok c =
+pub returns : goal.returns
+returns c =
     let long : HasLengths c.args.terms.now c.args.publication.now = lengths c.args.terms.now c.args.publication.now c.requires in
-    fewer _ c.loop-place.place _ (omega arith) c.loop-place.invariant
+    (fewer _ c.loop-place.place _ (omega arith) c.loop-place.invariant, tt)

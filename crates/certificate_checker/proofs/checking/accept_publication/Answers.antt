@@ -2,7 +2,7 @@ use Rattle.std.proofs.Common.{map, subst}
 use Rattle.market_certificate.specs.Views.{publication_of}
 use Rattle.proof_tree.proofs.Following.{err_from}
 use Rattle.published_parts.specs.Crowds.{IsCrowdAfter}
-use Rattle.published_parts.specs.Markets.{market_of}
+use Rattle.published_parts.specs.Views.{market_in}
 use Rattle.certificate_checker.specs.Certificates.{HoldsOf}
 use Rattle.certificate_checker.specs.Findings.{IsFirstIn, IsFirstOf, OnFound}
 use Rattle.certificate_checker.specs.Orders.{IsOrderFinding}
@@ -14,11 +14,11 @@ pub check_printed-requires-clause-terms : goal.check_printed-requires-clause-ter
 check_printed-requires-clause-terms c =
     let after =
     subst
-    (λ order. IsCrowdAfter (market_of c.args.catalog.now c.args.roll.now c.args.settings.now) (map (λ stream. stream.items) c.args.streams.now) order
+    (λ order. IsCrowdAfter (market_in c.args.market.now) (map (λ stream. stream.items) c.args.streams.now) order
     (terms_of c.in_ok-terms.terms).crowd)
     c.deref.ensures.value c.in_ok-terms.ensures.crowd in
-    can_check (market_of c.args.catalog.now c.args.roll.now c.args.settings.now) _ c.in_ok-terms.terms (publication_of c.args.publication)
-    c.requires.publication after c.in_ok-terms.ensures.terms c.requires.raise
+    can_check (market_in c.args.market.now) _ c.in_ok-terms.terms (publication_of c.args.publication)
+    c.requires.publication after c.in_ok-terms.ensures.terms c.args.market.now.raise
 
 pub returns-in_err-terms-clause-first : goal.returns-in_err-terms-clause-first
 returns-in_err-terms-clause-first c =
@@ -26,16 +26,16 @@ returns-in_err-terms-clause-first c =
     subst (λ order. OnFound c.in_err-terms.field-0.0 (IsOrderFinding (map (λ stream. stream.items) c.args.streams.now) order)) c.deref.ensures.value
     c.in_err-terms.ensures.fails in
     let first : OnFound c.in_err-terms.field-0.0
-    (IsFirstOf (market_of c.args.catalog.now c.args.roll.now c.args.settings.now) (map (λ stream. stream.items) c.args.streams.now)
+    (IsFirstOf (market_in c.args.market.now) (map (λ stream. stream.items) c.args.streams.now)
     (publication_of c.args.publication)) =
-    on_found _ _ c.in_err-terms.field-0.0 (order_first (market_of c.args.catalog.now c.args.roll.now c.args.settings.now) _ (publication_of c.args.publication))
+    on_found _ _ c.in_err-terms.field-0.0 (order_first (market_in c.args.market.now) _ (publication_of c.args.publication))
     fails in
     err_from c.from_residual.result c.in_err-terms.field-0.0 _ c.from_residual.ensures.1 first
 
 pub returns-in-Ok-clause-holds : goal.returns-in-Ok-clause-holds
 returns-in-Ok-clause-holds c =
     let p = publication_of c.args.publication in
-    let after = subst (λ order. IsCrowdAfter (market_of c.args.catalog.now c.args.roll.now c.args.settings.now) (map (λ stream. stream.items) c.args.streams.now) order (terms_of c.in_ok-terms.terms).crowd) c.deref.ensures.value c.in_ok-terms.ensures.crowd in record {
+    let after = subst (λ order. IsCrowdAfter (market_in c.args.market.now) (map (λ stream. stream.items) c.args.streams.now) order (terms_of c.in_ok-terms.terms).crowd) c.deref.ensures.value c.in_ok-terms.ensures.crowd in record {
       is_crowd = after;
       printed = subst (λ t. HoldsOf t p) c.in_ok-terms.ensures.terms c.in-Ok.ensures.holds;
     }
@@ -43,10 +43,10 @@ returns-in-Ok-clause-holds c =
 pub returns-in-Err-clause-first : goal.returns-in-Err-clause-first
 returns-in-Err-clause-first c =
     let p = publication_of c.args.publication in
-    let market = market_of c.args.catalog.now c.args.roll.now c.args.settings.now in
+    let market = market_in c.args.market.now in
     let after =
     subst
-    (λ order. IsCrowdAfter (market_of c.args.catalog.now c.args.roll.now c.args.settings.now) (map (λ stream. stream.items) c.args.streams.now) order
+    (λ order. IsCrowdAfter (market_in c.args.market.now) (map (λ stream. stream.items) c.args.streams.now) order
     (terms_of c.in_ok-terms.terms).crowd)
     c.deref.ensures.value c.in_ok-terms.ensures.crowd in
     on_found _ _ c.in-Err.end

@@ -6,12 +6,16 @@ use Rattle.certificate_checker.proofs.Turning.{after_length}
 use Rattle.bundle_rules.specs.Bundles.{sections_of}
 use Rattle.certificate_checker.proofs.checking.check_printed.Goals as goal
 
-pub check_used-requires-clause-held : goal.check_used-requires-clause-held
-check_used-requires-clause-held c =
+pub check_used-requires-clause-floor : goal.check_used-requires-clause-floor
+check_used-requires-clause-floor c =
     let terms = c.args.terms.now in
     let p = publication_of c.args.publication.now in
     let long : HasLengths terms c.args.publication.now = lengths terms c.args.publication.now c.requires.terms in
-    c.in_ok-check_turns.ensures.held
-    ∙ sym
-    (allocation_is p _ (length_map sections_of c.args.publication.now.allocation.items ∙ long.allocation ∙ sym long.students)
-    (after_length terms c.args.publication.now p.turns c.requires.terms ∙ sym long.students) c.in_ok-check_allocation.ensures.ok.1)
+    record {
+      is_floor = c.in_ok-check_turns.ensures.floor.is_floor;
+      held =
+          c.in_ok-check_turns.ensures.floor.held
+          ∙ sym
+          (allocation_is p _ (length_map sections_of c.args.publication.now.allocation.items ∙ long.allocation ∙ sym long.students)
+          (after_length terms c.args.publication.now p.turns c.requires.terms ∙ sym long.students) c.in_ok-check_allocation.ensures.0.1);
+    }

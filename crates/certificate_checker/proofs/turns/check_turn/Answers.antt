@@ -14,11 +14,11 @@ use Rattle.certificate_checker.proofs.turns.check_turn.Goals.{After-as_slice-pri
 at : (c : After-index-turn)
     → IsTurnAt c.args.terms.now c.args.publication.now c.args.place (map (λ student. student.0) c.args.order.now) c.args.progress c.index-turn.result.now
 at c = record {
-  can = c.requires.terms;
-  low = c.requires.place;
+  can = c.requires.turn.can;
+  low = c.requires.turn.low;
   printed = c.index-turn.ensures;
-  order_is = c.requires.order;
-  so_far = c.requires.progress;
+  order_is = c.requires.turn.order_is;
+  so_far = c.requires.turn.so_far;
 }
 
 -- what its student may take, and for how much
@@ -34,9 +34,9 @@ of c = record {
 
 pub is_due-requires : goal.is_due-requires
 is_due-requires c =
-    let passes = c.requires.progress.passes in
-    let few = c.requires.few in
-    let place = c.requires.place in
+    let passes = c.requires.turn.so_far.passes in
+    let few = c.requires.turn.few in
+    let place = c.requires.turn.low in
     omega arith
 
 pub returns-then-not-is_due-clause-wrong : goal.returns-then-not-is_due-clause-wrong
@@ -87,14 +87,14 @@ choices-choices-requires-clause-place c =
     let inside : c.index-turn.result.now.student.0 < length c.args.terms.now.crowd.menus.items =
     who _ _ _ _ _ _ (at (goal.at.choices-choices-requires-clause-place c).After-index-turn) in
     let same = c.from-student.ensures in
-    let long = before_length c.args.terms.now c.args.publication.now c.args.place c.requires.terms in
-    subst (λ held. c.from-student.result < length held) (sym c.requires.held) (omega arith)
+    let long = before_length c.args.terms.now c.args.publication.now c.args.place c.requires.turn.can in
+    subst (λ held. c.from-student.result < length held) (sym c.requires.floor.held) (omega arith)
 
 pub choices-choices-requires-clause-below : goal.choices-choices-requires-clause-below
 choices-choices-requires-clause-below c =
-    subst (AreBelow 400) (sym c.requires.held)
+    subst (AreBelow 400) (sym c.requires.floor.held)
     (below_more c.args.terms.now.crowd.sections 400 (held_before (publication_of c.args.publication.now) c.args.place) (few_sections c.args.terms.now.crowd)
-    (before_below c.args.terms.now c.args.publication.now c.args.place c.requires.terms))
+    (before_below c.args.terms.now c.args.publication.now c.args.place c.requires.turn.can))
 
 pub is_offered-requires : goal.is_offered-requires
 is_offered-requires c =
@@ -105,13 +105,13 @@ pub returns-then-not-is_offered-clause-wrong : goal.returns-then-not-is_offered-
 returns-then-not-is_offered-clause-wrong c =
     taken_turn _ _ _ _ _ _ (at (goal.at.returns-then-not-is_offered-clause-wrong c).After-index-turn) _ _ _ _
     (of (goal.at.returns-then-not-is_offered-clause-wrong c).After-as_slice-prices) c.choices-choices.result
-    (told_choices _ _ _ _ _ _ (c.choices-choices.ensures c.args.terms.now.seats.items c.requires.floor) c.requires.held c.from-student.ensures)
+    (told_choices _ _ _ _ _ _ (c.choices-choices.ensures c.args.terms.now.seats.items c.requires.floor.is_floor) c.requires.floor.held c.from-student.ensures)
     (c.is_due.ensures.0 c.if-not-is_due.false) (c.is_affordable.ensures.0 c.if-not-is_affordable.false) (c.feasible.ensures.0 c.if-not-feasible.false)
     (denied c.is_offered.result c.is_offered.ensures c.if-not-is_offered.true)
 
 pub check_tree-requires-clause-prices : goal.check_tree-requires-clause-prices
 check_tree-requires-clause-prices c =
-    menu_priced c.args.terms.now c.args.publication.now c.from-student.result c.index-menu.result.now c.as_slice-prices.result.now c.requires.terms
+    menu_priced c.args.terms.now c.args.publication.now c.from-student.result c.index-menu.result.now c.as_slice-prices.result.now c.requires.turn.can
     (who _ _ _ _ _ _ (at (goal.at.check_tree-requires-clause-prices c).After-index-turn)) c.from-student.ensures c.index-menu.ensures
     c.as_slice-prices.ensures.value
 
@@ -127,7 +127,7 @@ pub returns-in-Ok-clause-right : goal.returns-in-Ok-clause-right
 returns-in-Ok-clause-right c =
     right_turn _ _ _ _ _ _ (at (goal.at.returns-in-Ok-clause-right c).After-index-turn) _ _ _ _
     (of (goal.at.returns-in-Ok-clause-right c).After-as_slice-prices) c.choices-choices.result
-    (told_choices _ _ _ _ _ _ (c.choices-choices.ensures c.args.terms.now.seats.items c.requires.floor) c.requires.held c.from-student.ensures)
+    (told_choices _ _ _ _ _ _ (c.choices-choices.ensures c.args.terms.now.seats.items c.requires.floor.is_floor) c.requires.floor.held c.from-student.ensures)
     c.deref.result.now c.deref.ensures.value (c.is_due.ensures.0 c.if-not-is_due.false) (c.is_affordable.ensures.0 c.if-not-is_affordable.false)
     (c.feasible.ensures.0 c.if-not-feasible.false) (c.is_offered.ensures.0 c.if-not-is_offered.false) (c.in-Ok.ensures.ok.0 refl).1
 
@@ -135,7 +135,7 @@ pub returns-in-Err-clause-wrong : goal.returns-in-Err-clause-wrong
 returns-in-Err-clause-wrong c =
     wrong_turn_tree _ _ _ _ _ _ (at (goal.at.returns-in-Err-clause-wrong c).After-index-turn) _ _ _ _
     (of (goal.at.returns-in-Err-clause-wrong c).After-as_slice-prices) c.choices-choices.result
-    (told_choices _ _ _ _ _ _ (c.choices-choices.ensures c.args.terms.now.seats.items c.requires.floor) c.requires.held c.from-student.ensures)
+    (told_choices _ _ _ _ _ _ (c.choices-choices.ensures c.args.terms.now.seats.items c.requires.floor.is_floor) c.requires.floor.held c.from-student.ensures)
     c.deref.result.now c.in-Err.defect c.deref.ensures.value (c.is_due.ensures.0 c.if-not-is_due.false)
     (c.is_affordable.ensures.0 c.if-not-is_affordable.false) (c.feasible.ensures.0 c.if-not-feasible.false)
     (c.is_offered.ensures.0 c.if-not-is_offered.false) c.in-Err.ensures.defect

@@ -10,7 +10,7 @@ use Rattle.certificate_checker.specs.Turns.{order_in}
 use Rattle.certificate_checker.specs.Views.{terms_of}
 use Rattle.certificate_checker.proofs.Reading.{fewer, length_map}
 use Rattle.certificate_checker.proofs.TurnReading.{ends_early, ends_quietly}
-use Rattle.certificate_checker.proofs.Turning.{budgets_are, order_is_long}
+use Rattle.certificate_checker.proofs.Turning.{budgets_are, held_whole, order_is_long}
 use Rattle.certificate_checker.proofs.turns.check_turns.Goals as goal
 
 is_zero : (n : ℕ) → nat_eq n 0 ≡ true → n ≡ 0
@@ -29,23 +29,36 @@ pub turns-init : goal.turns-init
 turns-init c = record {
   right = λ n low. absurd (omega arith);
   progress = c.start-progress.ensures (length c.args.terms.now.crowd.menus.items) (publication_of c.args.publication.now);
-  held = c.requires.held;
   floor = c.requires.floor;
 }
 
-pub take_turn-requires-clause-order : goal.take_turn-requires-clause-order
-take_turn-requires-clause-order c =
-    ap (map (λ (student : StudentNo). student.0)) c.deref-in-turns.ensures.value ∙ c.in_ok-order.ensures.value
-    ∙ ap after_order_of
-    (ap amounts c.deref.ensures.value ∙ sym (budgets_are c.args.terms.now.crowd.menus.items c.args.terms.now.crowd.budgets.items c.args.terms.now.crowd.same))
+pub take_turn-requires-clause-turn : goal.take_turn-requires-clause-turn
+take_turn-requires-clause-turn c = record {
+  can = c.requires.terms;
+  few = c.requires.few;
+  low = search rules;
+  order_is =
+      ap (map (λ (student : StudentNo). student.0)) c.deref-in-turns.ensures.value ∙ c.in_ok-order.ensures.value
+      ∙ ap after_order_of
+      (ap amounts c.deref.ensures.value ∙ sym (budgets_are c.args.terms.now.crowd.menus.items c.args.terms.now.crowd.budgets.items c.args.terms.now.crowd.same));
+  so_far = c.turns.invariant.progress;
+}
 
 pub turns-preserved : goal.turns-preserved
 turns-preserved c = record {
   right = below_more _ _ c.turns.invariant.right c.in_ok-progress.ensures.right;
   progress = c.in_ok-progress.ensures.progress;
-  held = c.in_ok-progress.ensures.held;
   floor = c.in_ok-progress.ensures.floor;
 }
+
+pub returns-then-is_empty-clause-floor : goal.returns-then-is_empty-clause-floor
+returns-then-is_empty-clause-floor c =
+    let turns = length_map turn_of c.args.publication.now.turns.items in
+    let past : length (publication_of c.args.publication.now).turns ≤ c.turns.place = omega arith in
+    record {
+      is_floor = c.turns.invariant.floor.is_floor;
+      held = c.turns.invariant.floor.held ∙ held_whole (publication_of c.args.publication.now) c.turns.place past;
+    }
 
 pub returns-then-is_empty-clause-ok : goal.returns-then-is_empty-clause-ok
 returns-then-is_empty-clause-ok c =
@@ -60,6 +73,15 @@ returns-then-is_empty-clause-ok c =
     let turns = length_map turn_of c.args.publication.now.turns.items in
     let empty : vec_len c.in_ok-order.order ≡ 0 = is_zero (vec_len c.in_ok-order.order) (sym c.is_empty.ensures ∙ c.if-is_empty.true) in
     ((c.requires.before, fewer _ c.turns.place _ (omega arith) c.turns.invariant.right), λ some. absurd (omega arith))
+
+pub returns-then-progress-clause-floor : goal.returns-then-progress-clause-floor
+returns-then-progress-clause-floor c =
+    let turns = length_map turn_of c.args.publication.now.turns.items in
+    let past : length (publication_of c.args.publication.now).turns ≤ c.turns.place = omega arith in
+    record {
+      is_floor = c.turns.invariant.floor.is_floor;
+      held = c.turns.invariant.floor.held ∙ held_whole (publication_of c.args.publication.now) c.turns.place past;
+    }
 
 pub returns-then-progress-clause-ok : goal.returns-then-progress-clause-ok
 returns-then-progress-clause-ok c =

@@ -1,4 +1,4 @@
-use Rattle.std.proofs.Common.{◌≡◌, ◌≤◌, ◌+◌, ◌-◌, ◌*◌, ◌%◌, ◌^◌, ◌++◌, ◌∷◌, [], length, slice_index_or, sym, ◌∙◌, ap, arith, rules, w64}
+use Rattle.std.proofs.Common.{◌≡◌, ◌≤◌, ◌+◌, ◌-◌, ◌*◌, ◌%◌, ◌^◌, ◌++◌, ◌∷◌, [], length, slice_index_or, sym, ◌∙◌, arith, rules, w64}
 use Rattle.std.specs.Prelude.{bit_and}
 use Rattle.std.specs.Int.{bit_not, trailing_zeros}
 use Rattle.std.proofs.lemmas.Bool.{true≢false}
@@ -7,7 +7,7 @@ use Rattle.bundle_rules.specs.Menus.{section_at}
 use Rattle.demand_oracle.specs.Questions.{offer_asked, wanted_in}
 use Rattle.demand_oracle.specs.SummedNodes.{chosen_of}
 use Rattle.demand_oracle.proofs.OpenPlaces.{word_falls}
-use Rattle.demand_oracle.proofs.Descending.{compared, whole_searched, lost_searched, end_searched, next_later, next_on_menu, node_next, prune_searched, fits_where_takable, takable_where_fits, shut_goes_on, node_taken, word_taken, taken_goes_on, given_searched}
+use Rattle.demand_oracle.proofs.Descending.{compared, next_clashes, whole_searched, lost_searched, end_searched, next_later, next_on_menu, node_next, prune_searched, fits_where_takable, takable_where_fits, shut_goes_on, node_taken, word_taken, taken_goes_on, given_searched}
 use Rattle.demand_oracle.proofs.below.+below.Goals as goal
 
 pub returns-then-courses_left-eq0-clause-searched : goal.returns-then-courses_left-eq0-clause-searched
@@ -54,7 +54,7 @@ pub places-preserved-then-not-fits : goal.places-preserved-then-not-fits
 places-preserved-then-not-fits t c =
     let on = next_on_menu c.args.question.now c.requires.question c.args.summed.now c.requires.summed c.requires.node c.args.champion.now c.places.left c.places.champion
     c.places.invariant.goes_on (search rules) (omega arith) in
-    let within = c.fits.ensures (offer_asked c.args.question.now) c.requires.question.goods on in
+    let within = c.fits.ensures c.requires.question on in
     record {
       goes_on =
           shut_goes_on c.args.question.now c.requires.question c.args.summed.now c.requires.summed c.requires.node c.args.champion.now c.places.left c.places.champion
@@ -63,7 +63,7 @@ places-preserved-then-not-fits t c =
           let left =
           fits_where_takable c.args.question.now c.requires.question c.args.summed.now c.requires.summed c.requires.node c.args.champion.now c.places.left c.places.champion
           c.places.invariant.goes_on (search rules) (omega arith) takable in
-          true≢false (sym (within.1 (rw c.budget_left-budget_left.ensures left.0, rw c.credits_left-credits_left.ensures.value left.1)) ∙ c.if-not-fits.true));
+          true≢false (sym (within.1 left) ∙ c.if-not-fits.true));
       fewer =
           let before : c.places.left ≤ c.args.word = c.places.invariant.fewer in
           let falls =
@@ -72,17 +72,6 @@ places-preserved-then-not-fits t c =
           omega arith;
     }
 
-pub passed_to-requires : goal.passed_to-requires
-passed_to-requires t c =
-    next_later c.args.question.now c.requires.question c.args.summed.now c.requires.summed c.requires.node c.args.champion.now c.places.left c.places.champion
-    c.places.invariant.goes_on (search rules) (omega arith)
-
-pub with_next-with_it-requires-clause-next : goal.with_next-with_it-requires-clause-next
-with_next-with_it-requires-clause-next t c =
-    rw c.passed_to.ensures.place
-    (next_on_menu c.args.question.now c.requires.question c.args.summed.now c.requires.summed c.requires.node c.args.champion.now c.places.left c.places.champion
-    c.places.invariant.goes_on (search rules) (omega arith))
-
 pub bounds-question-from : goal.bounds-question-from
 bounds-question-from t c =
     let on = next_on_menu c.args.question.now c.requires.question c.args.summed.now c.requires.summed c.requires.node c.args.champion.now c.places.left c.places.champion
@@ -90,24 +79,97 @@ bounds-question-from t c =
     let few : length c.args.question.now.menu.now.places ≤ 60 = c.requires.question.menu.places.few in
     omega arith
 
-pub below-requires : goal.below-requires
-below-requires t c =
+pub falls_short-requires-clause-undecided : goal.falls_short-requires-clause-undecided
+falls_short-requires-clause-undecided t c =
+    next_later c.args.question.now c.requires.question c.args.summed.now c.requires.summed c.requires.node c.args.champion.now c.places.left c.places.champion
+    c.places.invariant.goes_on (search rules) (omega arith)
+
+pub falls_short-requires-clause-on_menu : goal.falls_short-requires-clause-on_menu
+falls_short-requires-clause-on_menu t c =
+    next_on_menu c.args.question.now c.requires.question c.args.summed.now c.requires.summed c.requires.node c.args.champion.now c.places.left c.places.champion
+    c.places.invariant.goes_on (search rules) (omega arith)
+
+pub falls_short-requires-clause-node : goal.falls_short-requires-clause-node
+falls_short-requires-clause-node t c =
     let on = next_on_menu c.args.question.now c.requires.question c.args.summed.now c.requires.summed c.requires.node c.args.champion.now c.places.left c.places.champion
     c.places.invariant.goes_on (search rules) (omega arith) in
-    let within = (c.fits.ensures (offer_asked c.args.question.now) c.requires.question.goods on).0 c.if-not-fits.false in
+    let within = (c.fits.ensures c.requires.question on).0 c.if-not-fits.false in
     let takable =
     takable_where_fits c.args.question.now c.requires.question c.args.summed.now c.requires.summed c.requires.node c.args.champion.now c.places.left c.places.champion
     c.places.invariant.goes_on (search rules) (omega arith)
     (let left : c.courses_left.result ≡ c.args.question.now.menu.now.courses - length (chosen_of c.args.summed.now) = c.courses_left.ensures.value in
-    omega (arith, c.if-courses_left-eq0.false)) (rw c.budget_left-budget_left.ensures at within.0)
-    (rw c.credits_left-credits_left.ensures.value at within.1) in
-    let place_is : c.with_next-with_it.result.node.place ≡ trailing_zeros w64 c.places.left + 1 =
-    c.with_next-with_it.ensures.place ∙ ap (λ n. n + 1) c.passed_to.ensures.place in
-    let chosen_is : chosen_of c.with_next-with_it.result
+    omega (arith, c.if-courses_left-eq0.false)) within.0 within.1 in
+    node_taken c.args.question.now c.requires.question c.args.summed.now c.requires.summed c.requires.node c.args.champion.now c.places.left c.places.champion
+    c.places.invariant.goes_on (search rules) (omega arith) takable
+
+pub falls_short-requires-clause-word : goal.falls_short-requires-clause-word
+falls_short-requires-clause-word t c =
+    let on = next_on_menu c.args.question.now c.requires.question c.args.summed.now c.requires.summed c.requires.node c.args.champion.now c.places.left c.places.champion
+    c.places.invariant.goes_on (search rules) (omega arith) in
+    let within = (c.fits.ensures c.requires.question on).0 c.if-not-fits.false in
+    let takable =
+    takable_where_fits c.args.question.now c.requires.question c.args.summed.now c.requires.summed c.requires.node c.args.champion.now c.places.left c.places.champion
+    c.places.invariant.goes_on (search rules) (omega arith)
+    (let left : c.courses_left.result ≡ c.args.question.now.menu.now.courses - length (chosen_of c.args.summed.now) = c.courses_left.ensures.value in
+    omega (arith, c.if-courses_left-eq0.false)) within.0 within.1 in
+    word_taken c.args.question.now c.requires.question c.args.summed.now c.requires.summed c.requires.node c.args.champion.now c.places.left c.places.champion
+    c.places.invariant.goes_on (search rules) (omega arith) takable
+    (slice_index_or c.args.question.now.goods.now.clashes c.from.result 0) (search rules)
+    (rw c.from.ensures (next_clashes c.args.question.now c.requires.question c.args.summed.now c.requires.summed c.requires.node c.args.champion.now c.places.left
+    c.places.champion c.places.invariant.goes_on (search rules) (omega arith)))
+
+pub places-smaller-then-falls_short : goal.places-smaller-then-falls_short
+places-smaller-then-falls_short t c =
+    word_falls (offer_asked c.args.question.now) c.requires.question.menu c.places.invariant.goes_on.from (chosen_of c.args.summed.now) c.places.left (search rules)
+    (omega arith) c.places.invariant.goes_on.is_word
+
+pub places-preserved-then-falls_short : goal.places-preserved-then-falls_short
+places-preserved-then-falls_short t c =
+    let on = next_on_menu c.args.question.now c.requires.question c.args.summed.now c.requires.summed c.requires.node c.args.champion.now c.places.left c.places.champion
+    c.places.invariant.goes_on (search rules) (omega arith) in
+    let within = (c.fits.ensures c.requires.question on).0 c.if-not-fits.false in
+    let takable =
+    takable_where_fits c.args.question.now c.requires.question c.args.summed.now c.requires.summed c.requires.node c.args.champion.now c.places.left c.places.champion
+    c.places.invariant.goes_on (search rules) (omega arith)
+    (let left : c.courses_left.result ≡ c.args.question.now.menu.now.courses - length (chosen_of c.args.summed.now) = c.courses_left.ensures.value in
+    omega (arith, c.if-courses_left-eq0.false)) within.0 within.1 in
+    record {
+      goes_on =
+          taken_goes_on c.args.question.now c.requires.question c.args.summed.now c.requires.summed c.requires.node c.args.champion.now c.places.left c.places.champion
+          c.places.invariant.goes_on (search rules) (omega arith)
+          takable c.places.champion c.places.invariant.goes_on.is_champion (c.falls_short.ensures c.if-falls_short.true);
+      fewer =
+          let before : c.places.left ≤ c.args.word = c.places.invariant.fewer in
+          let falls =
+          word_falls (offer_asked c.args.question.now) c.requires.question.menu c.places.invariant.goes_on.from (chosen_of c.args.summed.now) c.places.left
+          (search rules) (omega arith) c.places.invariant.goes_on.is_word in
+          omega arith;
+    }
+
+pub with_place-with_it-requires-clause-undecided : goal.with_place-with_it-requires-clause-undecided
+with_place-with_it-requires-clause-undecided t c =
+    next_later c.args.question.now c.requires.question c.args.summed.now c.requires.summed c.requires.node c.args.champion.now c.places.left c.places.champion
+    c.places.invariant.goes_on (search rules) (omega arith)
+
+pub with_place-with_it-requires-clause-on_menu : goal.with_place-with_it-requires-clause-on_menu
+with_place-with_it-requires-clause-on_menu t c =
+    next_on_menu c.args.question.now c.requires.question c.args.summed.now c.requires.summed c.requires.node c.args.champion.now c.places.left c.places.champion
+    c.places.invariant.goes_on (search rules) (omega arith)
+
+pub below-requires : goal.below-requires
+below-requires t c =
+    let on = next_on_menu c.args.question.now c.requires.question c.args.summed.now c.requires.summed c.requires.node c.args.champion.now c.places.left c.places.champion
+    c.places.invariant.goes_on (search rules) (omega arith) in
+    let within = (c.fits.ensures c.requires.question on).0 c.if-not-fits.false in
+    let takable =
+    takable_where_fits c.args.question.now c.requires.question c.args.summed.now c.requires.summed c.requires.node c.args.champion.now c.places.left c.places.champion
+    c.places.invariant.goes_on (search rules) (omega arith)
+    (let left : c.courses_left.result ≡ c.args.question.now.menu.now.courses - length (chosen_of c.args.summed.now) = c.courses_left.ensures.value in
+    omega (arith, c.if-courses_left-eq0.false)) within.0 within.1 in
+    let place_is : c.with_place-with_it.result.node.place ≡ trailing_zeros w64 c.places.left + 1 = c.with_place-with_it.ensures.place in
+    let chosen_is : chosen_of c.with_place-with_it.result
     ≡ chosen_of c.args.summed.now ++ section_at c.args.question.now.menu.now.places (trailing_zeros w64 c.places.left) ∷ [] =
-    c.with_next-with_it.ensures.chosen
-    ∙ ap (λ l. l ++ section_at c.args.question.now.menu.now.places c.passed_to.result.node.place ∷ []) c.passed_to.ensures.chosen
-    ∙ ap (λ k. chosen_of c.args.summed.now ++ section_at c.args.question.now.menu.now.places k ∷ []) c.passed_to.ensures.place in
+    c.with_place-with_it.ensures.chosen in
     let falls =
     word_falls (offer_asked c.args.question.now) c.requires.question.menu c.places.invariant.goes_on.from (chosen_of c.args.summed.now) c.places.left
     (search rules) (omega arith) c.places.invariant.goes_on.is_word in
@@ -117,7 +179,7 @@ below-requires t c =
       (
         c.requires.question,
         (
-          c.with_next-with_it.ensures.summed,
+          c.with_place-with_it.ensures.summed,
           (
             rw (place_is, chosen_is)
                 (node_taken c.args.question.now c.requires.question c.args.summed.now c.requires.summed c.requires.node c.args.champion.now c.places.left c.places.champion
@@ -127,7 +189,8 @@ below-requires t c =
                   (word_taken c.args.question.now c.requires.question c.args.summed.now c.requires.summed c.requires.node c.args.champion.now c.places.left c.places.champion
                   c.places.invariant.goes_on (search rules) (omega arith) takable
                   (slice_index_or c.args.question.now.goods.now.clashes c.from.result 0) (search rules)
-                  (rw c.from.ensures (c.requires.question.goods.clashes (trailing_zeros w64 c.places.left) on))),
+                  (rw c.from.ensures (next_clashes c.args.question.now c.requires.question c.args.summed.now c.requires.summed c.requires.node c.args.champion.now c.places.left
+                  c.places.champion c.places.invariant.goes_on (search rules) (omega arith)))),
               c.places.invariant.goes_on.is_champion,
             ),
           ),
@@ -139,20 +202,16 @@ pub returns-then-is_given-clause-searched : goal.returns-then-is_given-clause-se
 returns-then-is_given-clause-searched t c =
     let on = next_on_menu c.args.question.now c.requires.question c.args.summed.now c.requires.summed c.requires.node c.args.champion.now c.places.left c.places.champion
     c.places.invariant.goes_on (search rules) (omega arith) in
-    let within = (c.fits.ensures (offer_asked c.args.question.now) c.requires.question.goods on).0 c.if-not-fits.false in
+    let within = (c.fits.ensures c.requires.question on).0 c.if-not-fits.false in
     let takable =
     takable_where_fits c.args.question.now c.requires.question c.args.summed.now c.requires.summed c.requires.node c.args.champion.now c.places.left c.places.champion
     c.places.invariant.goes_on (search rules) (omega arith)
     (let left : c.courses_left.result ≡ c.args.question.now.menu.now.courses - length (chosen_of c.args.summed.now) = c.courses_left.ensures.value in
-    omega (arith, c.if-courses_left-eq0.false)) (rw c.budget_left-budget_left.ensures at within.0)
-    (rw c.credits_left-credits_left.ensures.value at within.1) in
-    let place_is : c.with_next-with_it.result.node.place ≡ trailing_zeros w64 c.places.left + 1 =
-    c.with_next-with_it.ensures.place ∙ ap (λ n. n + 1) c.passed_to.ensures.place in
-    let chosen_is : chosen_of c.with_next-with_it.result
+    omega (arith, c.if-courses_left-eq0.false)) within.0 within.1 in
+    let place_is : c.with_place-with_it.result.node.place ≡ trailing_zeros w64 c.places.left + 1 = c.with_place-with_it.ensures.place in
+    let chosen_is : chosen_of c.with_place-with_it.result
     ≡ chosen_of c.args.summed.now ++ section_at c.args.question.now.menu.now.places (trailing_zeros w64 c.places.left) ∷ [] =
-    c.with_next-with_it.ensures.chosen
-    ∙ ap (λ l. l ++ section_at c.args.question.now.menu.now.places c.passed_to.result.node.place ∷ []) c.passed_to.ensures.chosen
-    ∙ ap (λ k. chosen_of c.args.summed.now ++ section_at c.args.question.now.menu.now.places k ∷ []) c.passed_to.ensures.place in
+    c.with_place-with_it.ensures.chosen in
     given_searched c.args.question.now c.requires.question c.args.summed.now c.requires.summed c.requires.node c.args.champion.now c.places.left c.places.champion
     c.places.invariant.goes_on (search rules) (omega arith) takable
     c.below.new.champion c.below.ensures.champion (rw (place_is, chosen_is) at c.below.ensures.searched) (c.is_given.ensures.0 c.if-is_given.true)
@@ -166,20 +225,16 @@ pub places-preserved : goal.places-preserved
 places-preserved t c =
     let on = next_on_menu c.args.question.now c.requires.question c.args.summed.now c.requires.summed c.requires.node c.args.champion.now c.places.left c.places.champion
     c.places.invariant.goes_on (search rules) (omega arith) in
-    let within = (c.fits.ensures (offer_asked c.args.question.now) c.requires.question.goods on).0 c.if-not-fits.false in
+    let within = (c.fits.ensures c.requires.question on).0 c.if-not-fits.false in
     let takable =
     takable_where_fits c.args.question.now c.requires.question c.args.summed.now c.requires.summed c.requires.node c.args.champion.now c.places.left c.places.champion
     c.places.invariant.goes_on (search rules) (omega arith)
     (let left : c.courses_left.result ≡ c.args.question.now.menu.now.courses - length (chosen_of c.args.summed.now) = c.courses_left.ensures.value in
-    omega (arith, c.if-courses_left-eq0.false)) (rw c.budget_left-budget_left.ensures at within.0)
-    (rw c.credits_left-credits_left.ensures.value at within.1) in
-    let place_is : c.with_next-with_it.result.node.place ≡ trailing_zeros w64 c.places.left + 1 =
-    c.with_next-with_it.ensures.place ∙ ap (λ n. n + 1) c.passed_to.ensures.place in
-    let chosen_is : chosen_of c.with_next-with_it.result
+    omega (arith, c.if-courses_left-eq0.false)) within.0 within.1 in
+    let place_is : c.with_place-with_it.result.node.place ≡ trailing_zeros w64 c.places.left + 1 = c.with_place-with_it.ensures.place in
+    let chosen_is : chosen_of c.with_place-with_it.result
     ≡ chosen_of c.args.summed.now ++ section_at c.args.question.now.menu.now.places (trailing_zeros w64 c.places.left) ∷ [] =
-    c.with_next-with_it.ensures.chosen
-    ∙ ap (λ l. l ++ section_at c.args.question.now.menu.now.places c.passed_to.result.node.place ∷ []) c.passed_to.ensures.chosen
-    ∙ ap (λ k. chosen_of c.args.summed.now ++ section_at c.args.question.now.menu.now.places k ∷ []) c.passed_to.ensures.place in
+    c.with_place-with_it.ensures.chosen in
     record {
       goes_on =
           taken_goes_on c.args.question.now c.requires.question c.args.summed.now c.requires.summed c.requires.node c.args.champion.now c.places.left c.places.champion

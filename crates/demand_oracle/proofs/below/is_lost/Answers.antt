@@ -1,30 +1,39 @@
-use Rattle.std.proofs.Common.{◌≡◌, ◌<◌, ◌≤◌, ◌++◌, ◌∷◌, [], ℕ, true, length, ap, sym, ◌∙◌, arith}
+use Rattle.std.proofs.Common.{◌<◌, ◌≤◌, ℕ, length, sym, ◌∙◌, ap}
 use Rattle.std.specs.Prelude.{not}
-use Rattle.std.proofs.lemmas.Bool.{true≢false, false≢true}
-use Rattle.market_units.specs.Members.{has}
-use Rattle.bundle_rules.specs.Menus.{section_at}
-use Rattle.demand_oracle.specs.Questions.{offer_asked}
-use Rattle.bundle_bounds.specs.Laws.{IsTakable}
+use Rattle.std.proofs.lemmas.Nat.Bits.{shr_and_one}
+use Rattle.std.proofs.lemmas.Bool.{false≢true}
+use Rattle.demand_oracle.specs.Questions.{offer_asked, wanted_in}
 use Rattle.demand_oracle.specs.SummedNodes.{chosen_of}
-use Rattle.demand_oracle.proofs.Wanting.{lacks_lost}
+use Rattle.demand_oracle.proofs.OpenPlaces.{shut_where_clear}
+use Rattle.demand_oracle.proofs.Openings.{open_at_where_takable}
+use Rattle.demand_oracle.proofs.Wanting.{lost_prunes}
 use Rattle.demand_oracle.proofs.below.is_lost.Goals as goal
 
-pub returns-else-place-summed-clause-undecided : goal.returns-else-place-summed-clause-undecided
-returns-else-place-summed-clause-undecided c is =
-    let on : c.in-Some.place < length c.args.question.now.menu.now.places = rw c.in-Some.is at c.requires.question.given in
-    omega (arith, c.if-place-summed.false)
-
-pub returns-else-place-summed-clause-lost : goal.returns-else-place-summed-clause-lost
-returns-else-place-summed-clause-lost c champion is bundle may is_wanted completes =
+pub returns-then-word-place-eq0-clause-lost : goal.returns-then-word-place-eq0-clause-lost
+returns-then-word-place-eq0-clause-lost c champion is =
     let question = c.args.question.now in
-    let menu = question.menu.now in
+    let offer = offer_asked question in
     let place : ℕ = c.in-Some.place in
     let k : ℕ = c.args.summed.now.node.place in
     let chosen = chosen_of c.args.summed.now in
-    let on : place < length menu.places = rw c.in-Some.is at c.requires.question.given in
-    let later : k ≤ place = omega (arith, c.if-place-summed.false) in
-    let lost : IsTakable (offer_asked question) (chosen ++ section_at menu.places place ∷ []) → ⊥ =
-    λ takable. false≢true (sym (ap not (c.may_take.ensures.takable.1 takable)) ∙ is) in
-    let lacks = lacks_lost (offer_asked question) c.requires.question.menu place on k chosen c.requires.node later lost bundle may completes in
-    let has_it : has bundle (section_at menu.places place) ≡ true = rw c.in-Some.is at is_wanted in
-    absurd (true≢false (sym has_it ∙ lacks))
+    let on : place < length question.menu.now.places = rw c.in-Some.is at c.requires.question.given in
+    let later : k ≤ place = c.if-place-summed.false in
+    let clear = sym (shr_and_one c.args.word place) ∙ c.if-word-place-eq0.true in
+    lost_prunes offer c.requires.question.menu place on k chosen c.requires.node later (wanted_in question)
+    (λ bundle is_wanted. rw c.in-Some.is at is_wanted)
+    (shut_where_clear offer c.requires.question.menu k chosen c.requires.node c.args.word c.requires.word place later on clear) champion
+
+pub returns-else-word-place-eq0-clause-lost : goal.returns-else-word-place-eq0-clause-lost
+returns-else-word-place-eq0-clause-lost c champion is =
+    let question = c.args.question.now in
+    let offer = offer_asked question in
+    let place : ℕ = c.in-Some.place in
+    let k : ℕ = c.args.summed.now.node.place in
+    let chosen = chosen_of c.args.summed.now in
+    let on : place < length question.menu.now.places = rw c.in-Some.is at c.requires.question.given in
+    let later : k ≤ place = c.if-place-summed.false in
+    lost_prunes offer c.requires.question.menu place on k chosen c.requires.node later (wanted_in question)
+    (λ bundle is_wanted. rw c.in-Some.is at is_wanted)
+    (λ takable.
+    let at = open_at_where_takable offer c.requires.question.menu c.args.summed.now c.requires.summed k c.requires.node place later on takable in
+    false≢true (sym (ap not ((c.fits.ensures c.requires.question on).1 (at.price, at.credits))) ∙ is)) champion

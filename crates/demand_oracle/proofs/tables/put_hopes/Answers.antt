@@ -1,8 +1,9 @@
-use Rattle.std.proofs.Common.{◌≡◌, ◌<◌, ◌≤◌, ◌+◌, ◌-◌, length, set, replicate, sym, ◌∙◌, arith, subst}
+use Rattle.std.proofs.Common.{◌≡◌, ◌≤◌, ◌+◌, ◌-◌, ℕ, [], length, set, replicate, slice_index_or, sym, ap, ◌∙◌, arith, subst}
 use Rattle.std.proofs.Math.ListN.{length-set}
 use Rattle.bundle_bounds.specs.Offers.{offer_of}
-use Rattle.demand_oracle.specs.Reaches.{HoldsHopes}
-use Rattle.demand_oracle.proofs.Hoping.{holds_last, holds_more, zero_row}
+use Rattle.demand_oracle.specs.Reaches.{number_at, HoldsHopes}
+use Rattle.demand_oracle.specs.Values.{hopes_from}
+use Rattle.demand_oracle.proofs.Hoping.{holds_kept, holds_last, holds_more, row_same, zero_row}
 use Rattle.demand_oracle.proofs.tables.put_hopes.Goals as goal
 
 pub loop-place-init : goal.loop-place-init
@@ -18,23 +19,34 @@ loop-place-init c = record {
       (holds_last offer c.args.hopes.now (replicate 60 0) (omega arith) (zero_row 60)));
 }
 
-pub hopes_at-requires-clause-later : goal.hopes_at-requires-clause-later
-hopes_at-requires-clause-later c prices budget earlier low =
-    let at : c.from-in-loop-place.result + 1 ≡ c.loop-place.place = omega arith in
-    let at' : c.loop-place.place - 1 + 1 ≡ c.loop-place.place = omega arith in
-    let below : earlier < c.loop-place.place = omega arith in
-    rw (at, at') (c.loop-place.invariant.filled prices budget c.loop-place.place earlier (omega arith) (omega arith) below)
+pub add_hopes-requires-clause-later : goal.add_hopes-requires-clause-later
+add_hopes-requires-clause-later c prices budget earlier low =
+    let offer = offer_of c.args.menu.now prices budget c.args.allowed.now in
+    let k : ℕ = c.loop-place.place - 1 in
+    let few : length c.args.menu.now.places ≤ 60 = c.len-count.ensures.menu.places.few in
+    let size : length c.loop-place.hopes ≡ 61 = c.loop-place.invariant.whole in
+    let row = slice_index_or c.loop-place.hopes (k + 1) [] in
+    let read : c.from-in-loop-place.result + 1 ≡ k + 1 = ap (λ n. n + 1) c.from-in-loop-place.ensures in
+    let next : k + 1 ≡ c.loop-place.place = omega arith in
+    rw (read, c.from-in-loop-place-2.ensures, c.from-in-loop-place-3.ensures)
+    (row_same c.loop-place.hopes k row earlier (omega arith)
+    ∙ subst (λ n. number_at c.loop-place.hopes n earlier ≡ hopes_from offer n earlier) (sym next)
+    (c.loop-place.invariant.filled prices budget c.loop-place.place earlier (omega arith) (omega arith) (omega arith)))
 
 pub loop-place-preserved : goal.loop-place-preserved
-loop-place-preserved c = record {
-  whole = length-set c.loop-place.hopes c.from-in-loop-place-2.result _ ∙ c.loop-place.invariant.whole;
-  filled = λ prices budget.
-      let offer = offer_of c.args.menu.now prices budget c.args.allowed.now in
-      let few : length c.args.menu.now.places ≤ 60 = c.len-count.ensures.menu.places.few in
-      let size : length c.loop-place.hopes ≡ 61 = c.loop-place.invariant.whole in
-      let at : c.loop-place.place - 1 ≡ c.from-in-loop-place-2.result = sym c.from-in-loop-place-2.ensures in
-      let at' : c.loop-place.place ≡ c.loop-place.place - 1 + 1 = omega arith in
-      subst (λ n. HoldsHopes offer (set c.loop-place.hopes n c.hopes_at.result) (c.loop-place.place - 1)) at
-      (holds_more offer c.loop-place.hopes (c.loop-place.place - 1) c.hopes_at.result (omega arith)
-      (subst (HoldsHopes offer c.loop-place.hopes) at' (c.loop-place.invariant.filled prices budget)) (c.hopes_at.ensures prices budget));
-}
+loop-place-preserved c =
+    let k : ℕ = c.loop-place.place - 1 in
+    let few : length c.args.menu.now.places ≤ 60 = c.len-count.ensures.menu.places.few in
+    let size : length c.loop-place.hopes ≡ 61 = c.loop-place.invariant.whole in
+    let row = slice_index_or c.loop-place.hopes (c.from-in-loop-place.result + 1) [] in
+    let copied = set c.loop-place.hopes k row in
+    let long : length copied ≡ 61 = length-set c.loop-place.hopes k row ∙ size in
+    let next : c.loop-place.place ≡ k + 1 = omega arith in
+    rw (c.from-in-loop-place-2.ensures, c.from-in-loop-place-3.ensures) record {
+      whole = length-set copied k _ ∙ long;
+      filled = λ prices budget.
+          let offer = offer_of c.args.menu.now prices budget c.args.allowed.now in
+          holds_more offer copied k c.add_hopes.new.hopes (omega arith)
+          (holds_kept offer c.loop-place.hopes k row (subst (HoldsHopes offer c.loop-place.hopes) next (c.loop-place.invariant.filled prices budget)))
+          (c.add_hopes.ensures prices budget);
+    }

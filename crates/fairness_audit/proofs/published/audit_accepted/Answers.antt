@@ -8,19 +8,19 @@ use Rattle.fairness_audit.proofs.published.audit_accepted.Goals as goal
 pub put_rows-requires-clause-settled : goal.put_rows-requires-clause-settled
 put_rows-requires-clause-settled g c =
     rw c.deref.ensures.value
-    (among_tables c.args.catalog.now c.args.roll.now c.args.accepted.publication c.args.accepted.crowd (arc_value c.in_ok-crowd.crowd)
+    (among_tables c.args.market.now.catalog.now c.args.market.now.roll.now c.args.accepted.publication c.args.accepted.crowd (arc_value c.in_ok-crowd.crowd)
     c.in_ok-crowd.ensures.ok c.requires.checked (map row_of c.in_ok-first.first.items) c.in_ok-first.ensures.among)
 
 pub put_rows-requires-clause-last : goal.put_rows-requires-clause-last
 put_rows-requires-clause-last g c =
     rw c.deref-2.ensures.value
-    (among_tables c.args.catalog.now c.args.roll.now c.args.accepted.publication c.args.accepted.crowd (arc_value c.in_ok-crowd.crowd)
+    (among_tables c.args.market.now.catalog.now c.args.market.now.roll.now c.args.accepted.publication c.args.accepted.crowd (arc_value c.in_ok-crowd.crowd)
     c.in_ok-crowd.ensures.ok c.requires.checked (map row_of c.in_ok-last.last.items) c.in_ok-last.ensures.among)
 
 pub returns : goal.returns
 returns g c =
     ok_then c.put_rows.result (λ text written.
-    is_audited c.args.catalog.now c.args.roll.now c.args.accepted.publication c.args.accepted.crowd (arc_value c.in_ok-crowd.crowd) c.in_ok-crowd.ensures.ok
+    is_audited c.args.market.now.catalog.now c.args.market.now.roll.now c.args.accepted.publication c.args.accepted.crowd (arc_value c.in_ok-crowd.crowd) c.in_ok-crowd.ensures.ok
     c.requires.checked c.in_ok-settled.settled.items
     (map row_of c.in_ok-first.first.items) (map row_of c.in_ok-last.last.items) text.items c.in_ok-settled.ensures c.in_ok-first.ensures.rows
     c.in_ok-last.ensures.rows

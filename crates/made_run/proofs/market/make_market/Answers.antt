@@ -12,43 +12,43 @@ use Rattle.made_run.proofs.market.make_market.Goals as goal
 pub catalog_in-requires-clause-grammar : goal.catalog_in-requires-clause-grammar
 catalog_in-requires-clause-grammar c =
     let read =
-    texts_read c.args.seed c.args.students c.args.sections c.args.accept (omega (arith, c.ranges.seed)) c.requires.few_students c.requires.some_sections
-    c.requires.few_sections c.requires.accept in
-    (made_catalog c.args.students c.args.sections, ap catalog_of (c.deref.ensures.value ∙ c.in_ok-made.ensures.catalog) ∙ read.catalog)
+    texts_read c.args.numbers.seed c.args.numbers.students c.args.numbers.sections c.args.numbers.accept c.args.numbers.seed_fits c.args.numbers.few_students c.args.numbers.some_sections
+    c.args.numbers.few_sections c.args.numbers.accept_fits in
+    (made_catalog c.args.numbers.students c.args.numbers.sections, ap catalog_of (c.deref.ensures.value ∙ c.in_ok-made.ensures.catalog) ∙ read.catalog)
 
 pub catalog_in-requires-clause-short : goal.catalog_in-requires-clause-short
 catalog_in-requires-clause-short c =
     let short =
-    within_limits c.args.seed c.args.students c.args.sections c.args.accept (omega (arith, c.ranges.seed)) c.requires.few_students c.requires.some_sections
-    c.requires.few_sections c.requires.accept in
+    within_limits c.args.numbers.seed c.args.numbers.students c.args.numbers.sections c.args.numbers.accept c.args.numbers.seed_fits c.args.numbers.few_students c.args.numbers.some_sections
+    c.args.numbers.few_sections c.args.numbers.accept_fits in
     omega (arith, ap length (c.deref.ensures.value ∙ c.in_ok-made.ensures.catalog), short.catalog)
 
 pub roll_in-requires-clause-grammar : goal.roll_in-requires-clause-grammar
 roll_in-requires-clause-grammar c =
     let read =
-    texts_read c.args.seed c.args.students c.args.sections c.args.accept (omega (arith, c.ranges.seed)) c.requires.few_students c.requires.some_sections
-    c.requires.few_sections c.requires.accept in
-    (made_roll c.args.students, ap roll_of (c.deref-2.ensures.value ∙ c.in_ok-made.ensures.roll) ∙ read.roll)
+    texts_read c.args.numbers.seed c.args.numbers.students c.args.numbers.sections c.args.numbers.accept c.args.numbers.seed_fits c.args.numbers.few_students c.args.numbers.some_sections
+    c.args.numbers.few_sections c.args.numbers.accept_fits in
+    (made_roll c.args.numbers.students, ap roll_of (c.deref-2.ensures.value ∙ c.in_ok-made.ensures.roll) ∙ read.roll)
 
 pub roll_in-requires-clause-short : goal.roll_in-requires-clause-short
 roll_in-requires-clause-short c =
     let short =
-    within_limits c.args.seed c.args.students c.args.sections c.args.accept (omega (arith, c.ranges.seed)) c.requires.few_students c.requires.some_sections
-    c.requires.few_sections c.requires.accept in
+    within_limits c.args.numbers.seed c.args.numbers.students c.args.numbers.sections c.args.numbers.accept c.args.numbers.seed_fits c.args.numbers.few_students c.args.numbers.some_sections
+    c.args.numbers.few_sections c.args.numbers.accept_fits in
     omega (arith, ap length (c.deref-2.ensures.value ∙ c.in_ok-made.ensures.roll), short.roll)
 
 pub settings_in-requires : goal.settings_in-requires
 settings_in-requires c =
     let read =
-    texts_read c.args.seed c.args.students c.args.sections c.args.accept (omega (arith, c.ranges.seed)) c.requires.few_students c.requires.some_sections
-    c.requires.few_sections c.requires.accept in
-    record { grammar = (made_settings c.args.seed c.args.accept, ap settings_of (c.deref-3.ensures.value ∙ c.in_ok-made.ensures.settings) ∙ read.settings) }
+    texts_read c.args.numbers.seed c.args.numbers.students c.args.numbers.sections c.args.numbers.accept c.args.numbers.seed_fits c.args.numbers.few_students c.args.numbers.some_sections
+    c.args.numbers.few_sections c.args.numbers.accept_fits in
+    record { grammar = (made_settings c.args.numbers.seed c.args.numbers.accept, ap settings_of (c.deref-3.ensures.value ∙ c.in_ok-made.ensures.settings) ∙ read.settings) }
 
 pub streams_in-requires : goal.streams_in-requires
 streams_in-requires c =
     let read =
-    texts_read c.args.seed c.args.students c.args.sections c.args.accept (omega (arith, c.ranges.seed)) c.requires.few_students c.requires.some_sections
-    c.requires.few_sections c.requires.accept in
+    texts_read c.args.numbers.seed c.args.numbers.students c.args.numbers.sections c.args.numbers.accept c.args.numbers.seed_fits c.args.numbers.few_students c.args.numbers.some_sections
+    c.args.numbers.few_sections c.args.numbers.accept_fits in
     omega (
       arith,
       ap (λ text. length (command_lines text)) (c.deref-4.ensures.value ∙ c.in_ok-made.ensures.first),
@@ -59,23 +59,23 @@ streams_in-requires c =
 pub returns-clause-catalog : goal.returns-clause-catalog
 returns-clause-catalog c =
     let read =
-    texts_read c.args.seed c.args.students c.args.sections c.args.accept (omega (arith, c.ranges.seed)) c.requires.few_students c.requires.some_sections
-    c.requires.few_sections c.requires.accept in
-    one_answer (catalog_of c.deref.result.now) c.in_ok-catalog_in.field-0 (made_catalog c.args.students c.args.sections) c.in_ok-catalog_in.ensures
+    texts_read c.args.numbers.seed c.args.numbers.students c.args.numbers.sections c.args.numbers.accept c.args.numbers.seed_fits c.args.numbers.few_students c.args.numbers.some_sections
+    c.args.numbers.few_sections c.args.numbers.accept_fits in
+    one_answer (catalog_of c.deref.result.now) c.in_ok-catalog_in.field-0 (made_catalog c.args.numbers.students c.args.numbers.sections) c.in_ok-catalog_in.ensures
     (ap catalog_of (c.deref.ensures.value ∙ c.in_ok-made.ensures.catalog) ∙ read.catalog)
 
 pub returns-clause-roll : goal.returns-clause-roll
 returns-clause-roll c =
     let read =
-    texts_read c.args.seed c.args.students c.args.sections c.args.accept (omega (arith, c.ranges.seed)) c.requires.few_students c.requires.some_sections
-    c.requires.few_sections c.requires.accept in
-    one_answer (roll_of c.deref-2.result.now) c.in_ok-roll_in.field-0 (made_roll c.args.students) c.in_ok-roll_in.ensures
+    texts_read c.args.numbers.seed c.args.numbers.students c.args.numbers.sections c.args.numbers.accept c.args.numbers.seed_fits c.args.numbers.few_students c.args.numbers.some_sections
+    c.args.numbers.few_sections c.args.numbers.accept_fits in
+    one_answer (roll_of c.deref-2.result.now) c.in_ok-roll_in.field-0 (made_roll c.args.numbers.students) c.in_ok-roll_in.ensures
     (ap roll_of (c.deref-2.ensures.value ∙ c.in_ok-made.ensures.roll) ∙ read.roll)
 
 pub returns-clause-settings : goal.returns-clause-settings
 returns-clause-settings c =
     let read =
-    texts_read c.args.seed c.args.students c.args.sections c.args.accept (omega (arith, c.ranges.seed)) c.requires.few_students c.requires.some_sections
-    c.requires.few_sections c.requires.accept in
-    one_answer (settings_of c.deref-3.result.now) c.in_ok-settings_in.field-0 (made_settings c.args.seed c.args.accept) c.in_ok-settings_in.ensures.read
+    texts_read c.args.numbers.seed c.args.numbers.students c.args.numbers.sections c.args.numbers.accept c.args.numbers.seed_fits c.args.numbers.few_students c.args.numbers.some_sections
+    c.args.numbers.few_sections c.args.numbers.accept_fits in
+    one_answer (settings_of c.deref-3.result.now) c.in_ok-settings_in.field-0 (made_settings c.args.numbers.seed c.args.numbers.accept) c.in_ok-settings_in.ensures.read
     (ap settings_of (c.deref-3.ensures.value ∙ c.in_ok-made.ensures.settings) ∙ read.settings)

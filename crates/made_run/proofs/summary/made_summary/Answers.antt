@@ -1,4 +1,3 @@
-use Rattle.std.proofs.Common.{arith}
 use Rattle.std.proofs.lemmas.Result.{IfOk-weaker}
 use Rattle.published_parts.specs.Markets.{market_of}
 use Rattle.session_hall.specs.Streams.{command_lists}
@@ -9,18 +8,18 @@ use Rattle.made_run.proofs.summary.made_summary.Goals as goal
 
 pub returns-clause-text : goal.returns-clause-text
 returns-clause-text g c =
-    let numbers : AreNumbers c.args.seed c.args.students c.args.sections c.args.accept =
+    let numbers : AreNumbers c.args.numbers.seed c.args.numbers.students c.args.numbers.sections c.args.numbers.accept =
     record {
-      seed_fits = omega arith;
-      few_students = c.requires.students.1;
-      some_sections = c.requires.sections.0;
-      few_sections = c.requires.sections.1;
-      accept_fits = c.requires.accept;
+      seed_fits = c.args.numbers.seed_fits;
+      few_students = c.args.numbers.few_students;
+      some_sections = c.args.numbers.some_sections;
+      few_sections = c.args.numbers.few_sections;
+      accept_fits = c.args.numbers.accept_fits;
     } in
     let made = c.in_ok-made.made in
-    let is : IsMadeMarket c.args.seed c.args.students c.args.sections c.args.accept (market_of made.catalog made.roll made.settings)
+    let is : IsMadeMarket c.args.numbers.seed c.args.numbers.students c.args.numbers.sections c.args.numbers.accept (market_of made.catalog made.roll made.settings)
     (command_lists made.streams.items) =
-    made_from c.args.seed c.args.students c.args.sections c.args.accept made.catalog made.roll made.settings (command_lists made.streams.items) numbers
+    made_from c.args.numbers.seed c.args.numbers.students c.args.numbers.sections c.args.numbers.accept made.catalog made.roll made.settings (command_lists made.streams.items) numbers
     c.in_ok-made.ensures.catalog c.in_ok-made.ensures.roll c.in_ok-made.ensures.settings
     c.in_ok-made.ensures.streams in
     IfOk-weaker c.held_summary.result _ _ (λ text told. (market_of made.catalog made.roll made.settings, command_lists made.streams.items, is, told.0, told.1))
@@ -28,18 +27,18 @@ returns-clause-text g c =
 
 pub returns-clause-no_prices : goal.returns-clause-no_prices
 returns-clause-no_prices g c = λ least ended.
-    let numbers : AreNumbers c.args.seed c.args.students c.args.sections c.args.accept =
+    let numbers : AreNumbers c.args.numbers.seed c.args.numbers.students c.args.numbers.sections c.args.numbers.accept =
     record {
-      seed_fits = omega arith;
-      few_students = c.requires.students.1;
-      some_sections = c.requires.sections.0;
-      few_sections = c.requires.sections.1;
-      accept_fits = c.requires.accept;
+      seed_fits = c.args.numbers.seed_fits;
+      few_students = c.args.numbers.few_students;
+      some_sections = c.args.numbers.some_sections;
+      few_sections = c.args.numbers.few_sections;
+      accept_fits = c.args.numbers.accept_fits;
     } in
     let made = c.in_ok-made.made in
-    let is : IsMadeMarket c.args.seed c.args.students c.args.sections c.args.accept (market_of made.catalog made.roll made.settings)
+    let is : IsMadeMarket c.args.numbers.seed c.args.numbers.students c.args.numbers.sections c.args.numbers.accept (market_of made.catalog made.roll made.settings)
     (command_lists made.streams.items) =
-    made_from c.args.seed c.args.students c.args.sections c.args.accept made.catalog made.roll made.settings (command_lists made.streams.items) numbers
+    made_from c.args.numbers.seed c.args.numbers.students c.args.numbers.sections c.args.numbers.accept made.catalog made.roll made.settings (command_lists made.streams.items) numbers
     c.in_ok-made.ensures.catalog c.in_ok-made.ensures.roll c.in_ok-made.ensures.settings
     c.in_ok-made.ensures.streams in
     let told = rw c.deref.ensures.value at (c.held_summary.ensures.no_prices least ended) in

@@ -3,9 +3,5 @@ use Rattle.published_market.proofs.bundles.fill_rooms.Goals as goal
 
 pub for_each_mut-requires-clause-accepts : goal.for_each_mut-requires-clause-accepts
 for_each_mut-requires-clause-accepts g c κs within = λ i p below is.
-    let places : c.args.first + length c.args.rooms.now ≤ length c.args.bundles.now = c.requires.places in (
-      (let goal : c.args.first + i < length c.args.bundles.now = omega arith in goal),
-      c.requires.prices,
-      c.requires.allowed,
-      c.requires.bundles,
-    )
+    let places : c.args.first + length c.args.rooms.now ≤ length c.args.taken.now.bundles.now = c.requires in
+    let goal : c.args.first + i < length c.args.taken.now.bundles.now = omega arith in goal

@@ -5,5 +5,5 @@ use Rattle.published_market.proofs.bundles.put_bundles.Given as goal
 abbrev pub invariant-rooms : goal.invariant-rooms
 invariant-rooms l = record {
   count : length l.all.items ≡ length l.fn.all.items + l.room-index;
-  proved : AreProved l.crowd l.prices l.all.items;
+  proved : AreProved l.taken.crowd.now l.taken.prices.now l.all.items;
 }

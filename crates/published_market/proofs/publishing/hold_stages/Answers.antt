@@ -16,19 +16,19 @@ settle-requires-clause-prices g c = λ lifetimes outlives.
     let old = g.D.Demands.crowd c.args.demands.now in
     subst (ArePricesFor (g.D.Demands.crowd c.find_prices.new.demands)) (sym c.deref.ensures.value)
     (subst (λ (crowd : CrowdData). ArePricesFor crowd c.in_ok-found.found.prices.items) (sym c.find_prices.ensures.crowd)
-    (found_prices old c.args.seats.now c.args.settings.now c.in_ok-found.found.prices.items c.in_ok-found.found.error c.in_ok-found.found.turns c.in_ok-found.ensures.found))
+    (found_prices old c.args.seats.now c.args.market.now.settings.now c.in_ok-found.found.prices.items c.in_ok-found.found.error c.in_ok-found.found.turns c.in_ok-found.ensures.found))
 
 pub aftermarket-requires-clause-prices : goal.aftermarket-requires-clause-prices
 aftermarket-requires-clause-prices g c =
     let crowd = data_of c.args.crowd.now in
     let known = c.args.crowd.now.whole in
-    let found : IsFound crowd c.args.seats.now c.args.settings.now c.in_ok-found.found.prices.items c.in_ok-found.found.error c.in_ok-found.found.turns =
+    let found : IsFound crowd c.args.seats.now c.args.market.now.settings.now c.in_ok-found.found.prices.items c.in_ok-found.found.error c.in_ok-found.found.turns =
     subst
-    (λ (asked : CrowdData). IsFound asked c.args.seats.now c.args.settings.now c.in_ok-found.found.prices.items c.in_ok-found.found.error
+    (λ (asked : CrowdData). IsFound asked c.args.seats.now c.args.market.now.settings.now c.in_ok-found.found.prices.items c.in_ok-found.found.error
     c.in_ok-found.found.turns)
     c.requires.asked c.in_ok-found.ensures.found in
     let start =
-    found_prices crowd c.args.seats.now c.args.settings.now c.in_ok-found.found.prices.items c.in_ok-found.found.error c.in_ok-found.found.turns found in
+    found_prices crowd c.args.seats.now c.args.market.now.settings.now c.in_ok-found.found.prices.items c.in_ok-found.found.error c.in_ok-found.found.turns found in
     let settled : IsSettled crowd c.args.seats.now c.in_ok-found.found.prices.items c.in_ok-settled.settled.prices.items c.in_ok-settled.settled.rounds =
     subst
     (λ (asked : CrowdData). IsSettled asked c.args.seats.now c.in_ok-found.found.prices.items c.in_ok-settled.settled.prices.items
@@ -42,13 +42,13 @@ aftermarket-requires-clause-prices g c =
 pub returns-clause-stages : goal.returns-clause-stages
 returns-clause-stages g c =
     let crowd = data_of c.args.crowd.now in
-    let found : IsFound crowd c.args.seats.now c.args.settings.now c.in_ok-found.found.prices.items c.in_ok-found.found.error c.in_ok-found.found.turns =
+    let found : IsFound crowd c.args.seats.now c.args.market.now.settings.now c.in_ok-found.found.prices.items c.in_ok-found.found.error c.in_ok-found.found.turns =
     subst
-    (λ (asked : CrowdData). IsFound asked c.args.seats.now c.args.settings.now c.in_ok-found.found.prices.items c.in_ok-found.found.error
+    (λ (asked : CrowdData). IsFound asked c.args.seats.now c.args.market.now.settings.now c.in_ok-found.found.prices.items c.in_ok-found.found.error
     c.in_ok-found.found.turns)
     c.requires.asked c.in_ok-found.ensures.found in
     let start =
-    found_prices crowd c.args.seats.now c.args.settings.now c.in_ok-found.found.prices.items c.in_ok-found.found.error c.in_ok-found.found.turns found in
+    found_prices crowd c.args.seats.now c.args.market.now.settings.now c.in_ok-found.found.prices.items c.in_ok-found.found.error c.in_ok-found.found.turns found in
     let settled : IsSettled crowd c.args.seats.now c.in_ok-found.found.prices.items c.in_ok-settled.settled.prices.items c.in_ok-settled.settled.rounds =
     subst
     (λ (asked : CrowdData). IsSettled asked c.args.seats.now c.in_ok-found.found.prices.items c.in_ok-settled.settled.prices.items

@@ -1,53 +1,38 @@
-use Rattle.std.proofs.Common.{◌≡◌, ◌<◌, ◌≤◌, ◌+◌, ◌∙◌, length, get_or, subst, sym, arith, rules}
+use Rattle.std.proofs.Common.{◌≡◌, ◌<◌, ◌≤◌, ◌+◌, ◌∙◌, length, subst, arith, rules}
 use Rattle.std.proofs.lemmas.List.{length-map}
 use Rattle.demand_api.specs.Views.{data_of}
 use Rattle.aftermarket_stage.specs.After.{turn_of, turns_of}
 use Rattle.market_certificate.specs.Views.{turn_of as published_of}
-use Rattle.published_market.specs.Making.{IsBestTurn}
+use Rattle.published_market.specs.Asked.{turn_chosen}
 use Rattle.published_market.specs.Turns.{IsPublishedTurn}
 use Rattle.published_market.specs.Rooms.{IsRoomOfTurn}
-use Rattle.published_market.proofs.Rooming.{turn_at, turns_more}
+use Rattle.published_market.proofs.Rooming.{no_turn, room_at, turns_more}
 use Rattle.published_market.proofs.turns.put_turns.Goals as goal
-
-pub prove_turn-requires-clause-best : goal.prove_turn-requires-clause-best
-prove_turn-requires-clause-best c =
-    let low : c.rooms.room-index < length c.args.rooms.now = c.rooms-test.true in
-    let count : length c.rooms.all.items ≡ length c.args.all.now.items + c.rooms.room-index = c.rooms.invariant.count in
-    let within : length c.args.all.now.items + length c.args.rooms.now ≤ length c.args.turns.now = c.requires.places in
-    let inside : length c.rooms.all.items < length c.args.turns.now = omega arith in
-    let place : c.len.result ≡ length c.rooms.all.items = search rules in
-    let read : c.len.result < length c.args.turns.now = omega arith in
-    let listed : c.len.result < length (turns_of c.args.turns.now) = rw (length-map c.args.turns.now turn_of) read in
-    subst (IsBestTurn (data_of c.args.crowd.now) c.args.prices.now c.args.raise)
-    (turn_at c.args.turns.now c.len.result c.index-turns-len.result read c.index-turns-len.is)
-    (c.requires.best c.len.result (turn_of c.index-turns-len.result) listed)
 
 pub prove_turn-requires-clause-room : goal.prove_turn-requires-clause-room
 prove_turn-requires-clause-room c =
     let low : c.rooms.room-index < length c.args.rooms.now = c.rooms-test.true in
     let count : length c.rooms.all.items ≡ length c.args.all.now.items + c.rooms.room-index = c.rooms.invariant.count in
-    let within : length c.args.all.now.items + length c.args.rooms.now ≤ length c.args.turns.now = c.requires.places in
-    let inside : length c.rooms.all.items < length c.args.turns.now = omega arith in
-    let place : c.len.result ≡ length c.rooms.all.items = search rules in
-    subst (IsRoomOfTurn c.args.crowd.now c.args.prices.now c.args.raise c.index-turns-len.result) (sym c.room-item.is)
-    (c.requires.rooms c.rooms.room-index c.room-item.result low c.index-turns-len.result
-    (subst (λ n. c.index-turns-len.result ≡ get_or c.args.turns.now n c.index-turns-len.result) (place ∙ count) c.index-turns-len.is))
+    let place : c.len-place.result ≡ length c.rooms.all.items = search rules in
+    room_at (IsRoomOfTurn c.args.chosen.now) (length c.args.all.now.items) c.rooms.room-index c.len-place.result c.args.rooms.now c.room-item.result
+    c.requires.rooms low c.room-item.is (place ∙ count)
 
 pub rooms-preserved : goal.rooms-preserved
 rooms-preserved c =
+    let chosen = c.args.chosen.now in
     let low : c.rooms.room-index < length c.args.rooms.now = c.rooms-test.true in
     let count : length c.rooms.all.items ≡ length c.args.all.now.items + c.rooms.room-index = c.rooms.invariant.count in
-    let within : length c.args.all.now.items + length c.args.rooms.now ≤ length c.args.turns.now = c.requires.places in
-    let inside : length c.rooms.all.items < length c.args.turns.now = omega arith in
-    let place : c.len.result ≡ length c.rooms.all.items = search rules in
-    let listed : length c.rooms.all.items < length (turns_of c.args.turns.now) = rw (length-map c.args.turns.now turn_of) inside in
-    let read : c.len.result < length c.args.turns.now = omega arith in
+    let within : length c.args.all.now.items + length c.args.rooms.now ≤ length chosen.turns.now = c.requires.places in
+    let inside : length c.rooms.all.items < length chosen.turns.now = omega arith in
+    let place : c.len-place.result ≡ length c.rooms.all.items = search rules in
+    let listed : length c.rooms.all.items < length (turns_of chosen.turns.now) = rw (length-map chosen.turns.now turn_of) inside in
+    let one = c.in_ok-prove_turn.field-0 in
     record {
       count = search rules;
       proved =
-          turns_more c.args.crowd.now c.args.prices.now c.args.raise c.args.turns.now (turn_of c.index-turns-len.result) c.rooms.all.items
-          c.in_ok-prove_turn.field-0 c.push.new.self.items listed c.in_ok-push.ensures.items c.rooms.invariant.proved
-          (subst (λ n. IsPublishedTurn (data_of c.args.crowd.now) c.args.prices.now c.args.raise (get_or (turns_of c.args.turns.now) n (turn_of c.index-turns-len.result)) (published_of c.in_ok-prove_turn.field-0)) place
-          (subst (λ turn. IsPublishedTurn (data_of c.args.crowd.now) c.args.prices.now c.args.raise turn (published_of c.in_ok-prove_turn.field-0)) (sym (turn_at c.args.turns.now c.len.result c.index-turns-len.result read c.index-turns-len.is)) c.in_ok-prove_turn.ensures.published))
+          turns_more chosen.crowd.now chosen.prices.now chosen.raise chosen.turns.now no_turn c.rooms.all.items one c.push.new.self.items listed
+          c.in_ok-push.ensures.items c.rooms.invariant.proved
+          (subst (λ n. IsPublishedTurn (data_of chosen.crowd.now) chosen.prices.now chosen.raise (turn_chosen chosen n) (published_of one)) place
+          c.in_ok-prove_turn.ensures.published)
           c.in_ok-prove_turn.ensures.form;
     }

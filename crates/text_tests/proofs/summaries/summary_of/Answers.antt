@@ -9,7 +9,7 @@ use Rattle.text_tests.proofs.summaries.summary_of.Goals as goal
 
 pub summary_text-requires : goal.summary_text-requires
 summary_text-requires g c =
-    let market = market_of c.args.catalog.now c.args.roll.now c.args.settings.now in
+    let market = market_of c.args.market.now.catalog c.args.market.now.roll c.args.market.now.settings in
     let crowd = data_of c.deref-2.result.now in
     let lengths = lengths_of c.expect-published.result.turns c.expect-published.result.rounds c.expect-published.result.passes in
     let are : IsCrowdIn market c.journal-journal.result.now crowd = search rules in

@@ -33,23 +33,23 @@ raised-budget-requires-clause-budget c =
     let high : All (λ (budget : Tokens). budget.0 ≤ 1000000) c.args.crowd.now.budgets.items = budgets_high c.args.crowd.now in
     search rules
 
-pub demand-bundle-requires : goal.demand-bundle-requires
-demand-bundle-requires c =
+pub demand_from-bundle-requires : goal.demand_from-bundle-requires
+demand_from-bundle-requires c =
     menu_priced c.args.crowd.now c.args.prices.now c.args.place c.index-menu.result.now
     c.requires.prices c.requires.place c.index-menu.ensures
 
 pub returns-clause-best : goal.returns-clause-best
 returns-clause-best c = λ seats.
     best_found c.args.crowd.now seats c.args.prices.now c.args.raise c.args.place c.raised-budget.result.0 c.index-menu.result.now c.index.result.now
-    (set.contains c.args.allowed.now) (sections_of c.demand-bundle.result)
-    c.requires.place c.index-menu.ensures c.index.ensures c.raised-budget.ensures c.demand-bundle.ensures
+    (set.contains c.args.allowed.now) (sections_of c.demand_from-bundle.result)
+    c.requires.place c.index-menu.ensures c.index.ensures c.raised-budget.ensures c.demand_from-bundle.ensures
 
 pub returns-clause-known : goal.returns-clause-known
 returns-clause-known c =
     let found =
     best_found c.args.crowd.now [] c.args.prices.now c.args.raise c.args.place c.raised-budget.result.0 c.index-menu.result.now c.index.result.now
-    (set.contains c.args.allowed.now) (sections_of c.demand-bundle.result)
-    c.requires.place c.index-menu.ensures c.index.ensures c.raised-budget.ensures c.demand-bundle.ensures in
+    (set.contains c.args.allowed.now) (sections_of c.demand_from-bundle.result)
+    c.requires.place c.index-menu.ensures c.index.ensures c.raised-budget.ensures c.demand_from-bundle.ensures in
     known_asked (data_of c.args.crowd.now) c.args.prices.now c.args.raise c.args.place
-    (map sections_of c.args.held.now) c.args.self.now.known.items found.who c.args.allowed.now (sections_of c.demand-bundle.result) c.requires.known
+    (map sections_of c.args.held.now) c.args.self.now.known.items found.who c.args.allowed.now (sections_of c.demand_from-bundle.result) c.requires.known
     found.listed found.best

@@ -14,6 +14,7 @@ use Rattle.bundle_bounds.proofs.ByPlace.{has-places}
 use Rattle.demand_oracle.specs.SummedNodes.{chosen_of, IsSummed}
 use Rattle.demand_oracle.specs.Columns.{IsColumn}
 use Rattle.demand_oracle.specs.Reaches.{IsReach, number_at}
+use Rattle.demand_oracle.proofs.Columns.{column_at}
 use Rattle.demand_oracle.proofs.Pruning.{IsWeighed, hopes_read, less_prunes, no_more_prunes}
 use Rattle.demand_oracle.proofs.reach.Reach.prunes.Goals as goal
 use Rattle.demand_oracle.proofs.reach.Reach.prunes.Goals.{After-lacking-lacking}
@@ -46,7 +47,9 @@ weighed c prices budget allowed reach column is node champion_is =
     let low : (p : ℕ) → has cs p ≡ true → p < k = λ p in_it. (let at = has-places menu.places chosen p in_it in rw (← at.2) (node.decided at.0 at.1)) in
     let places : c.places.result.now ≡ cs = c.places.ensures.value menu (price_in prices) is in
     record {
-      is_added = c.added-added.ensures.value menu prices budget allowed c.args.summed.now c.len.ensures.menu c.requires.place reach column is node;
+      is_added =
+          c.added-added.ensures.value offer chosen c.len.ensures.menu c.requires.place reach
+          (column_at offer c.len.ensures.menu c.args.summed.now is c.args.self.now c.args.column.now node.takable column) node;
       hopes_are =
           c.hopes_of-hoped.ensures.value ∙ ap (total (number_at c.args.self.now.hopes c.from.result)) places
           ∙ hopes_read offer c.args.self.now.hopes k c.from.result cs reach.hopes c.from.ensures c.requires.place low;

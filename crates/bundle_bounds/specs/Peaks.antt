@@ -1,0 +1,12 @@
+-- The greatest of a course that is left over a price, and over the next one.
+use Rattle.std.specs.Prelude.{ℕ, ◌+◌, ◌≡◌, List}
+use Rattle.bundle_bounds.specs.declared.prospects.Prospect.{Prospect}
+use Rattle.bundle_bounds.specs.declared.prospects.Resource.{Resource}
+use Rattle.bundle_bounds.specs.declared.prospects.Peak.{Peak}
+use Rattle.bundle_bounds.specs.Courses.{greatest}
+use Rattle.bundle_bounds.specs.Bounds.{over_price}
+
+-- the peak has the greatest of its course among these
+pub record IsPeak (resource : Resource) (price : ℕ) (ps : List Prospect) (peak : Peak) : Type 0 where
+  pub here_is : peak.here ≡ greatest (over_price resource price) peak.course ps
+  pub after_is : peak.after ≡ greatest (over_price resource (price + 1)) peak.course ps

@@ -1,0 +1,84 @@
+use Rattle.std.proofs.Common.{◌≤◌, ◌+◌, ℕ, length, ap, sym, ◌∙◌, arith, rules, w64}
+use Rattle.std.specs.Prelude.{pos, ◌*ℤ◌, ◌<ℤ◌}
+use Rattle.std.specs.Int.{trailing_zeros}
+use Rattle.std.proofs.lemmas.Int.{ints}
+use Rattle.market_units.specs.Totals.{total}
+use Rattle.bundle_rules.proofs.Feasibility.{places_of_rated, utility_by_place}
+use Rattle.bundle_bounds.proofs.Openings.{node_later}
+use Rattle.demand_oracle.specs.Questions.{offer_asked, wanted_in}
+use Rattle.demand_oracle.specs.Reaches.{number_at}
+use Rattle.demand_oracle.specs.SummedNodes.{chosen_of, with_place_of}
+use Rattle.demand_oracle.proofs.Columns.{hopes_with, room_for_one}
+use Rattle.demand_oracle.proofs.OpenPlaces.{next_open, pruned_at_next}
+use Rattle.demand_oracle.proofs.Pruning.{less_prunes}
+use Rattle.demand_oracle.proofs.below.falls_short.Goals as goal
+
+pub added-added-requires : goal.added-added-requires
+added-added-requires c =
+    let opened =
+    next_open (offer_asked c.args.question.now) c.requires.question.menu (c.args.place + 1)
+    (with_place_of c.args.question.now.menu.now c.args.summed.now c.args.place) c.args.apart (search rules) (omega arith) c.requires.word in
+    let few : length c.args.question.now.menu.now.places ≤ 60 = c.requires.question.menu.places.few in
+    omega (arith, opened.on_menu)
+
+pub utility_with-utility-requires-clause-summed : goal.utility_with-utility-requires-clause-summed
+utility_with-utility-requires-clause-summed c = ((offer_asked c.args.question.now).price, c.requires.summed)
+
+pub utility_with-utility-requires-clause-room : goal.utility_with-utility-requires-clause-room
+utility_with-utility-requires-clause-room c =
+    room_for_one (offer_asked c.args.question.now) c.requires.question.menu (chosen_of c.args.summed.now) _ c.requires.node.takable
+
+pub hoped_with-hoped-requires-clause-chosen : goal.hoped_with-hoped-requires-clause-chosen
+hoped_with-hoped-requires-clause-chosen c i d low =
+    let menu = c.args.question.now.menu.now in
+    let few : length menu.places ≤ 60 = c.requires.question.menu.places.few in
+    let all =
+    rw (← c.places.ensures.value menu (offer_asked c.args.question.now).price c.requires.summed) at
+    (places_of_rated menu (chosen_of c.args.summed.now) c.requires.summed.rated) in
+    let on = all i d low in omega (arith, on)
+
+pub hoped_with-hoped-requires-clause-place : goal.hoped_with-hoped-requires-clause-place
+hoped_with-hoped-requires-clause-place c = let few : length c.args.question.now.menu.now.places ≤ 60 = c.requires.question.menu.places.few in omega arith
+
+pub hoped_with-hoped-requires-clause-next : goal.hoped_with-hoped-requires-clause-next
+hoped_with-hoped-requires-clause-next c =
+    let opened =
+    next_open (offer_asked c.args.question.now) c.requires.question.menu (c.args.place + 1)
+    (with_place_of c.args.question.now.menu.now c.args.summed.now c.args.place) c.args.apart (search rules) (omega arith) c.requires.word in
+    let few : length c.args.question.now.menu.now.places ≤ 60 = c.requires.question.menu.places.few in
+    omega (arith, opened.on_menu)
+
+pub returns : goal.returns
+returns c yes_ =
+    let question = c.args.question.now in
+    let offer = offer_asked question in
+    let menu = question.menu.now in
+    let summed = c.args.summed.now in
+    let place : ℕ = c.args.place in
+    let chosen = with_place_of menu summed place in
+    let champion = chosen_of c.args.champion.now in
+    let next : ℕ = trailing_zeros w64 c.args.apart in
+    let opened = next_open offer c.requires.question.menu (place + 1) chosen c.args.apart (search rules) (omega arith) c.requires.word in
+    let on : next ≤ length menu.places = omega (arith, opened.on_menu) in
+    let node = node_later offer (place + 1) next chosen opened.undecided c.requires.node in
+    let test = c.is_below-2.ensures.0 yes_ in
+    let below : c.added-added.result <ℤ (pos 1000000 *ℤ c.lacking-2.result) = omega (arith, ints, test) in
+    pruned_at_next offer c.requires.question.menu (wanted_in question) (place + 1) chosen c.requires.node c.args.apart (search rules) (omega arith)
+    c.requires.word champion
+    (less_prunes offer (wanted_in question) next chosen champion c.added-added.result c.hoped_with-hoped.result c.utility_with-utility.result
+    c.utility-2.result c.lacking-2.result
+    record {
+      is_added =
+          c.added-added.ensures.value offer chosen c.requires.question.menu on c.requires.question.reach
+          c.column_with-column.ensures node;
+      hopes_are =
+          c.hoped_with-hoped.ensures
+          ∙ ap (λ cs. total (number_at question.reach.now.hopes next) cs + number_at question.reach.now.hopes next place)
+          (c.places.ensures.value menu offer.price c.requires.summed)
+          ∙ hopes_with offer c.requires.question.menu summed c.requires.summed place c.requires.undecided c.requires.on_menu question.reach.now.hopes next
+          c.requires.question.reach.hopes on node;
+      u_is = c.utility_with-utility.ensures.value ∙ sym (utility_by_place menu chosen);
+      worth_is = c.utility-2.ensures menu offer.price c.requires.champion.sums;
+      lacks = omega (arith, ints, c.lacking-2.ensures.value);
+      high = omega (arith, ints, c.lacking-2.ensures.high);
+    } below)

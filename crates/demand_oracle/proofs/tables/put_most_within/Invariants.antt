@@ -1,0 +1,10 @@
+use Rattle.std.proofs.Common.{◌≡◌, ◌<◌, ◌≤◌, ◌+◌, ◌-◌, ℕ, max, length, slice_index}
+use Rattle.demand_oracle.proofs.tables.put_most_within.Given as goal
+
+-- the numbers of units so far are filled, and the others are those of the later row
+abbrev pub invariant-loop-units : goal.invariant-loop-units
+invariant-loop-units l = record {
+  whole : length l.most ≡ 64;
+  dear : (one : ℕ) → one < l.cost → slice_index l.most one ≡ slice_index l.later one;
+  more : (one : ℕ) → l.cost ≤ one → one < l.units → slice_index l.most one ≡ max (slice_index l.later one) (slice_index l.apart (one - l.cost) + l.value);
+}
