@@ -28,7 +28,7 @@ impl Draft {
     /// fit.
     pub(crate) fn of(offer: &Offer, multipliers: Multipliers) -> Draft {
         let mut draft = Draft::begun(offer, multipliers);
-        for _ in 0..menu.courses() {
+        for _ in 0..offer.menu.courses() {
             let Some(place) = draft.best(offer) else {
                 return draft;
             };

@@ -50,7 +50,7 @@ fn prices_of(offer: &Offer) -> [u32; PLACES]
         → slice_index result place ≡ price_in offer.now.prices.now (section_at offer.now.menu.now.places place) }
 {
     let mut row = [0; PLACES];
-    for place in 0..menu.len() {
+    for place in 0..offer.menu.len() {
         row[usize::from(place)] = price_of_place(offer.menu, offer.prices, place);
     }
     row
@@ -106,7 +106,7 @@ fn alone(offer: &Offer) -> u64
 {
     let root = SummedNode::root();
     let mut word = 0;
-    for place in 0..menu.len() {
+    for place in 0..offer.menu.len() {
         let is_takable = root.may_take(offer, place);
         word = with_bit(word, place, is_takable);
     }

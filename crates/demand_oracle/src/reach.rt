@@ -184,7 +184,7 @@ impl Reach {
     {
         let draft = Draft::of(offer, self.multipliers);
         let mut summed = SummedNode::root();
-        for place in 0..menu.len() {
+        for place in 0..offer.menu.len() {
             let is_wanted = draft.has(place);
             summed = followed(offer, is_wanted, place, summed);
         }
@@ -232,7 +232,7 @@ pub fn begun_with(offer: &Offer, bundle: &Bundle) -> SummedNode
         (chosen_of result) }
 {
     let mut summed = SummedNode::root();
-    for place in 0..menu.len() {
+    for place in 0..offer.menu.len() {
         let is_wanted = bundle.has(offer.menu.rated(place).section);
         summed = followed(offer, is_wanted, place, summed);
     }

@@ -59,7 +59,7 @@ pub(crate) fn lightest(offer: &Offer) -> u32
     ensures high { result ≤ MAX_SECTION_CREDITS }
 {
     let mut lightest = MAX_SECTION_CREDITS;
-    for place in 0..menu.len() {
+    for place in 0..offer.menu.len() {
         lightest = lighter(offer, place, lightest);
     }
     u32::from(lightest)
