@@ -10,7 +10,6 @@ pub below-frames-requires-clause-question : goal.below-frames-requires-clause-qu
 below-frames-requires-clause-question c =
     record {
       menu = c.of-goods.ensures.menu;
-      prices = c.args.offer.now.priced;
       given = c.requires.given;
       reach = c.measure.ensures;
       goods = c.of-goods.ensures.goods;
