@@ -1,5 +1,5 @@
 -- What a market's catalogue and roll say of its sections and its students.
-use Rattle.std.specs.Prelude.{ℕ, Option, List, length, map, position, slice_index_or}
+use Rattle.std.specs.Prelude.{ℕ, ◌<◌, Option, List, length, map, position, slice_index_or}
 use Rattle.std.specs.Str.{bytes_eq}
 use Rattle.market_units.specs.declared.names.Name.{Name}
 use Rattle.market_units.specs.Name.{name_bytes}
@@ -17,6 +17,11 @@ section_count market = length market.catalog.sections
 
 abbrev pub student_count : Market → ℕ
 student_count market = length market.roll.students
+
+-- the market has a student and a section of these ordinals
+pub record AreKnown (market : Market) (i s : ℕ) : Type 0 where
+  pub student : i < student_count market
+  pub section : s < section_count market
 
 -- the section of an ordinal
 abbrev pub offered : Market → ℕ → Section

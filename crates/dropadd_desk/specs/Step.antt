@@ -64,7 +64,10 @@ unfoldable pub add : Market → HallState → ℕ → ℕ → HallReply × HallS
 add market state i s = answered (refusal market state i s) state (
     if has_free_seat market state s
     then (reply.Added, with_held state i (with_section s (held_by state i)))
-    else (reply.Queued (length (waiting_for state s)), with_waiting state s (waiting_for state s ++ i ∷ [])))
+    else (
+      reply.Queued (length (waiting_for state s)),
+      with_waiting state s (waiting_for state s ++ i ∷ []),
+    ))
 
 -- the state in which the student, where there is one, holds the section too
 abbrev pub given : HallState → Option ℕ → ℕ → HallState
@@ -94,7 +97,10 @@ drop market state i s =
 unfoldable pub leave : HallState → ℕ → ℕ → HallReply × HallState
 leave state i s =
     if has (waiting_for state s) i
-    then (reply.Left, with_waiting state s (filter (λ other. not (other == i)) (waiting_for state s)))
+    then (
+      reply.Left,
+      with_waiting state s (filter (λ other. not (other == i)) (waiting_for state s)),
+    )
     else (reply.NotWaiting, state)
 
 -- what is made of an ordinal where there is one, and else this

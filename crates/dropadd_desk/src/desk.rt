@@ -37,10 +37,10 @@ pub struct HallDesk {
 
 impl HallDesk {
     ghost use Rattle.std.specs.Prelude.{Option, None, Some, All, IfOk, IfErr, position};
-    ghost use Rattle.dropadd_desk.specs.Market.{section_count, student_count, section_named, student_named};
+    ghost use Rattle.dropadd_desk.specs.Market.{AreKnown, section_count, student_count, section_named, student_named};
     ghost use Rattle.dropadd_desk.specs.Fits.{fits};
     ghost use Rattle.dropadd_desk.specs.Halls.{opening};
-    ghost use Rattle.dropadd_desk.specs.HallView.{market_of, state_of, room_of};
+    ghost use Rattle.dropadd_desk.specs.HallView.{Becomes, HasOutcome, market_of, state_of, room_of};
     ghost use Rattle.dropadd_desk.specs.Step.{add, by_names, drop, given, IsUnknown, has_free_seat, held_by, leave, pass_on, refusal, step, waiting_for, with_held};
     ghost use Rattle.demand_api.specs.Crowds.{holders};
 
@@ -144,10 +144,8 @@ impl HallDesk {
             (λ found. student_named (market_of self.now) student.now ≡ Some found.0.0) }
         ensures section { IfOk result
             (λ found. section_named (market_of self.now) section.now ≡ Some found.1.0) }
-        ensures student_within { IfOk result
-            (λ found. found.0.0 < student_count (market_of self.now)) }
-        ensures section_within { IfOk result
-            (λ found. found.1.0 < section_count (market_of self.now)) }
+        ensures known { IfOk result
+            (λ found. AreKnown (market_of self.now) found.0.0 found.1.0) }
         ensures unknown { IfErr result
             (IsUnknown (student_named (market_of self.now) student.now)
             (section_named (market_of self.now) section.now)) }
@@ -163,12 +161,9 @@ impl HallDesk {
 
     // The student wants the section.
     fn add(&mut self, student: StudentNo, section: SectionNo) -> HallReply
-        requires student { student.0 < student_count (market_of self.old) }
-        requires section { section.0 < section_count (market_of self.old) }
-        ensures market { market_of self.new ≡ market_of self.old }
-        ensures added { (result, state_of self.new)
-            ≡ add (market_of self.old) (state_of self.old) student.0 section.0 }
-        ensures room { room_of self.new ≡ room_of self.old }
+        requires { AreKnown (market_of self.old) student.0 section.0 }
+        ensures { HasOutcome self.old self.new result
+            (add (market_of self.old) (state_of self.old) student.0 section.0) }
     {
         if let Some(answer) = self.refusal(student, section) {
             return answer;
@@ -185,8 +180,7 @@ impl HallDesk {
 
     // What stands against it that the student has the section.
     fn refusal(&self, student: StudentNo, section: SectionNo) -> Option<HallReply>
-        requires student { student.0 < student_count (market_of self.now) }
-        requires section { section.0 < section_count (market_of self.now) }
+        requires { AreKnown (market_of self.now) student.0 section.0 }
         ensures refusal { result
             ≡ refusal (market_of self.now) (state_of self.now) student.0 section.0 }
         ensures room { result ≡ None
@@ -214,14 +208,12 @@ impl HallDesk {
     // The student, who neither holds the section nor waits for it and has room for it, holds it
     // from now on.
     fn give(&mut self, student: StudentNo, section: SectionNo)
-        requires student { student.0 < student_count (market_of self.old) }
-        requires section { section.0 < section_count (market_of self.old) }
+        requires known { AreKnown (market_of self.old) student.0 section.0 }
         requires new { has (held_by (state_of self.old) student.0) section.0 ≡ false }
         requires apart { has (waiting_for (state_of self.old) section.0) student.0 ≡ false }
         requires few { length (held_by (state_of self.old) student.0) < MAX_COURSES }
-        ensures market { market_of self.new ≡ market_of self.old }
-        ensures given { state_of self.new ≡ given (state_of self.old) (Some student.0) section.0 }
-        ensures room { room_of self.new ≡ room_of self.old }
+        ensures { Becomes self.old self.new
+            (given (state_of self.old) (Some student.0) section.0) }
     {
         let place = usize::from(student.0);
         let bundle = with_section(&self.floor.held[place], section);
@@ -230,12 +222,9 @@ impl HallDesk {
 
     // The student gives the section up.
     fn give_up(&mut self, student: StudentNo, section: SectionNo) -> HallReply
-        requires student { student.0 < student_count (market_of self.old) }
-        requires section { section.0 < section_count (market_of self.old) }
-        ensures market { market_of self.new ≡ market_of self.old }
-        ensures dropped { (result, state_of self.new)
-            ≡ drop (market_of self.old) (state_of self.old) student.0 section.0 }
-        ensures room { room_of self.new ≡ room_of self.old }
+        requires { AreKnown (market_of self.old) student.0 section.0 }
+        ensures { HasOutcome self.old self.new result
+            (drop (market_of self.old) (state_of self.old) student.0 section.0) }
     {
         let place = usize::from(student.0);
         let held = self.floor.held[place];
@@ -251,10 +240,8 @@ impl HallDesk {
     // before are out of the list.
     fn pass_on(&mut self, section: SectionNo) -> HallReply
         requires { section.0 < section_count (market_of self.old) }
-        ensures market { market_of self.new ≡ market_of self.old }
-        ensures passed { (result, state_of self.new)
-            ≡ pass_on (market_of self.old) (state_of self.old) section.0 }
-        ensures room { room_of self.new ≡ room_of self.old }
+        ensures { HasOutcome self.old self.new result
+            (pass_on (market_of self.old) (state_of self.old) section.0) }
     {
         let list = usize::from(section.0);
         let Some(place) = self.first_fitting(section) else {
@@ -283,33 +270,19 @@ impl HallDesk {
     {
         let waiting = self.waiting(section);
         for (place, student) in waiting.iter().enumerate() {
-            if self.fits(StudentNo(*student), section) {
+            let student = StudentNo(*student);
+            if self.rules.fits(student, section, &self.bundle(student)) {
                 return Some(place);
             }
         }
         None
     }
 
-    // Whether the section fits the student.
-    fn fits(&self, student: StudentNo, section: SectionNo) -> bool
-        requires student { student.0 < student_count (market_of self.now) }
-        requires section { section.0 < section_count (market_of self.now) }
-        ensures fits { result
-            ≡ fits (market_of self.now) student.0 section.0
-            (held_by (state_of self.now) student.0) }
-        ensures room { result ≡ true
-            → length (held_by (state_of self.now) student.0) < MAX_COURSES }
-    {
-        self.rules.fits(student, section, &self.bundle(student))
-    }
-
     // The student waits for the section no longer.
     fn leave(&mut self, student: StudentNo, section: SectionNo) -> HallReply
-        requires student { student.0 < student_count (market_of self.old) }
-        requires section { section.0 < section_count (market_of self.old) }
-        ensures market { market_of self.new ≡ market_of self.old }
-        ensures left { (result, state_of self.new) ≡ leave (state_of self.old) student.0 section.0 }
-        ensures room { room_of self.new ≡ room_of self.old }
+        requires { AreKnown (market_of self.old) student.0 section.0 }
+        ensures { HasOutcome self.old self.new result
+            (leave (state_of self.old) student.0 section.0) }
     {
         let list = usize::from(section.0);
         let Some(place) = place_of(self.lists.items(list), student.0) else {

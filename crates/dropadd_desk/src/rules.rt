@@ -47,18 +47,17 @@ pub struct MarketRules {
 
 impl Model for MarketRules {
     ghost use Rattle.dropadd_desk.specs.Market.{Market};
-    ghost use Rattle.dropadd_desk.specs.Kept.{KeepsMarket};
+    ghost use Rattle.dropadd_desk.specs.Kept.{KeepsMarket, market_kept};
 
     ghost Value = { Market };
 
-    ghost view = { λ rules. record { catalog = rules.catalog.value; roll = rules.roll.value } };
+    ghost view = { market_kept };
 
-    ghost invariant = { λ rules.
-        KeepsMarket (record { catalog = rules.catalog.value; roll = rules.roll.value }) rules.students.keys rules.caps.items rules.sections.keys rules.credits.items rules.seats.items rules.clashes.items };
+    ghost invariant = { KeepsMarket };
 }
 
 impl MarketRules {
-    ghost use Rattle.dropadd_desk.specs.Market.{section_count, student_count, section_named, student_named, seats_in};
+    ghost use Rattle.dropadd_desk.specs.Market.{AreKnown, section_count, student_count, section_named, student_named, seats_in};
     ghost use Rattle.dropadd_desk.specs.Fits.{credits_of, fits, lowest_clash, exceeds_credits, exceeds_courses};
     ghost use Rattle.dropadd_desk.specs.Kept.{IsMarket};
 
@@ -130,8 +129,7 @@ impl MarketRules {
         section: SectionNo,
         held: &Bundle,
     ) -> bool
-        requires student { student.0 < student_count self.now }
-        requires section { section.0 < section_count self.now }
+        requires known { AreKnown self.now student.0 section.0 }
         requires within { (s : ℕ) → has (sections_of held.now) s ≡ true
             → s < section_count self.now }
         ensures { result ≡ exceeds_credits self.now student.0 section.0 (sections_of held.now) }
@@ -152,8 +150,7 @@ impl MarketRules {
     /// Whether the student, who holds this bundle, could take the section too: there is no clash,
     /// and the caps are kept. Seats are not looked at.
     pub(crate) fn fits(&self, student: StudentNo, section: SectionNo, held: &Bundle) -> bool
-        requires student { student.0 < student_count self.now }
-        requires section { section.0 < section_count self.now }
+        requires known { AreKnown self.now student.0 section.0 }
         requires within { (s : ℕ) → has (sections_of held.now) s ≡ true
             → s < section_count self.now }
         ensures fits { result ≡ fits self.now student.0 section.0 (sections_of held.now) }

@@ -1,4 +1,4 @@
-use Rattle.std.proofs.Common.{◌<◌, ◌≤◌, ◌++◌, ◌∙◌, [], ◌∷◌, ap, sym, subst, arith, length, get_or}
+use Rattle.std.proofs.Common.{◌<◌, ◌≤◌, ◌++◌, ◌∙◌, [], ◌∷◌, ap, sym, subst, arith, length, get_or, refl}
 use Rattle.std.proofs.lemmas.List.{length-append}
 use Rattle.held_seats.specs.Floors.{held_on}
 use Rattle.dropadd_desk.specs.declared.reply.HallReply.TheVariants as reply
@@ -13,10 +13,17 @@ use Rattle.dropadd_desk.proofs.Stepped.{refusal_none}
 use Rattle.dropadd_desk.proofs.Steps.{queued_keeps}
 use Rattle.dropadd_desk.proofs.desk.HallDesk.add.Goals as goal
 
-pub returns-in-Some-clause-added : goal.returns-in-Some-clause-added
-returns-in-Some-clause-added c =
-    refused_is (market_of c.args.self.now) (state_of c.args.self.now) c.args.student.0 c.args.section.0 c.in-Some.answer
-    (sym c.refusal.ensures.refusal ∙ c.in-Some.is)
+pub returns-in-Some : goal.returns-in-Some
+returns-in-Some c = record {
+  market = refl;
+  outcome =
+      refused_is (market_of c.args.self.now) (state_of c.args.self.now) c.args.student.0 c.args.section.0 c.in-Some.answer
+      (sym c.refusal.ensures.refusal ∙ c.in-Some.is);
+  room = refl;
+}
+
+pub give-requires-clause-known : goal.give-requires-clause-known
+give-requires-clause-known c = c.requires
 
 pub has-requires : goal.has-requires
 has-requires c =
@@ -32,12 +39,16 @@ pub give-requires-clause-apart : goal.give-requires-clause-apart
 give-requires-clause-apart c =
     (refusal_none (market_of c.args.self.now) (state_of c.args.self.now) c.args.student.0 c.args.section.0 (sym c.refusal.ensures.refusal ∙ c.in_default.is)).1
 
-pub returns-then-has-clause-added : goal.returns-then-has-clause-added
-returns-then-has-clause-added c =
-    ap (λ st. (reply.Added, st)) c.give.ensures.given
-    ∙ added_is (market_of c.args.self.now) (state_of c.args.self.now) c.args.student.0 c.args.section.0 (sym c.refusal.ensures.refusal ∙ c.in_default.is)
-    (sym (free_on (market_of c.args.self.now) c.args.self.now.floor c.args.self.now.lists.lists c.args.section.0 c.args.self.now.counted c.requires.section)
-    ∙ sym c.has.ensures ∙ c.if-has.true)
+pub returns-then-has : goal.returns-then-has
+returns-then-has c = record {
+  market = c.give.ensures.market;
+  outcome =
+      ap (λ st. (reply.Added, st)) c.give.ensures.state
+      ∙ added_is (market_of c.args.self.now) (state_of c.args.self.now) c.args.student.0 c.args.section.0 (sym c.refusal.ensures.refusal ∙ c.in_default.is)
+      (sym (free_on (market_of c.args.self.now) c.args.self.now.floor c.args.self.now.lists.lists c.args.section.0 c.args.self.now.counted c.requires.section)
+      ∙ sym c.has.ensures ∙ c.if-has.true);
+  room = c.give.ensures.room;
+}
 
 pub overflow_cast-ahead : goal.overflow_cast-ahead
 overflow_cast-ahead c =
@@ -77,13 +88,18 @@ invariant_of-self c =
       wide = ap (λ l. l.width) c.push.ensures ∙ c.args.self.now.wide;
     }
 
-pub returns-clause-added : goal.returns-clause-added
-returns-clause-added c =
+pub returns : goal.returns
+returns c =
     let list = ap length (c.items.ensures ∙ ap (λ n. get_or c.args.self.now.lists.lists n []) c.from-list.ensures) in
     let changed =
     waiting_changed (held_on c.args.self.now.floor) c.args.self.now.lists c.push.new.self c.from-list.result c.args.section.0 _ _ c.push.ensures
     c.from-list.ensures (ap (λ n. get_or c.args.self.now.lists.lists n [] ++ c.args.student.0 ∷ []) c.from-list.ensures) in
-    same_outcome _ _ (λ n. reply.Queued n) _ _ list changed
-    ∙ queued_is (market_of c.args.self.now) (state_of c.args.self.now) c.args.student.0 c.args.section.0 (sym c.refusal.ensures.refusal ∙ c.in_default.is)
-    (sym (free_on (market_of c.args.self.now) c.args.self.now.floor c.args.self.now.lists.lists c.args.section.0 c.args.self.now.counted c.requires.section)
-    ∙ sym c.has.ensures ∙ c.if-has.false)
+    record {
+      market = refl;
+      outcome =
+          same_outcome _ _ (λ n. reply.Queued n) _ _ list changed
+          ∙ queued_is (market_of c.args.self.now) (state_of c.args.self.now) c.args.student.0 c.args.section.0 (sym c.refusal.ensures.refusal ∙ c.in_default.is)
+          (sym (free_on (market_of c.args.self.now) c.args.self.now.floor c.args.self.now.lists.lists c.args.section.0 c.args.self.now.counted c.requires.section)
+          ∙ sym c.has.ensures ∙ c.if-has.false);
+      room = refl;
+    }

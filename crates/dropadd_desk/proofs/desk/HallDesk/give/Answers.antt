@@ -1,4 +1,4 @@
-use Rattle.std.proofs.Common.{◌<◌, ◌∙◌, ap, sym, subst, length}
+use Rattle.std.proofs.Common.{◌<◌, ◌∙◌, ap, sym, subst, length, refl}
 use Rattle.std.proofs.lemmas.List.{length-map}
 use Rattle.course_catalog.specs.Sections.{Section}
 use Rattle.market_units.specs.Members.{has}
@@ -15,18 +15,18 @@ pub give-requires-clause-within : goal.give-requires-clause-within
 give-requires-clause-within c = λ t there.
     let held =
     sections_at c.args.self.now.floor.held.items c.args.student.0 c.from-place.result c.index.result.now c.from-place.ensures
-    (subst (λ n. c.args.student.0 < n) (sym c.args.self.now.hall.each_student) c.requires.student) c.index.ensures in
+    (subst (λ n. c.args.student.0 < n) (sym c.args.self.now.hall.each_student) c.requires.known.student) c.index.ensures in
     let bundle = c.with_section-bundle.ensures ∙ ap (with_section c.args.section.0) held in
     let count = ap length c.seats.ensures.seats ∙ length-map c.args.self.now.rules.catalog.sections (λ (section : Section). section.seats) in
     subst (λ n. t < n) (sym count)
-    (with_within (market_of c.args.self.now) (state_of c.args.self.now) c.args.self.now.hall c.args.student.0 c.args.section.0 c.requires.section t
+    (with_within (market_of c.args.self.now) (state_of c.args.self.now) c.args.self.now.hall c.args.student.0 c.args.section.0 c.requires.known.section t
     (ap (λ l. has l t) (sym bundle) ∙ there))
 
 pub invariant_of-self : goal.invariant_of-self
 invariant_of-self c =
     let held =
     sections_at c.args.self.now.floor.held.items c.args.student.0 c.from-place.result c.index.result.now c.from-place.ensures
-    (subst (λ n. c.args.student.0 < n) (sym c.args.self.now.hall.each_student) c.requires.student) c.index.ensures in
+    (subst (λ n. c.args.student.0 < n) (sym c.args.self.now.hall.each_student) c.requires.known.student) c.index.ensures in
     let bundle = c.with_section-bundle.ensures ∙ ap (with_section c.args.section.0) held in
     let changed =
     held_changed (held_on c.args.self.now.floor) (held_on c.give.new.self) c.args.self.now.lists.lists c.from-place.result c.args.student.0 _ _
@@ -36,15 +36,20 @@ invariant_of-self c =
       counted = subst (λ l. IsFloor l c.give.new.self) c.seats.ensures.seats c.give.ensures.floor;
       hall =
           subst (IsHall c.args.self.now.rules) (sym changed)
-          (with_keeps (market_of c.args.self.now) (state_of c.args.self.now) c.args.self.now.hall c.args.student.0 c.args.section.0 c.requires.student
-          c.requires.section c.requires.apart);
+          (with_keeps (market_of c.args.self.now) (state_of c.args.self.now) c.args.self.now.hall c.args.student.0 c.args.section.0 c.requires.known.student
+          c.requires.known.section c.requires.apart);
       wide = c.args.self.now.wide;
     }
 
-pub returns-clause-given : goal.returns-clause-given
-returns-clause-given c =
+pub returns : goal.returns
+returns c =
     let held =
     sections_at c.args.self.now.floor.held.items c.args.student.0 c.from-place.result c.index.result.now c.from-place.ensures
-    (subst (λ n. c.args.student.0 < n) (sym c.args.self.now.hall.each_student) c.requires.student) c.index.ensures in
-    held_changed (held_on c.args.self.now.floor) (held_on c.give.new.self) c.args.self.now.lists.lists c.from-place.result c.args.student.0 _ _
-    c.give.ensures.held c.from-place.ensures (c.with_section-bundle.ensures ∙ ap (with_section c.args.section.0) held)
+    (subst (λ n. c.args.student.0 < n) (sym c.args.self.now.hall.each_student) c.requires.known.student) c.index.ensures in
+    record {
+      market = refl;
+      state =
+          held_changed (held_on c.args.self.now.floor) (held_on c.give.new.self) c.args.self.now.lists.lists c.from-place.result c.args.student.0 _ _
+          c.give.ensures.held c.from-place.ensures (c.with_section-bundle.ensures ∙ ap (with_section c.args.section.0) held);
+      room = refl;
+    }

@@ -1,4 +1,4 @@
-use Rattle.std.proofs.Common.{◌<◌, ◌∙◌, ap, sym, subst, length}
+use Rattle.std.proofs.Common.{◌<◌, ◌∙◌, ap, sym, subst, length, refl}
 use Rattle.std.proofs.lemmas.List.{length-map}
 use Rattle.course_catalog.specs.Sections.{Section}
 use Rattle.market_units.specs.Members.{has}
@@ -13,13 +13,18 @@ use Rattle.dropadd_desk.proofs.StateLemmas.{held_changed}
 use Rattle.dropadd_desk.proofs.Steps.{without_keeps, without_within}
 use Rattle.dropadd_desk.proofs.desk.HallDesk.give_up.Goals as goal
 
-pub returns-then-not-has-clause-dropped : goal.returns-then-not-has-clause-dropped
-returns-then-not-has-clause-dropped c =
+pub returns-then-not-has : goal.returns-then-not-has
+returns-then-not-has c =
     let held =
     sections_at c.args.self.now.floor.held.items c.args.student.0 c.from-place.result c.index.result.now c.from-place.ensures
     (subst (λ n. c.args.student.0 < n) (sym c.args.self.now.hall.each_student) c.requires.student) c.index.ensures in
-    not_holding_is (market_of c.args.self.now) (state_of c.args.self.now) c.args.student.0 c.args.section.0
-    (ap (λ l. has l c.args.section.0) (sym held) ∙ sym c.has.ensures ∙ c.if-not-has.true)
+    record {
+      market = refl;
+      outcome =
+          not_holding_is (market_of c.args.self.now) (state_of c.args.self.now) c.args.student.0 c.args.section.0
+          (ap (λ l. has l c.args.section.0) (sym held) ∙ sym c.has.ensures ∙ c.if-not-has.true);
+      room = refl;
+    }
 
 pub give-requires-clause-within : goal.give-requires-clause-within
 give-requires-clause-within c = λ t there.
@@ -49,14 +54,19 @@ invariant_of-self-2 c =
       wide = c.args.self.now.wide;
     }
 
-pub returns-clause-dropped : goal.returns-clause-dropped
-returns-clause-dropped c =
+pub returns : goal.returns
+returns c =
     let held =
     sections_at c.args.self.now.floor.held.items c.args.student.0 c.from-place.result c.index.result.now c.from-place.ensures
     (subst (λ n. c.args.student.0 < n) (sym c.args.self.now.hall.each_student) c.requires.student) c.index.ensures in
     let changed =
     held_changed (held_on c.args.self.now.floor) (held_on c.give.new.self) c.args.self.now.lists.lists c.from-place.result c.args.student.0 _ _
     c.give.ensures.held c.from-place.ensures (c.without_section-bundle.ensures ∙ ap (without_section c.args.section.0) held) in
-    c.pass_on.ensures.passed ∙ ap (λ st. pass_on (market_of c.args.self.now) st c.args.section.0) changed
-    ∙ dropped_is (market_of c.args.self.now) (state_of c.args.self.now) c.args.student.0 c.args.section.0
-    (ap (λ l. has l c.args.section.0) (sym held) ∙ sym c.has.ensures ∙ c.if-not-has.false)
+    record {
+      market = c.pass_on.ensures.market;
+      outcome =
+          c.pass_on.ensures.outcome ∙ ap (λ st. pass_on (market_of c.args.self.now) st c.args.section.0) changed
+          ∙ dropped_is (market_of c.args.self.now) (state_of c.args.self.now) c.args.student.0 c.args.section.0
+          (ap (λ l. has l c.args.section.0) (sym held) ∙ sym c.has.ensures ∙ c.if-not-has.false);
+      room = c.pass_on.ensures.room;
+    }

@@ -1,4 +1,4 @@
-use Rattle.std.proofs.Common.{◌≡◌, ◌==◌, ◌+◌, ◌∙◌, [], ap, sym, subst, None, Some, get_or}
+use Rattle.std.proofs.Common.{◌≡◌, ◌==◌, ◌+◌, ◌∙◌, [], ap, sym, subst, None, Some, get_or, refl}
 use Rattle.std.specs.Prelude.{position}
 use Rattle.std.specs.List.{remove_range}
 use Rattle.held_seats.specs.Floors.{held_on}
@@ -12,12 +12,17 @@ use Rattle.dropadd_desk.proofs.StateLemmas.{waiting_changed}
 use Rattle.dropadd_desk.proofs.Steps.{left_keeps}
 use Rattle.dropadd_desk.proofs.desk.HallDesk.leave.Goals as goal
 
-pub returns-in_default-clause-left : goal.returns-in_default-clause-left
-returns-in_default-clause-left c =
+pub returns-in_default : goal.returns-in_default
+returns-in_default c =
     let list = c.items.ensures ∙ ap (λ n. get_or c.args.self.now.lists.lists n []) c.from-list.ensures in
-    not_waiting_is (market_of c.args.self.now) (state_of c.args.self.now) c.args.student.0 c.args.section.0
-    (stands_not c.args.student.0 (waiting_for (state_of c.args.self.now) c.args.section.0)
-    (subst (λ l. position (λ other. other == c.args.student.0) l ≡ None) list (sym c.place_of.ensures ∙ c.in_default.is)))
+    record {
+      market = refl;
+      outcome =
+          not_waiting_is (market_of c.args.self.now) (state_of c.args.self.now) c.args.student.0 c.args.section.0
+          (stands_not c.args.student.0 (waiting_for (state_of c.args.self.now) c.args.section.0)
+          (subst (λ l. position (λ other. other == c.args.student.0) l ≡ None) list (sym c.place_of.ensures ∙ c.in_default.is)));
+      room = refl;
+    }
 
 pub invariant_of-self : goal.invariant_of-self
 invariant_of-self c =
@@ -37,8 +42,8 @@ invariant_of-self c =
       wide = ap (λ l. l.width) c.take_out.ensures ∙ c.args.self.now.wide;
     }
 
-pub returns-clause-left : goal.returns-clause-left
-returns-clause-left c =
+pub returns : goal.returns
+returns c =
     let list = c.items.ensures ∙ ap (λ n. get_or c.args.self.now.lists.lists n []) c.from-list.ensures in
     let at = subst (λ l. position (λ other. other == c.args.student.0) l ≡ Some c.in-Some.place) list (sym c.place_of.ensures ∙ c.in-Some.is) in
     let changed =
@@ -46,6 +51,11 @@ returns-clause-left c =
     c.from-list.ensures
     (ap (λ n. remove_range (get_or c.args.self.now.lists.lists n []) c.in-Some.place (c.in-Some.place + 1)) c.from-list.ensures
     ∙ cut_out (student_count (market_of c.args.self.now)) c.args.student.0 c.in-Some.place (waiting_for (state_of c.args.self.now) c.args.section.0) (c.args.self.now.hall.queues c.args.section.0) at) in
-    ap (λ st. (reply.Left, st)) changed
-    ∙ left_is (market_of c.args.self.now) (state_of c.args.self.now) c.args.student.0 c.args.section.0
-    (stands c.args.student.0 c.in-Some.place (waiting_for (state_of c.args.self.now) c.args.section.0) at)
+    record {
+      market = refl;
+      outcome =
+          ap (λ st. (reply.Left, st)) changed
+          ∙ left_is (market_of c.args.self.now) (state_of c.args.self.now) c.args.student.0 c.args.section.0
+          (stands c.args.student.0 c.in-Some.place (waiting_for (state_of c.args.self.now) c.args.section.0) at);
+      room = refl;
+    }

@@ -1,4 +1,4 @@
-use Rattle.std.proofs.Common.{◌≡◌, ◌<◌, ◌≤◌, ◌+◌, ◌∙◌, [], ap, sym, subst, arith, length, drop, get_or, None, Some, false}
+use Rattle.std.proofs.Common.{◌≡◌, ◌<◌, ◌≤◌, ◌+◌, ◌∙◌, [], ap, sym, subst, arith, length, drop, get_or, None, Some, false, refl}
 use Rattle.std.proofs.lemmas.List.{drop_all}
 use Rattle.std.proofs.lemmas.Option.{slice_get-get_or}
 use Rattle.market_units.specs.Members.{has}
@@ -23,16 +23,21 @@ overflow_cast-result c =
     let most : student_count (market_of c.args.self.now) ≤ 2000 = c.args.self.now.is_market.roll.few in
     omega (arith, list, few, most)
 
-pub returns-in_default-clause-passed : goal.returns-in_default-clause-passed
-returns-in_default-clause-passed c =
+pub returns-in_default : goal.returns-in_default
+returns-in_default c =
     let size = ap length c.items-lapsed.ensures in
     let list = ap length (c.items-lapsed.ensures ∙ ap (λ n. get_or c.args.self.now.lists.lists n []) c.from-list.ensures) in
     let changed =
     waiting_changed (held_on c.args.self.now.floor) c.args.self.now.lists c.take_out.new.self c.from-list.result c.args.section.0 _ [] c.take_out.ensures
     c.from-list.ensures (drop_all (length c.items-lapsed.result.now) (get_or c.args.self.now.lists.lists c.from-list.result []) (omega (arith, size))) in
-    ap (λ st. (reply.Dropped (length c.items-lapsed.result.now) None, st)) changed
-    ∙ none_next_is (market_of c.args.self.now) (state_of c.args.self.now) c.args.section.0 (length c.items-lapsed.result.now) list
-    (sym c.first_fitting.ensures ∙ c.in_default.is)
+    record {
+      market = refl;
+      outcome =
+          ap (λ st. (reply.Dropped (length c.items-lapsed.result.now) None, st)) changed
+          ∙ none_next_is (market_of c.args.self.now) (state_of c.args.self.now) c.args.section.0 (length c.items-lapsed.result.now) list
+          (sym c.first_fitting.ensures ∙ c.in_default.is);
+      room = refl;
+    }
 
 pub invariant_of-self-2 : goal.invariant_of-self-2
 invariant_of-self-2 c =
@@ -48,14 +53,18 @@ invariant_of-self-2 c =
       wide = ap (λ l. l.width) c.take_out-2.ensures ∙ c.args.self.now.wide;
     }
 
-pub give-requires-clause-student : goal.give-requires-clause-student
-give-requires-clause-student c =
+pub give-requires-clause-known : goal.give-requires-clause-known
+give-requires-clause-known c =
     let list = c.items.ensures ∙ ap (λ n. get_or c.args.self.now.lists.lists n []) c.from-list.ensures in
     let is =
     place_is (fit_for (market_of c.args.self.now) (state_of c.args.self.now) c.args.section.0) (waiting_for (state_of c.args.self.now) c.args.section.0)
     c.in-Some.place (sym c.first_fitting.ensures ∙ c.in-Some.is) in
-    subst (λ l. get_or l c.in-Some.place 0 < student_count (market_of c.args.self.now)) (sym list)
-    ((c.args.self.now.hall.queues c.args.section.0).within _ (has_get (waiting_for (state_of c.args.self.now) c.args.section.0) c.in-Some.place is.inside))
+    record {
+      student =
+          subst (λ l. get_or l c.in-Some.place 0 < student_count (market_of c.args.self.now)) (sym list)
+          ((c.args.self.now.hall.queues c.args.section.0).within _ (has_get (waiting_for (state_of c.args.self.now) c.args.section.0) c.in-Some.place is.inside));
+      section = c.requires;
+    }
 
 pub give-requires-clause-new : goal.give-requires-clause-new
 give-requires-clause-new c =
@@ -111,13 +120,18 @@ overflow_cast-result-2 c =
     let most : student_count (market_of c.args.self.now) ≤ 2000 = c.args.self.now.is_market.roll.few in
     omega (arith, inside, few, most)
 
-pub returns-clause-passed : goal.returns-clause-passed
-returns-clause-passed c =
+pub returns : goal.returns
+returns c =
     let list = c.items.ensures ∙ ap (λ n. get_or c.args.self.now.lists.lists n []) c.from-list.ensures in
     let changed =
     waiting_changed (held_on c.args.self.now.floor) c.args.self.now.lists c.take_out-2.new.self c.from-list.result c.args.section.0 _ _ c.take_out-2.ensures
     c.from-list.ensures (ap (λ n. drop (c.in-Some.place + 1) (get_or c.args.self.now.lists.lists n [])) c.from-list.ensures) in
-    ap (λ st. (reply.Dropped c.in-Some.place (Some (record { 0 = get_or c.items.result.now c.in-Some.place 0 })), st))
-    (c.give.ensures.given ∙ ap (λ st. given st (Some (get_or c.items.result.now c.in-Some.place 0)) c.args.section.0) changed)
-    ∙ next_is (market_of c.args.self.now) (state_of c.args.self.now) c.args.section.0 c.in-Some.place
-    (record { 0 = get_or c.items.result.now c.in-Some.place 0 }) (sym c.first_fitting.ensures ∙ c.in-Some.is) (ap (λ l. get_or l c.in-Some.place 0) list)
+    record {
+      market = c.give.ensures.market;
+      outcome =
+          ap (λ st. (reply.Dropped c.in-Some.place (Some (record { 0 = get_or c.items.result.now c.in-Some.place 0 })), st))
+          (c.give.ensures.state ∙ ap (λ st. given st (Some (get_or c.items.result.now c.in-Some.place 0)) c.args.section.0) changed)
+          ∙ next_is (market_of c.args.self.now) (state_of c.args.self.now) c.args.section.0 c.in-Some.place
+          (record { 0 = get_or c.items.result.now c.in-Some.place 0 }) (sym c.first_fitting.ensures ∙ c.in-Some.is) (ap (λ l. get_or l c.in-Some.place 0) list);
+      room = c.give.ensures.room;
+    }

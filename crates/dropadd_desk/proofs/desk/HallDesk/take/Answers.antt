@@ -9,7 +9,7 @@ pub returns-in-Ok-clause-taken : goal.returns-in-Ok-clause-taken
 returns-in-Ok-clause-taken c =
     let student : student_named (market_of c.args.self.now) c.in-Add.student ≡ Some c.in-Ok.student.0 = cc (c.in-Ok.ensures.student, c.in-Ok.student-is) in
     let section : section_named (market_of c.args.self.now) c.in-Add.section ≡ Some c.in-Ok.section.0 = cc (c.in-Ok.ensures.section, c.in-Ok.section-is) in
-    c.add.ensures.added
+    c.add.ensures.outcome
     ∙ add_named_is (market_of c.args.self.now) (state_of c.args.self.now) c.in-Add.student c.in-Add.section c.in-Ok.student.0 c.in-Ok.section.0 student
     section
     ∙ ap (step (market_of c.args.self.now) (state_of c.args.self.now)) (sym c.in-Add.is)
@@ -25,7 +25,7 @@ returns-in-Ok-find-clause-taken c =
     cc (c.in-Ok-find.ensures.student, c.in-Ok-find.student-is) in
     let section : section_named (market_of c.args.self.now) c.in-Drop.section ≡ Some c.in-Ok-find.section.0 =
     cc (c.in-Ok-find.ensures.section, c.in-Ok-find.section-is) in
-    c.give_up.ensures.dropped
+    c.give_up.ensures.outcome
     ∙ drop_named_is (market_of c.args.self.now) (state_of c.args.self.now) c.in-Drop.student c.in-Drop.section c.in-Ok-find.student.0 c.in-Ok-find.section.0
     student section
     ∙ ap (step (market_of c.args.self.now) (state_of c.args.self.now)) (sym c.in-Drop.is)
@@ -41,7 +41,7 @@ returns-in-Ok-find-2-clause-taken c =
     cc (c.in-Ok-find-2.ensures.student, c.in-Ok-find-2.student-is) in
     let section : section_named (market_of c.args.self.now) c.in-Leave.section ≡ Some c.in-Ok-find-2.section.0 =
     cc (c.in-Ok-find-2.ensures.section, c.in-Ok-find-2.section-is) in
-    c.leave.ensures.left
+    c.leave.ensures.outcome
     ∙ leave_named_is (market_of c.args.self.now) (state_of c.args.self.now) c.in-Leave.student c.in-Leave.section c.in-Ok-find-2.student.0
     c.in-Ok-find-2.section.0 student section
     ∙ ap (step (market_of c.args.self.now) (state_of c.args.self.now)) (sym c.in-Leave.is)

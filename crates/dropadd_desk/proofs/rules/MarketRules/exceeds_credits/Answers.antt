@@ -16,7 +16,7 @@ pub overflow_add-credits : goal.overflow_add-credits
 overflow_add-credits c =
     let credit =
     credit_at c.args.self.now c.self.inside.credits.items c.args.section.0 c.index.result.now (subst IsMarket c.self.view_is c.self.invariant.is_market)
-    (c.self.invariant.credits ∙ ap (λ m. map (λ (section : Section). section.credits) m.catalog.sections) c.self.view_is) c.requires.section
+    (c.self.invariant.credits ∙ ap (λ m. map (λ (section : Section). section.credits) m.catalog.sections) c.self.view_is) c.requires.known.section
     (subst (λ n. c.index.result.now ≡ get_or c.self.inside.credits.items n c.index.result.now) c.from.ensures c.index.ensures) in
     let few : c.index.result.now ≤ 100 = credit.few in
     omega (arith, few, c.sum_credits.ensures.few)
@@ -25,11 +25,11 @@ pub returns : goal.returns
 returns c =
     let credit =
     credit_at c.args.self.now c.self.inside.credits.items c.args.section.0 c.index.result.now (subst IsMarket c.self.view_is c.self.invariant.is_market)
-    (c.self.invariant.credits ∙ ap (λ m. map (λ (section : Section). section.credits) m.catalog.sections) c.self.view_is) c.requires.section
+    (c.self.invariant.credits ∙ ap (λ m. map (λ (section : Section). section.credits) m.catalog.sections) c.self.view_is) c.requires.known.section
     (subst (λ n. c.index.result.now ≡ get_or c.self.inside.credits.items n c.index.result.now) c.from.ensures c.index.ensures) in
     let cap =
     cap_at c.args.self.now c.self.inside.caps.items c.args.student.0 c.index-2.result.now (subst IsMarket c.self.view_is c.self.invariant.is_market)
-    (subst (λ m. AreCaps m.roll.students c.self.inside.caps.items) c.self.view_is c.self.invariant.caps) c.requires.student
+    (subst (λ m. AreCaps m.roll.students c.self.inside.caps.items) c.self.view_is c.self.invariant.caps) c.requires.known.student
     (subst (λ n. c.index-2.result.now ≡ get_or c.self.inside.caps.items n c.index-2.result.now) c.from-2.ensures c.index-2.ensures) in
     ap (λ n. nat_lt n (c.sum_credits.result + c.index.result.now)) cap.credits
     ∙ ap (λ n. nat_lt (enrolled c.args.self.now c.args.student.0).credits (n + c.index.result.now))
