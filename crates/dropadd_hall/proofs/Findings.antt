@@ -20,7 +20,7 @@ use Rattle.market_certificate.specs.Finding.{Finds, OnDefect}
 use Rattle.market_certificate.specs.Publications.{Publication}
 use Rattle.market_certificate.specs.Texts.{ArePublished, IsPublished}
 use Rattle.student_roll.specs.Students.{IsRoll, Student}
-use Rattle.dropadd_hall.specs.Openings.{CanOpen, IsOpeningFinding, IsTextOf, TellsFault, finding_of, opened, tables_in}
+use Rattle.dropadd_hall.specs.Openings.{IsNoOpening, IsOpeningFinding, IsTextOf, TellsFault, finding_of, opened, tables_in}
 use Rattle.dropadd_hall.proofs.Finals.{opens_alone}
 
 -- a fault is told by its finding
@@ -39,7 +39,7 @@ pub faultless_at : (one market : Market) (now state : HallState) → one ≡ mar
 faultless_at one market now state of same is = subst (λ (x : HallState). IsFaultless market x) same (subst (λ (m : Market). IsFaultless m now) of is)
 
 -- a fault of the final bundles is the first finding on the text
-pub fault_first : (market : Market) (text : List ℕ) (p : Publication) (finding : Finding) → IsTextOf market p text → TellsFault market (opened market p) finding
+fault_first : (market : Market) (text : List ℕ) (p : Publication) (finding : Finding) → IsTextOf market p text → TellsFault market (opened market p) finding
     → IsOpeningFinding market text finding
 fault_first market text p (Infeasible student) of is = (p, of, is)
 fault_first market text p (Seats section used seats) of is = (p, of, is)
@@ -69,13 +69,8 @@ fault_stands market state (NotQuiet turns) is none = is
 fault_stands market state (Allocation student) is none = is
 fault_stands market state (Used section) is none = is
 
--- and no desk opens with the text
-pub fault_refused : (market : Market) (text : List ℕ) (p : Publication) (finding : Finding) → IsCatalog market.catalog → IsRoll market.roll
-    → IsTextOf market p text → TellsFault market (opened market p) finding → ¬ CanOpen market text
-fault_refused market text p finding catalog roll of is can = fault_stands market (opened market p) finding is (opens_alone market text p catalog roll of can)
-
 -- whom it names is on the roll, or in the catalogue
-pub fault_named : (market : Market) (state : HallState) (finding : Finding) → TellsFault market state finding → IsNamedIn (tables_in market) finding
+fault_named : (market : Market) (state : HallState) (finding : Finding) → TellsFault market state finding → IsNamedIn (tables_in market) finding
 fault_named market state (Infeasible student) is = let all = length_map (λ (s : Student). s.name) market.roll.students in omega (arith, all, is.within)
 fault_named market state (Seats section used seats) is = let all = length_map (λ (s : Section). s.name) market.catalog.sections in omega (arith, all, is.within)
 fault_named market state (Text line kind) is = tt
@@ -88,13 +83,18 @@ fault_named market state (NotQuiet turns) is = tt
 fault_named market state (Allocation student) is = absurd is
 fault_named market state (Used section) is = absurd is
 
--- the first defect of a text that is no publication's is the first finding, and no hall opens with it
-pub defect_first : (market : Market) (text : List ℕ) (refusal : TextRefusal) → OnDefect refusal (Finds (ArePublished (tables_in market)) 1 text)
-    → OnFound (end_of refusal) (IsOpeningFinding market text)
-defect_first market text (Defect line kind) is = is
-defect_first market text refusals.NoMemory is = tt
+-- a fault of the final bundles is why no desk opens with the text
+pub fault_no_opening : (market : Market) (text : List ℕ) (p : Publication) (finding : Finding) → IsCatalog market.catalog → IsRoll market.roll
+    → IsTextOf market p text → TellsFault market (opened market p) finding → IsNoOpening market text finding
+fault_no_opening market text p finding catalog roll of is = record {
+  refused = λ can. fault_stands market (opened market p) finding is (opens_alone market text p catalog roll of can);
+  first = fault_first market text p finding of is;
+  named = fault_named market (opened market p) finding is;
+}
 
-pub defect_refused : (market : Market) (text : List ℕ) (refusal : TextRefusal) → OnDefect refusal (λ _ _. ¬ IsPublished (tables_in market) text)
-    → OnFound (end_of refusal) (λ _. ¬ CanOpen market text)
-defect_refused market text (Defect line kind) is = λ can. is (can.0, can.1.is_text.is_publication, can.1.is_text.written)
-defect_refused market text refusals.NoMemory is = tt
+-- and so is the first defect of a text that is no publication's
+pub defect_no_opening : (market : Market) (text : List ℕ) (refusal : TextRefusal) → OnDefect refusal (Finds (ArePublished (tables_in market)) 1 text)
+    → OnDefect refusal (λ _ _. ¬ IsPublished (tables_in market) text) → OnFound (end_of refusal) (IsNoOpening market text)
+defect_no_opening market text (Defect line kind) is none =
+    record { refused = λ can. none (can.0, can.1.is_text.is_publication, can.1.is_text.written); first = is; named = tt }
+defect_no_opening market text refusals.NoMemory is none = tt

@@ -3,6 +3,7 @@
 use Rattle.std.specs.Prelude.{ℕ, ◌≡◌, List}
 use Rattle.certificate_checker.specs.declared.findings.Finding.{Finding}
 use Rattle.certificate_checker.specs.declared.findings.Finding.TheVariants.{Infeasible, Seats, Text}
+use Rattle.certificate_checker.specs.Words.{IsNamedIn}
 use Rattle.dropadd_desk.specs.declared.shared.HallState.{HallState}
 use Rattle.dropadd_desk.specs.Halls.{opening}
 use Rattle.dropadd_desk.specs.Market.{Market}
@@ -54,6 +55,13 @@ IsOpeningFinding market text (Text line kind) =
     Finds (ArePublished (tables_in market)) 1 text line kind
 IsOpeningFinding market text finding =
     (p : Publication) × IsTextOf market p text × TellsFault market (opened market p) finding
+
+-- no desk opens with the text, and this is the first finding on it; whom it names is on the roll,
+-- or in the catalogue
+pub record IsNoOpening (market : Market) (text : List ℕ) (finding : Finding) : Type 0 where
+  pub refused : ¬ CanOpen market text
+  pub first : IsOpeningFinding market text finding
+  pub named : IsNamedIn (tables_in market) finding
 
 -- the finding that tells a fault
 abbrev pub finding_of : OpeningFault → Finding

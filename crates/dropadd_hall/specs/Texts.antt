@@ -47,13 +47,16 @@ reply_words market reply.Courses = codes "courses" ∷ []
 reply_words market reply.Added = codes "added" ∷ []
 reply_words market (reply.Queued ahead) = codes "queued" ∷ decimal ahead ∷ []
 reply_words market reply.NotHolding = codes "not-holding" ∷ []
-reply_words market (reply.Dropped lapsed next) = codes "dropped" ∷ decimal lapsed ∷ next_words market next
+reply_words market (reply.Dropped lapsed next) =
+    codes "dropped" ∷ decimal lapsed ∷ next_words market next
 reply_words market reply.NotWaiting = codes "not-waiting" ∷ []
 reply_words market reply.Left = codes "left" ∷ []
 
 -- the line of a step: its session, numbered from 1, its request and, behind a colon, its reply
 abbrev pub entry_line : Market → HallStep → List ℕ
-entry_line market step = spaced (codes "entry" ∷ decimal (step.seat + 1) ∷ spaced (request_words step.request) ∷ []) ++ 58 ∷ 32 ∷ spaced (reply_words market step.reply)
+entry_line market step =
+    spaced (codes "entry" ∷ decimal (step.seat + 1) ∷ spaced (request_words step.request) ∷ [])
+    ++ 58 ∷ 32 ∷ spaced (reply_words market step.reply)
 
 -- the line of what a student holds
 abbrev pub held_line : Market → HallState → ℕ → List ℕ
@@ -62,7 +65,8 @@ held_line market state i =
 
 -- the line of a section for which students wait
 abbrev pub wait_line : Market → ℕ → List ℕ → List ℕ
-wait_line market s waiting = spaced (codes "wait" ∷ section_name market s ∷ map (student_name market) waiting)
+wait_line market s waiting =
+    spaced (codes "wait" ∷ section_name market s ∷ map (student_name market) waiting)
 
 -- none where nobody waits
 abbrev pub where_any : Market → ℕ → List ℕ → List (List ℕ)

@@ -1,21 +1,17 @@
 // The hall of a published text.
-ghost use Rattle.std.specs.Prelude.{◌≡◌, ◌≤◌, ◌<◌, ◌^◌, ◌-◌, List, IfErr, IfOk, length};
+ghost use Rattle.std.specs.Prelude.{◌≤◌, ◌<◌, ◌^◌, ◌-◌, IfErr, IfOk, length};
 ghost use Rattle.certificate_checker.specs.Findings.{OnFound};
-ghost use Rattle.certificate_checker.specs.Words.{IsNamedIn};
-ghost use Rattle.dropadd_desk.specs.HallView.{market_of, room_of, state_of};
-ghost use Rattle.dropadd_desk.specs.Lines.{HallStep};
 ghost use Rattle.dropadd_hall.specs.Streams.{request_count, request_lists};
-ghost use Rattle.market_certificate.specs.Tables.{tables_of};
-ghost use Rattle.dropadd_hall.specs.Openings.{CanOpen, IsOpeningFinding};
-ghost use Rattle.dropadd_hall.specs.Told.{IsToldHall, IsToldOf};
+ghost use Rattle.dropadd_hall.specs.Openings.{IsNoOpening};
+ghost use Rattle.dropadd_hall.specs.Told.{IsToldHall};
 
 use crate::published_desk::open_desk;
 use crate::{open_hall, put_hall};
 use certificate_checker::CheckEnd;
 use course_catalog::Catalog;
-use dropadd_desk::{HallCommand, HallDesk};
+use dropadd_desk::HallCommand;
 use market_edge::Gate;
-use market_units::{MAX_COMMANDS, MAX_SESSIONS, NoMemory};
+use market_units::{MAX_COMMANDS, MAX_SESSIONS};
 use std::alloc::Global;
 use std::sync::Wait;
 use std::thread::Threads;
@@ -43,39 +39,12 @@ pub fn published_hall<R: Threads + Wait + Sync, G: Gate + Sync>(
     ensures told { IfOk result
         (λ told. IsToldHall (record { catalog = catalog.now; roll = roll.now })
         (request_lists streams.now) text.now told.items) }
-    ensures first { IfErr result
-        (λ end. OnFound end
-        (IsOpeningFinding (record { catalog = catalog.now; roll = roll.now }) text.now)) }
     ensures refused { IfErr result
         (λ end. OnFound end
-        (λ _. ¬ CanOpen (record { catalog = catalog.now; roll = roll.now }) text.now)) }
-    ensures named { IfErr result (λ end. OnFound end (IsNamedIn (tables_of catalog.now roll.now))) }
+        (IsNoOpening (record { catalog = catalog.now; roll = roll.now }) text.now)) }
 {
     let desk = open_desk(alloc, catalog, roll, text)?;
-    match told_from(rt, alloc, catalog, roll, desk, streams, gate) {
-        Ok(told) => Ok(told),
-        Err(NoMemory) => Err(CheckEnd::NoMemory),
-    }
-}
-
-// The text of the hall that opens with this desk.
-fn told_from<R: Threads + Wait + Sync, G: Gate + Sync>(
-    rt: &R,
-    alloc: Global,
-    catalog: &Catalog,
-    roll: &Roll,
-    desk: HallDesk,
-    streams: &[Vec<HallCommand>],
-    gate: &G,
-) -> Result<Vec<u8>, NoMemory>
-    requires market { market_of desk ≡ record { catalog = catalog.now; roll = roll.now } }
-    requires sessions { (1 ≤ length streams.now) × (length streams.now ≤ MAX_SESSIONS) }
-    requires room { request_count streams.now ≤ room_of desk }
-    ensures { IfOk result
-        (λ told. (history : List HallStep)
-        × IsToldOf (record { catalog = catalog.now; roll = roll.now }) (state_of desk)
-        (request_lists streams.now) history told.items) }
-{
     let hall = open_hall(rt, alloc, desk, streams, gate)?;
-    put_hall(alloc, catalog, roll, &hall)
+    let told = put_hall(alloc, catalog, roll, &hall)?;
+    Ok(told)
 }

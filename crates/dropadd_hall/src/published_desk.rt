@@ -2,12 +2,10 @@
 ghost use Rattle.std.specs.Prelude.{◌≡◌, ◌<◌, ◌^◌, ◌-◌, IfErr, IfOk, length, map};
 ghost use Rattle.bundle_rules.specs.Bundles.{sections_of};
 ghost use Rattle.certificate_checker.specs.Findings.{OnFound, end_of};
-ghost use Rattle.certificate_checker.specs.Words.{IsNamedIn};
 ghost use Rattle.dropadd_desk.specs.Halls.{opening};
 ghost use Rattle.held_seats.specs.Floors.{AreBelow};
 ghost use Rattle.market_certificate.specs.Publications.{Publication};
-ghost use Rattle.market_certificate.specs.Tables.{tables_of};
-ghost use Rattle.dropadd_hall.specs.Openings.{CanOpen, IsOpeningFinding, IsTextOf, TellsFault, finding_of};
+ghost use Rattle.dropadd_hall.specs.Openings.{IsNoOpening, IsTextOf, TellsFault, finding_of};
 ghost use Rattle.dropadd_hall.specs.Desks.{IsOpenDesk};
 
 use crate::{OpeningFault, opening_fault};
@@ -34,13 +32,9 @@ pub(crate) fn open_desk(
         (λ desk. (p : Publication)
         × IsTextOf (record { catalog = catalog.now; roll = roll.now }) p text.now
         × IsOpenDesk (record { catalog = catalog.now; roll = roll.now }) p.allocation desk) }
-    ensures first { IfErr result
-        (λ end. OnFound end
-        (IsOpeningFinding (record { catalog = catalog.now; roll = roll.now }) text.now)) }
     ensures refused { IfErr result
         (λ end. OnFound end
-        (λ _. ¬ CanOpen (record { catalog = catalog.now; roll = roll.now }) text.now)) }
-    ensures named { IfErr result (λ end. OnFound end (IsNamedIn (tables_of catalog.now roll.now))) }
+        (IsNoOpening (record { catalog = catalog.now; roll = roll.now }) text.now)) }
 {
     let _few_sections = catalog.len();
     let _few_students = roll.len();
