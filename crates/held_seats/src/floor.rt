@@ -68,29 +68,15 @@ impl Floor {
         ensures moved { result ≡ true
             → slice_get (held_on self.old) place ≢ Some (sections_of bundle) }
     {
-        if self.held[place] == bundle {
+        let before = self.held[place];
+        if before == bundle {
             return false;
         }
-        self.hold(seats, place, bundle);
-        true
-    }
-
-    // The student at this place holds the bundle from now on.
-    fn hold(&mut self, seats: &[u16], place: usize, bundle: Bundle)
-        requires place { place < length (held_on self.old) }
-        requires sections { length seats.now ≤ MAX_SECTIONS }
-        requires few { length (held_on self.old) ≤ MAX_STUDENTS }
-        requires floor { IsFloor seats.now self.old }
-        requires below { AreBelow (length seats.now) (held_on self.old) }
-        requires within { (s : ℕ) → has (sections_of bundle) s ≡ true → s < length seats.now }
-        ensures held { held_on self.new ≡ slice_set (held_on self.old) place (sections_of bundle) }
-        ensures floor { IsFloor seats.now self.new }
-    {
-        let before = self.held[place];
         uncount_bundle(&mut self.used, before.sections());
         count_bundle(&mut self.used, bundle.sections());
         let free = freed(self.free, &self.used, seats, before.sections());
         self.free = freed(free, &self.used, seats, bundle.sections());
         self.held[place] = bundle;
+        true
     }
 }
