@@ -21,7 +21,9 @@ AreWorkers workers = (1 ≤ workers) × (workers ≤ MAX_WORKERS)
 abbrev pub HasForm : List (List ℕ) → Form → Type 0
 HasForm words (Quote name credits courses) =
     (catalog : List ℕ) × (session : List ℕ)
-    × (words ≡ codes "quote" ∷ catalog ∷ session ∷ name_bytes name ∷ decimal credits ∷ decimal courses ∷ [])
+    × (words
+    ≡ codes "quote" ∷ catalog ∷ session ∷ name_bytes name ∷ decimal credits ∷ decimal courses
+    ∷ [])
     × (credits ≤ MAX_CREDITS) × (courses ≤ MAX_COURSES)
 HasForm words Prefer =
     (catalog : List ℕ) × (roll : List ℕ) × (sessions : List (List ℕ))
@@ -29,12 +31,16 @@ HasForm words Prefer =
 HasForm words (Demand workers) =
     (catalog : List ℕ) × (roll : List ℕ) × (settings : List ℕ) × (prices : List ℕ)
     × (sessions : List (List ℕ))
-    × (words ≡ codes "demand" ∷ decimal workers ∷ catalog ∷ roll ∷ settings ∷ prices ∷ sessions) × AreWorkers workers × AreSessions sessions
+    × (words ≡ codes "demand" ∷ decimal workers ∷ catalog ∷ roll ∷ settings ∷ prices ∷ sessions)
+    × AreWorkers workers × AreSessions sessions
 HasForm words (Run workers) =
     (catalog : List ℕ) × (roll : List ℕ) × (settings : List ℕ) × (sessions : List (List ℕ))
-    × (words ≡ codes "run" ∷ decimal workers ∷ catalog ∷ roll ∷ settings ∷ sessions) × AreWorkers workers × AreSessions sessions
+    × (words ≡ codes "run" ∷ decimal workers ∷ catalog ∷ roll ∷ settings ∷ sessions)
+    × AreWorkers workers × AreSessions sessions
 HasForm words (Make workers seed students sections accept) =
-    (words ≡ codes "make" ∷ decimal workers ∷ decimal seed ∷ decimal students ∷ decimal sections ∷ decimal accept ∷ [])
+    (words
+    ≡ codes "make" ∷ decimal workers ∷ decimal seed ∷ decimal students ∷ decimal sections
+    ∷ decimal accept ∷ [])
     × AreWorkers workers × (seed < 2 ^ 64) × (1 ≤ students) × (students ≤ MAX_STUDENTS)
     × (1 ≤ sections) × (sections ≤ MAX_SECTIONS) × (accept ≤ MAX_ACCEPT)
 HasForm words Check =
@@ -44,14 +50,18 @@ HasForm words Check =
 HasForm words (Explain student section) =
     (catalog : List ℕ) × (roll : List ℕ) × (settings : List ℕ) × (text : List ℕ)
     × (sessions : List (List ℕ))
-    × (words ≡ codes "explain" ∷ catalog ∷ roll ∷ settings ∷ text ∷ name_bytes student ∷ name_bytes section ∷ sessions) × AreSessions sessions
+    × (words
+    ≡ codes "explain" ∷ catalog ∷ roll ∷ settings ∷ text ∷ name_bytes student
+    ∷ name_bytes section ∷ sessions)
+    × AreSessions sessions
 HasForm words Hall =
     (catalog : List ℕ) × (roll : List ℕ) × (text : List ℕ) × (requests : List (List ℕ))
     × (words ≡ codes "hall" ∷ catalog ∷ roll ∷ text ∷ requests) × AreSessions requests
 HasForm words (Audit workers) =
     (catalog : List ℕ) × (roll : List ℕ) × (settings : List ℕ) × (text : List ℕ)
     × (sessions : List (List ℕ))
-    × (words ≡ codes "audit" ∷ decimal workers ∷ catalog ∷ roll ∷ settings ∷ text ∷ sessions) × AreWorkers workers × AreSessions sessions
+    × (words ≡ codes "audit" ∷ decimal workers ∷ catalog ∷ roll ∷ settings ∷ text ∷ sessions)
+    × AreWorkers workers × AreSessions sessions
 
 -- these words ask for nothing
 abbrev pub HasNoForm : List (List ℕ) → Type 0
