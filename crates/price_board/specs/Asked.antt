@@ -18,17 +18,20 @@ student_at terms task = task % student_count terms
 -- what the student of a task takes at the prices of its version
 abbrev pub is_taken : Terms → ℕ → Bundle → Bool
 is_taken terms task bundle =
-    same_sections (sections_of bundle) (demand_of terms (version_at terms task) (student_at terms task))
+    same_sections (sections_of bundle)
+    (demand_of terms (version_at terms task) (student_at terms task))
 
 -- what is posted decides the version of the task
 abbrev pub is_over : Terms → List (Option Bundle) → ℕ → Bool
 is_over terms answers task =
-    is_settled (ask_of terms.asks (version_at terms task)) (row_of terms answers (version_at terms task))
+    is_settled (ask_of terms.asks (version_at terms task))
+    (row_of terms answers (version_at terms task))
 
 -- how many posted bundles of that version have the section that is asked of
 abbrev pub counted : Terms → List (Option Bundle) → ℕ → ℕ
 counted terms answers task =
-    count_for (ask_of terms.asks (version_at terms task)) (row_of terms answers (version_at terms task))
+    count_for (ask_of terms.asks (version_at terms task))
+    (row_of terms answers (version_at terms task))
 
 -- A task for each version and student. What the student takes at the version's prices is right; the
 -- task is over where the version is settled
