@@ -1,5 +1,5 @@
 -- What a call answers.
-use Rattle.std.specs.Prelude.{ℕ, ◌≡◌, ◌≢◌, List}
+use Rattle.std.specs.Prelude.{ℕ, ◌≡◌, ◌≢◌, ◌≤◌, List}
 use Rattle.market_edge.specs.Faults.{Rose}
 use Rattle.market_edge.specs.Sinks.{Takes, TakesFront}
 use Rattle.market_host.specs.declared.status.Status.{Status}
@@ -38,6 +38,8 @@ pub record IsAnswered (words : List (List ℕ)) (seen : Sight) (begun : Trace) (
   -- fault, no count of theirs rose
   pub used : status ≢ SinkFault → AreUsed words begun status
   pub uncounted : status ≢ SinkFault → writes.faults_after ≡ writes.faults_before
+  -- the sink's count of faults does not fall
+  pub later : writes.faults_before ≤ writes.faults_after
 
 -- There is no memory for the words of a call: memory is wanted, unless the sink fails.
 pub record IsWordless (writes : Writing) (status : Status) : Type 0 where
@@ -48,3 +50,4 @@ pub record IsWordless (writes : Writing) (status : Status) : Type 0 where
   pub replaced : status ≡ SinkFault
       → TakesFront writes.taken_before writes.taken_after (line_of trouble.OutOfMemory)
   pub uncounted : status ≢ SinkFault → writes.faults_after ≡ writes.faults_before
+  pub later : writes.faults_before ≤ writes.faults_after

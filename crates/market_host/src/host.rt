@@ -1,11 +1,12 @@
 // From the words to the status, and from the inputs to the output.
-ghost use Rattle.std.specs.Prelude.{◌≡◌, ◌≢◌, ◌≤◌, List, ℕ, map};
+ghost use Rattle.std.specs.Prelude.{◌≡◌, ◌≢◌, ◌≤◌, map};
 ghost use Rattle.std.specs.String.{string_bytes};
 ghost use Rattle.market_edge.specs.Faults.{Rose};
 ghost use Rattle.market_edge.specs.Sinks.{Takes, TakesFront};
 ghost use Rattle.market_words.specs.Forms.{HasForm, inputs_of};
 ghost use Rattle.market_host.specs.Answers.{IsAnswered, IsWordless};
 ghost use Rattle.market_host.specs.Sights.{sight, writing};
+ghost use Rattle.market_host.specs.Taking.{Keeps};
 ghost use Rattle.market_host.specs.Traces.{trace};
 ghost use Rattle.market_host.specs.Works.{IsAnswer};
 
@@ -46,9 +47,7 @@ pub fn course_match<R: Threads + Wait + Sync, H: Shelf, K: Sink>(
         (trace H.Shelf shelf.old shelf.new) (writing K.Sink sink.old sink.new) result }
 
     // What the shelf holds stays, and no count of faults falls.
-    ensures holds { H.holds shelf.new ≡ H.holds shelf.old }
-    ensures later { (other : List ℕ) → H.faults shelf.old other ≤ H.faults shelf.new other }
-    ensures sink_later { K.faults sink.old ≤ K.faults sink.new }
+    ensures kept { Keeps H.Shelf shelf.old shelf.new }
 {
     let Some(form) = read_words(words) else {
         return finish(sink, usage().as_bytes(), Status::Usage);
@@ -62,8 +61,7 @@ pub fn course_match<R: Threads + Wait + Sync, H: Shelf, K: Sink>(
 /// What is answered where there is no memory for the words themselves: that memory is wanted,
 /// unless the sink fails.
 pub fn no_memory_for_words<K: Sink>(sink: &mut K) -> Status
-    ensures answered { IsWordless (writing K.Sink sink.old sink.new) result }
-    ensures sink_later { K.faults sink.old ≤ K.faults sink.new }
+    ensures { IsWordless (writing K.Sink sink.old sink.new) result }
 {
     finish(
         sink,

@@ -1,11 +1,7 @@
 // The inputs of a call, each read whole.
-ghost use Rattle.std.specs.Prelude.{◌≡◌, ◌≤◌, List, ℕ, length, IfOk, OnOk, IfErr, [], ◌∷◌};
-ghost use Rattle.market_edge.specs.Holdings.{IsTextOf};
+ghost use Rattle.std.specs.Prelude.{◌≡◌, ◌≤◌};
 ghost use Rattle.market_host.specs.Marks.{without_mark};
-ghost use Rattle.market_host.specs.Reading.{IsUnread};
-ghost use Rattle.market_host.specs.Sights.{sight};
-ghost use Rattle.market_host.specs.Traces.{Uses, trace};
-ghost use Rattle.market_host.specs.Troubles.{IsAtEnd};
+ghost use Rattle.market_host.specs.Taking.{Reads};
 
 use crate::trouble::Trouble;
 use market_edge::{Shelf, Taking, read_whole};
@@ -21,14 +17,7 @@ pub fn read_input<H: Shelf>(
     limit: usize,
 ) -> Result<Vec<u8>, Trouble>
     requires { limit ≤ MAX_TEXT_BYTES }
-    ensures whole { IfOk result (λ text. IsTextOf (H.holds shelf.old) name.now text.items) }
-    ensures within { IfOk result (λ text. length text.items ≤ limit) }
-    ensures end { OnOk result (IsAtEnd (sight H.Shelf shelf.old shelf.new) name.now) }
-    ensures unread { IfErr result
-        (IsUnread limit (sight H.Shelf shelf.old shelf.new) name.now input) }
-    ensures holds { H.holds shelf.new ≡ H.holds shelf.old }
-    ensures later { (other : List ℕ) → H.faults shelf.old other ≤ H.faults shelf.new other }
-    ensures used { Uses (trace H.Shelf shelf.old shelf.new) (name.now ∷ []) input result }
+    ensures { Reads H.Shelf limit name.now input shelf.old shelf.new result }
 {
     match read_whole(alloc, shelf, name, limit) {
         Ok(text) => Ok(text),

@@ -8,6 +8,7 @@ use Rattle.market_host.specs.Traces.{trace}
 use Rattle.market_host.specs.declared.status.Status.TheVariants.{Usage}
 use Rattle.market_host.proofs.Answering.{is_answered}
 use Rattle.market_host.proofs.ReadOut.{stopped_outcome}
+use Rattle.market_host.proofs.Taking.{kept_still}
 use Rattle.market_host.proofs.TraceFacts.{none_used, stopped_used}
 use Rattle.market_host.proofs.Works.{ended_apart, ended_outcome, ended_used, stopped_so, used_until}
 use Rattle.market_host.proofs.host.course_match.Goals as goal
@@ -18,7 +19,7 @@ returns-in_default-clause-answered g c =
     (trace g.H.Shelf c.args.shelf.now c.args.shelf.now) (writing g.K.Sink c.args.sink.now c.finish.new.sink) c.finish.result Usage usage_line
     (search rules, refl) (none_used g.H.Shelf c.args.shelf.now) c.finish.ensures.status
     (rw (c.as_bytes.ensures, c.usage.ensures) at c.finish.ensures.written) c.finish.ensures.cause
-    (rw (c.as_bytes.ensures, c.usage.ensures) at c.finish.ensures.front) c.finish.ensures.uncounted
+    (rw (c.as_bytes.ensures, c.usage.ensures) at c.finish.ensures.front) c.finish.ensures.uncounted c.finish.ensures.later
 
 pub returns-in-Ok-clause-answered : goal.returns-in-Ok-clause-answered
 returns-in-Ok-clause-answered g c =
@@ -31,7 +32,7 @@ returns-in-Ok-clause-answered g c =
     (bytes_of c.in-Ok.ended.output) c.in-Ok.ensures)
     c.finish-in-Ok.ensures.status
     (rw c.as_bytes-in-Ok.ensures at c.finish-in-Ok.ensures.written) c.finish-in-Ok.ensures.cause
-    (rw c.as_bytes-in-Ok.ensures at c.finish-in-Ok.ensures.front) c.finish-in-Ok.ensures.uncounted
+    (rw c.as_bytes-in-Ok.ensures at c.finish-in-Ok.ensures.front) c.finish-in-Ok.ensures.uncounted c.finish-in-Ok.ensures.later
 
 pub returns-in-Err-clause-answered : goal.returns-in-Err-clause-answered
 returns-in-Err-clause-answered g c =
@@ -46,19 +47,16 @@ returns-in-Err-clause-answered g c =
     (used_until g.H.Shelf c.in-Some.form c.args.shelf.now c.answer.new.shelf words c.in-Some.ensures.form c.in-Err.trouble c.in-Err.ensures))
     (rw c.status.ensures at c.finish-in-Err.ensures.status)
     (rw (c.as_bytes-in-Err.ensures, c.line_for.ensures) at c.finish-in-Err.ensures.written) c.finish-in-Err.ensures.cause
-    (rw (c.as_bytes-in-Err.ensures, c.line_for.ensures) at c.finish-in-Err.ensures.front) c.finish-in-Err.ensures.uncounted
+    (rw (c.as_bytes-in-Err.ensures, c.line_for.ensures) at c.finish-in-Err.ensures.front) c.finish-in-Err.ensures.uncounted c.finish-in-Err.ensures.later
 
-pub returns-in-Ok-clause-holds : goal.returns-in-Ok-clause-holds
-returns-in-Ok-clause-holds g c = c.in-Ok.ensures.1.kept.holds
+pub returns-in_default-clause-kept : goal.returns-in_default-clause-kept
+returns-in_default-clause-kept g c = kept_still g.H.Shelf c.args.shelf.now
 
-pub returns-in-Ok-clause-later : goal.returns-in-Ok-clause-later
-returns-in-Ok-clause-later g c = c.in-Ok.ensures.1.kept.later
+pub returns-in-Ok-clause-kept : goal.returns-in-Ok-clause-kept
+returns-in-Ok-clause-kept g c = c.in-Ok.ensures.1.kept
 
-pub returns-in-Err-clause-holds : goal.returns-in-Err-clause-holds
-returns-in-Err-clause-holds g c = c.in-Err.ensures.kept.holds
-
-pub returns-in-Err-clause-later : goal.returns-in-Err-clause-later
-returns-in-Err-clause-later g c = c.in-Err.ensures.kept.later
+pub returns-in-Err-clause-kept : goal.returns-in-Err-clause-kept
+returns-in-Err-clause-kept g c = c.in-Err.ensures.kept
 
 pub finish-requires-in-Ok : goal.finish-requires-in-Ok
 finish-requires-in-Ok g c = ended_apart c.in-Some.form c.in-Ok.ensures.0 c.in-Ok.ended.status (bytes_of c.in-Ok.ended.output) c.in-Ok.ensures.2
