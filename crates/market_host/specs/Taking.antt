@@ -18,13 +18,13 @@ use Rattle.utility_language.specs.Commands.{command_lines}
 
 -- what a shelf holds stays, and no count of faults falls
 pub record Keeps {H : Type 0} (shelf : Shelf.Ghosts H) (old new : H) : Type 0 where
-  pub holds : shelf.holds new ≡ shelf.holds old
-  pub later : (other : List ℕ) → shelf.faults old other ≤ shelf.faults new other
+  pub holds : (shelf.shows new).holds ≡ (shelf.shows old).holds
+  pub later : (other : List ℕ) → (shelf.shows old).faults other ≤ (shelf.shows new).faults other
 
 -- an input of this name is read whole: it has at most so many bytes, and they are these
 pub record IsReadWhole {H : Type 0} (shelf : Shelf.Ghosts H) (limit : ℕ) (name : List ℕ)
     (old new : H) (text : List ℕ) : Type 0 where
-  pub whole : IsTextOf (shelf.holds old) name text
+  pub whole : IsTextOf (shelf.shows old).holds name text
   pub within : length text ≤ limit
   pub ended : IsAtEnd (sight shelf old new) name
   pub used : AreReadOut (trace shelf old new) (name ∷ [])
@@ -50,7 +50,7 @@ Reads shelf limit name number old new result =
 pub record IsSessionTaken {H A : Type 0} (shelf : Shelf.Ghosts H)
     (IsItemOf : List (List ℕ) → A → Type 0) (name : List ℕ) (room : ℕ) (old new : H)
     (items : List A) : Type 0 where
-  pub read : IsRead Session (shelf.holds old) name
+  pub read : IsRead Session (shelf.shows old).holds name
       (λ text. AllZip IsItemOf (command_lines (session_text text)) items
       × (command_count text ≤ room))
   pub ended : IsAtEnd (sight shelf old new) name
@@ -76,7 +76,7 @@ pub record AreSessionsTaken {H A : Type 0} (shelf : Shelf.Ghosts H)
     (IsItemOf : List (List ℕ) → A → Type 0) (names : List (List ℕ)) (old new : H)
     (streams : List (Vec A Global)) : Type 0 where
   pub read : (texts : List (List ℕ)) × (room : ℕ)
-      × AreReadStreams IsItemOf (shelf.holds old) names texts streams room
+      × AreReadStreams IsItemOf (shelf.shows old).holds names texts streams room
   pub ended : IsLastAtEnd (sight shelf old new) names
   pub used : AreReadOut (trace shelf old new) names
   pub kept : Keeps shelf old new
@@ -92,7 +92,7 @@ pub record OneSessionStops {H : Type 0} (shelf : Shelf.Ghosts H) (names : List (
 pub record IsTaken {H : Type 0} (shelf : Shelf.Ghosts H) (kind : Kind) (name : List ℕ)
     (P : List ℕ → Type 0) (old new : H) : Type 0 where
   pub text : List ℕ
-  pub whole : IsTextOf (shelf.holds old) name text
+  pub whole : IsTextOf (shelf.shows old).holds name text
   pub within : length text ≤ limit_of kind
   pub says : P text
   pub ended : IsAtEnd (sight shelf old new) name
@@ -117,7 +117,7 @@ Takes shelf kind name number Q IsSaidBy old new result =
 -- the inputs of a form that have these names were read to their ends, and have these texts
 pub record AreTaken {H : Type 0} (shelf : Shelf.Ghosts H) (form : Form)
     (names texts : List (List ℕ)) (old new : H) : Type 0 where
-  pub read : AreRead form (shelf.holds old) names texts
+  pub read : AreRead form (shelf.shows old).holds names texts
   pub ended : IsLastAtEnd (sight shelf old new) names
   pub used : AreReadOut (trace shelf old new) names
   pub kept : Keeps shelf old new

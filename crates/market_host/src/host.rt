@@ -75,12 +75,12 @@ fn finish<K: Sink>(sink: &mut K, text: &[u8], status: Status) -> Status
     requires { status ≢ Status.SinkFault }
     ensures status { result ≢ Status.SinkFault → result ≡ status }
     ensures written { result ≢ Status.SinkFault
-        → Takes (K.taken sink.old) (K.taken sink.new) text.now }
-    ensures cause { result ≡ Status.SinkFault → Rose (K.faults sink.old) (K.faults sink.new) }
+        → Takes (K.shows sink.old).taken (K.shows sink.new).taken text.now }
+    ensures cause { result ≡ Status.SinkFault → Rose (K.shows sink.old).faults (K.shows sink.new).faults }
     ensures front { result ≡ Status.SinkFault
-        → TakesFront (K.taken sink.old) (K.taken sink.new) text.now }
-    ensures uncounted { result ≢ Status.SinkFault → K.faults sink.new ≡ K.faults sink.old }
-    ensures later { K.faults sink.old ≤ K.faults sink.new }
+        → TakesFront (K.shows sink.old).taken (K.shows sink.new).taken text.now }
+    ensures uncounted { result ≢ Status.SinkFault → (K.shows sink.new).faults ≡ (K.shows sink.old).faults }
+    ensures later { (K.shows sink.old).faults ≤ (K.shows sink.new).faults }
 {
     match write_whole(sink, text) {
         Ok(()) => status,

@@ -107,7 +107,7 @@ returns g c =
     (λ texts. Ends Hall texts ended.status (bytes_of ended.output)) named (
       (tables.0 ++ one.text ∷ []) ++ read.0,
       taken,
-      hall_ended (g.H.Shelf.holds c.take_text.new.shelf) c.in_ok-tables.tables.catalog c.in_ok-tables.tables.roll
+      hall_ended (g.H.Shelf.shows c.take_text.new.shelf).holds c.in_ok-tables.tables.catalog c.in_ok-tables.tables.roll
           c.in_ok-text.text.items one.text tables.0 names read.0 read.1 c.in_ok-streams.streams.lists.items ended.status (bytes_of ended.output) tables.2 one.says read.2
           (rw c.deref.ensures.value at c.in_ok-ended.ensures),
     )

@@ -19,7 +19,7 @@ returns-in-Err-ShelfFault g c =
     record {
       unread = (refl, said.shelf_fault refl, said.at_most (λ is. cc));
       used =
-          until_fault g.H.Shelf c.args.shelf.now c.read_whole.new.shelf c.args.name.now c.args.input (g.H.Shelf.is_begun c.read_whole.new.shelf)
+          until_fault g.H.Shelf c.args.shelf.now c.read_whole.new.shelf c.args.name.now c.args.input (g.H.Shelf.shows c.read_whole.new.shelf).is_begun
           said.begun_at_most;
       kept = record { holds = said.holds; later = said.later };
     }
@@ -30,7 +30,7 @@ returns-in-Err-TooLong g c =
     record {
       unread = (refl, said.too_long refl);
       used =
-          until_too_long g.H.Shelf c.args.shelf.now c.read_whole.new.shelf c.args.name.now c.args.input (g.H.Shelf.is_begun c.read_whole.new.shelf)
+          until_too_long g.H.Shelf c.args.shelf.now c.read_whole.new.shelf c.args.name.now c.args.input (g.H.Shelf.shows c.read_whole.new.shelf).is_begun
           (said.uncounted (λ is. cc)) (said.begun (λ is. cc)) said.begun_at_most;
       kept = record { holds = said.holds; later = said.later };
     }
@@ -41,7 +41,7 @@ returns-in-Err-NoMemory g c =
     record {
       unread = tt;
       used =
-          until_no_room g.H.Shelf c.args.shelf.now c.read_whole.new.shelf c.args.name.now c.args.input (g.H.Shelf.is_begun c.read_whole.new.shelf)
+          until_no_room g.H.Shelf c.args.shelf.now c.read_whole.new.shelf c.args.name.now c.args.input (g.H.Shelf.shows c.read_whole.new.shelf).is_begun
           (said.uncounted (λ is. cc)) said.begun_at_most;
       kept = record { holds = said.holds; later = said.later };
     }

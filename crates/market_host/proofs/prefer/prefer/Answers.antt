@@ -71,6 +71,6 @@ returns g c =
     (λ texts. Ends Prefer texts Done c.in_ok-text.text.items) named (
       tables.0 ++ read.0,
       taken,
-      prefer_done (g.H.Shelf.holds c.take_tables.new.shelf) c.in_ok-tables.tables.catalog c.in_ok-tables.tables.roll tables.0 names
+      prefer_done (g.H.Shelf.shows c.take_tables.new.shelf).holds c.in_ok-tables.tables.catalog c.in_ok-tables.tables.roll tables.0 names
           read.0 read.1 c.in_ok-streams.streams.lists.items c.in_ok-text.text.items tables.2 read.2 c.in_ok-text.ensures,
     )

@@ -48,7 +48,7 @@ sessions-preserved g c =
     let below : c.sessions.name-index < length c.args.names.now = omega arith in
     let read = rw (c.as_str.ensures.value, before.kept.holds) at said.read in
     let ended =
-    end_from (g.H.Shelf.holds c.args.shelf.now) (g.H.Shelf.faults c.args.shelf.now) (sight g.H.Shelf c.sessions.shelf c.take_session.new.shelf)
+    end_from (g.H.Shelf.shows c.args.shelf.now).holds (g.H.Shelf.shows c.args.shelf.now).faults (sight g.H.Shelf c.sessions.shelf c.take_session.new.shelf)
     (string_bytes c.name-item.result) before.kept.holds
     (rw c.as_str.ensures.value at said.ended) in
     let many : length c.in_ok-stream.stream.items ≡ command_count said.read.0 =
@@ -63,7 +63,7 @@ sessions-preserved g c =
       number = omega (arith, before.number);
       read = (
         before.read.0 ++ read.0 ∷ [],
-        rw c.in_ok-push.ensures.items (sessions_more g.S.StreamItem.is_item_of (g.H.Shelf.holds c.args.shelf.now) c.args.names.now c.sessions.name-index c.name-item.result before.read.0 c.sessions.lists.items c.sessions.room _
+        rw c.in_ok-push.ensures.items (sessions_more g.S.StreamItem.is_item_of (g.H.Shelf.shows c.args.shelf.now).holds c.args.names.now c.sessions.name-index c.name-item.result before.read.0 c.sessions.lists.items c.sessions.room _
             c.in_ok-stream.stream below c.name-item.is before.read.1 read (omega (arith, said.read.3.1, many, c.len.ensures, c.in_ok-stream.stream.ok.0))),
       );
       ended =
@@ -80,7 +80,7 @@ returns-in_err-stream g c =
     let stops : OneSessionStops g.H.Shelf (map string_bytes c.args.names.now) c.args.first c.args.shelf.now c.take_session.new.shelf c.in_err-stream.field-0.0 =
     record {
       trouble =
-          trouble_behind (g.H.Shelf.holds c.args.shelf.now) (g.H.Shelf.faults c.args.shelf.now) (sight g.H.Shelf c.sessions.shelf c.take_session.new.shelf)
+          trouble_behind (g.H.Shelf.shows c.args.shelf.now).holds (g.H.Shelf.shows c.args.shelf.now).faults (sight g.H.Shelf c.sessions.shelf c.take_session.new.shelf)
           c.args.names.now c.sessions.name-index c.name-item.result c.args.first c.sessions.input c.sessions.room before.read.0 c.in_err-stream.field-0.0
           (omega arith) c.name-item.is before.number before.kept.holds before.kept.later before.read.1.each before.read.1.count
           (rw c.as_str.ensures.value at said.trouble);
@@ -116,7 +116,7 @@ invariant_of-result g c =
     let all : take c.sessions.name-index c.args.names.now ≡ c.args.names.now = take_all c.sessions.name-index c.args.names.now (omega arith) in
     let long = length-map (take c.sessions.name-index c.args.names.now) string_bytes in
     let count =
-    streams_of_names g.S.StreamItem.is_item_of (g.H.Shelf.holds c.args.shelf.now) names last.read.0 c.sessions.lists.items c.sessions.room last.read.1 in
+    streams_of_names g.S.StreamItem.is_item_of (g.H.Shelf.shows c.args.shelf.now).holds names last.read.0 c.sessions.lists.items c.sessions.room last.read.1 in
     let room : total command_count last.read.0 ≡ total vec_len c.sessions.lists.items =
     count_of_sessions g.S.StreamItem.is_item_of last.read.0 c.sessions.lists.items last.read.1.items in
     record {

@@ -14,6 +14,6 @@ invariant-sessions g l = record {
   used : AreReadOut (trace g.H.Shelf l.fn.shelf l.shelf) (map string_bytes (take l.name-index l.names));
   number : l.input ≡ l.first + l.name-index;
   read : (texts : List (List ℕ))
-      × AreReadStreams g.S.StreamItem.is_item_of (g.H.Shelf.holds l.fn.shelf) (map string_bytes (take l.name-index l.names)) texts l.lists.items l.room;
+      × AreReadStreams g.S.StreamItem.is_item_of (g.H.Shelf.shows l.fn.shelf).holds (map string_bytes (take l.name-index l.names)) texts l.lists.items l.room;
   ended : IsLastAtEnd (sight g.H.Shelf l.fn.shelf l.shelf) (map string_bytes (take l.name-index l.names));
 }
