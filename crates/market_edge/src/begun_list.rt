@@ -15,8 +15,8 @@ const ROOM: usize = 128;
 pub struct BegunList {
     texts: Vec<(usize, bool)>,
     count: usize,
-    ghost reserved: { 128 ≤ vec_capacity texts },
-    ghost counted: { count ≤ 128 → length texts.items ≡ count },
+    ghost reserved: { ROOM ≤ vec_capacity texts },
+    ghost counted: { count ≤ ROOM → length texts.items ≡ count },
 }
 
 impl BegunList {

@@ -40,7 +40,8 @@ impl MemoryShelf {
         ensures files { IfOk result (λ shelf. files_of shelf ≡ files.items) }
         ensures failing { IfOk result (λ shelf. failing_of shelf ≡ failing.items) }
         ensures calls { IfOk result (λ shelf. calls_of shelf ≡ 0) }
-        ensures holds { IfOk result (λ shelf. (told_by shelf).holds ≡ Some (holding_of files.items)) }
+        ensures holds { IfOk result
+            (λ shelf. (told_by shelf).holds ≡ Some (holding_of files.items)) }
         ensures begun { IfOk result (λ shelf. (told_by shelf).is_begun ≡ false) }
         ensures openings { IfOk result (λ shelf. (told_by shelf).openings ≡ Some []) }
         ensures faults { IfOk result (λ shelf. (name : List ℕ) → (told_by shelf).faults name ≡ 0) }

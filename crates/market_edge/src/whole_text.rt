@@ -57,7 +57,8 @@ pub fn read_whole<H: Shelf>(
     ensures end { OnOk result (IsReadOut (H.shows shelf.old).holds (H.shows shelf.new).left) }
     // The text is begun and read to its end, or begun at most; nothing else is begun.
     ensures read_out { OnOk result
-        (Changes (H.shows shelf.old).openings (H.shows shelf.new).openings (with_read_out (name.now ∷ []))) }
+        (Changes (H.shows shelf.old).openings (H.shows shelf.new).openings
+        (with_read_out (name.now ∷ []))) }
     ensures begun { ¬ IsErrOf result Taking.ShelfFault → IsTrue (H.shows shelf.new).is_begun }
     ensures begun_at_most { OnErr result
         (BeginsAtMost (H.shows shelf.old).openings (H.shows shelf.new).openings name.now
@@ -79,7 +80,8 @@ pub fn read_whole<H: Shelf>(
         → (H.shows shelf.new).faults ≡ (H.shows shelf.old).faults }
 
     ensures holds { (H.shows shelf.new).holds ≡ (H.shows shelf.old).holds }
-    ensures later { (other : List ℕ) → (H.shows shelf.old).faults other ≤ (H.shows shelf.new).faults other }
+    ensures later { (other : List ℕ)
+        → (H.shows shelf.old).faults other ≤ (H.shows shelf.new).faults other }
 {
     shelf.begin(name)?;
     let mut text = Vec::new(alloc);
@@ -102,7 +104,8 @@ pub fn read_whole<H: Shelf>(
 /// Writes the whole text. After a fault some bytes at its end were not taken. It takes no memory.
 pub fn write_whole<K: Sink>(sink: &mut K, text: &[u8]) -> Result<(), SinkFault>
     ensures whole { OnOk result (Takes (K.shows sink.old).taken (K.shows sink.new).taken text.now) }
-    ensures front { OnErr result (TakesFront (K.shows sink.old).taken (K.shows sink.new).taken text.now) }
+    ensures front { OnErr result
+        (TakesFront (K.shows sink.old).taken (K.shows sink.new).taken text.now) }
     ensures cause { OnErr result (Rose (K.shows sink.old).faults (K.shows sink.new).faults) }
     ensures uncounted { OnOk result ((K.shows sink.new).faults ≡ (K.shows sink.old).faults) }
     ensures later { (K.shows sink.old).faults ≤ (K.shows sink.new).faults }

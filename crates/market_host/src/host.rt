@@ -76,10 +76,12 @@ fn finish<K: Sink>(sink: &mut K, text: &[u8], status: Status) -> Status
     ensures status { result ≢ Status.SinkFault → result ≡ status }
     ensures written { result ≢ Status.SinkFault
         → Takes (K.shows sink.old).taken (K.shows sink.new).taken text.now }
-    ensures cause { result ≡ Status.SinkFault → Rose (K.shows sink.old).faults (K.shows sink.new).faults }
+    ensures cause { result ≡ Status.SinkFault
+        → Rose (K.shows sink.old).faults (K.shows sink.new).faults }
     ensures front { result ≡ Status.SinkFault
         → TakesFront (K.shows sink.old).taken (K.shows sink.new).taken text.now }
-    ensures uncounted { result ≢ Status.SinkFault → (K.shows sink.new).faults ≡ (K.shows sink.old).faults }
+    ensures uncounted { result ≢ Status.SinkFault
+        → (K.shows sink.new).faults ≡ (K.shows sink.old).faults }
     ensures later { (K.shows sink.old).faults ≤ (K.shows sink.new).faults }
 {
     match write_whole(sink, text) {
