@@ -1,6 +1,7 @@
 // A list of texts that were begun, in room that is reserved once.
 ghost use Rattle.std.specs.Prelude.{◌≡◌, ◌<◌, ◌≤◌, Some, [], length, IfOk, vec_capacity};
 ghost use Rattle.market_edge.specs.MemoryFiles.{Lists, earlier_of};
+ghost use Rattle.market_edge.specs.declared.begun_list.TheConstants.{ROOM};
 
 use crate::memory_files::Place;
 use market_units::NoMemory;
