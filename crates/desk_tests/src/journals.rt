@@ -72,24 +72,23 @@ fn say_each(rt: &impl Abort, desk: &mut Desk, said: &[(u16, &[u8])])
     }
 }
 
-// Posts the command of each line of a session in its name.
-fn say_lines(rt: &impl Abort, desk: &mut Desk, said: &[u8])
-    requires { All HasShortCommand (entries_of desk.old) }
-    ensures names { names_of desk.new ≡ names_of desk.old }
-    ensures short { All HasShortCommand (entries_of desk.new) }
-{
+// The lines of the first session.
+fn lines_in<'a>(alloc: Global, said: &'a [u8]) -> Result<Vec<(u16, &'a [u8])>, Fail> {
+    let mut lines = Vec::new(alloc);
     for line in said.split(|byte| *byte == b'\n') {
         if !line.is_empty() {
-            say(rt, desk, 1, line);
+            lines.push((1, line))?;
         }
     }
+    Ok(lines)
 }
 
 // What is told after this session.
 fn try_session(rt: &impl Abort, alloc: Global, session: &WorkedSession) -> Result<(), Fail> {
     let (catalog, roll) = tables_in(rt, alloc, THREE_SECTIONS_CATALOGUE, ROLL);
     let mut desk = Desk::prepare(alloc, &catalog, &roll, 20)?;
-    say_lines(rt, &mut desk, session.said);
+    let lines = lines_in(alloc, session.said)?;
+    say_each(rt, &mut desk, lines.as_slice());
     let printed = preferences_text(alloc, &catalog, &roll, &desk)?;
     assert_eq!(rt; printed.as_slice(), session.told.as_bytes());
     Ok(())

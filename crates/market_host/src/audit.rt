@@ -63,6 +63,14 @@ fn audited<R: Threads + Wait + Sync>(
         roll: &market.roll,
         settings: &market.settings,
     };
-    let told = published_audit(rt, alloc, workers.number, &lent, &streams.lists, text, &passed);
+    let told = published_audit(
+        rt,
+        alloc,
+        workers.number,
+        &lent,
+        &streams.lists,
+        text,
+        &passed,
+    );
     told_end(&market.catalog, &market.roll, told)
 }

@@ -34,7 +34,8 @@ pub fn crowd_of<R: Abort>(rt: &R, alloc: Global, students: &[Student], sections:
     Crowd::of(menus, budgets, sections).expect(rt, "a crowd")
 }
 
-fn menu_of<R: Abort>(rt: &R, alloc: Global, student: &Student) -> Menu {
+/// The menu of this student; the test fails where there is none.
+pub fn menu_of<R: Abort>(rt: &R, alloc: Global, student: &Student) -> Menu {
     let (_, courses, wishes, pairs, clashes) = *student;
     let mut places = Vec::new(alloc);
     for wish in wishes {

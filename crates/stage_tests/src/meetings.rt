@@ -1,6 +1,6 @@
 // Two workers that meet in the elimination and in the search, where they were asked at the first
 // prices before: the stages ask both, and not the caller's thread alone.
-use crate::crowds::{crowd_of, join, nobody, rated};
+use crate::crowds::{Student, menu_of};
 use crate::searches::settings_of;
 use demand_api::{Crowd, Demands};
 use demand_workers::{Pool, PooledDemands};
@@ -49,13 +49,16 @@ impl Gate for LaterGate {
 // turn.
 fn students_of<R: Abort>(rt: &R, alloc: Global, sections: u16) -> Crowd {
     assert!(rt; sections > 0);
-    let mut students = nobody(alloc);
+    let mut menus = Vec::new(alloc);
+    let mut budgets = Vec::new(alloc);
     for student in 0..STUDENTS {
-        let places = [rated(student % sections, 0, 50)];
         let budget = 100 + u32::from(student);
-        join(rt, alloc, &mut students, (budget, 1), &places, &[], &[0]);
+        let wishes = [(student % sections, 0, 50)];
+        let wants: Student = (budget, 1, &wishes, &[], &[0]);
+        menus.push(menu_of(rt, alloc, &wants)).expect(rt, "memory");
+        budgets.push(Tokens(budget)).expect(rt, "memory");
     }
-    crowd_of(rt, students, sections)
+    Crowd::of(menus, budgets, sections).expect(rt, "a crowd")
 }
 
 // Both workers posted, and each waited for the other.
