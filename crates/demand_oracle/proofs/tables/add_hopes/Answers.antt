@@ -1,4 +1,4 @@
-use Rattle.std.proofs.Common.{◌≡◌, ◌≤◌, ◌+◌, [], ℕ, slice_index, sym, ◌∙◌, arith}
+use Rattle.std.proofs.Common.{◌≡◌, ◌≤◌, ◌+◌, ℕ, slice_index, sym, ◌∙◌, arith}
 use Rattle.bundle_rules.specs.Menus.{adjustment_in}
 use Rattle.bundle_bounds.specs.Views.{data_of}
 use Rattle.bundle_bounds.specs.Opens.{above_zero}

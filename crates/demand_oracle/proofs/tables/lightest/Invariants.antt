@@ -1,4 +1,4 @@
-use Rattle.std.proofs.Common.{◌≡◌, ◌<◌, ◌≤◌, ℕ, List, true}
+use Rattle.std.proofs.Common.{◌≡◌, ◌<◌, ◌≤◌, ℕ, true}
 use Rattle.bundle_rules.specs.Menus.{credits_at}
 use Rattle.bundle_bounds.specs.Views.{data_of}
 use Rattle.bundle_bounds.specs.Offers.{allowed_at}

@@ -1,4 +1,4 @@
-use Rattle.std.proofs.Common.{ℕ, length}
+use Rattle.std.proofs.Common.{length}
 use Rattle.bundle_bounds.specs.Views.{data_of}
 use Rattle.demand_oracle.specs.Reaches.{HoldsCovers, AreSmall}
 use Rattle.demand_oracle.proofs.tables.put_most.Given as goal
