@@ -21,7 +21,8 @@ BoundsPruneSoundly =
 
 -- the value `first_pruning` is the leaf of the first pruning bound, and `None` where none prunes
 -- the node
-pub record IsFirstOrNone (offer : OfferData) (k : ℕ) (chosen champion : List ℕ) : Type 0 where
+pub record IsFirstOrNone (offer : OfferData) (k : ℕ)
+    (chosen champion : List ℕ) : Type 0 where
   pub first : (leaf : Leaf)
       → (first_pruning offer k chosen champion ≡ Some leaf)
       ↔ IsFirstPruning offer k chosen champion (bounds offer k chosen) leaf
@@ -30,7 +31,8 @@ pub record IsFirstOrNone (offer : OfferData) (k : ℕ) (chosen champion : List �
 
 abbrev pub FirstPruningIsTheFirst : Type 0
 FirstPruningIsTheFirst =
-    (offer : OfferData) (k : ℕ) (chosen champion : List ℕ) → IsMenu offer.menu → IsNode offer k chosen
+    (offer : OfferData) (k : ℕ) (chosen champion : List ℕ) → IsMenu offer.menu
+    → IsNode offer k chosen
     → IsFeasible (wishes_of offer.menu) champion
     → IsFirstOrNone offer k (places_of offer.menu chosen) (places_of offer.menu champion)
 

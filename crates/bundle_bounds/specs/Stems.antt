@@ -36,7 +36,8 @@ pub record HasChosen (offer : OfferData) (champion chosen : List ℕ) (champions
   pub courses_is : rests.courses ≡ courses_left offer (places_of offer.menu chosen)
 
 -- the room keeps these open places from here on, with what the bounds are made of
-pub record Keeps (offer : OfferData) (open_ones : List Prospect) (rests : Rests) (room : List Prospect)
+pub record Keeps (offer : OfferData) (open_ones : List Prospect) (rests : Rests)
+    (room : List Prospect)
     (start plain : ℕ) (tangents : Tangents) : Type 0 where
   pub whole : length room ≡ MAX_RATINGS
   pub within : start ≤ MAX_RATINGS

@@ -28,7 +28,8 @@ pub(crate) fn leave(all: &Prospects, plain: u64, tangents: Tangents) -> (u64, Ta
     requires plain { plain ≡ by_course (λ p. 1000 * p.worth) all.now.list.now }
     requires tangents { (budget : ℕ)
         × ((credit_rest : ℕ)
-        × ((course_rest : ℕ) × AreTangents budget credit_rest course_rest all.now.list.now tangents)) }
+        × ((course_rest : ℕ)
+        × AreTangents budget credit_rest course_rest all.now.list.now tangents)) }
     ensures plain { result.0 ≡ by_course (λ p. 1000 * p.worth) (drop 1 all.now.list.now) }
     ensures less { result.0 ≤ plain }
     ensures tangents { (budget credit_rest course_rest : ℕ)

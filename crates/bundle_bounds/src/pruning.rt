@@ -95,7 +95,8 @@ fn recall(known: &mut Known, base: Base, limit: i64, tangent: Tangent)
     requires sum { tangent.sum ≤ 1000000000000000000 }
     requires known { known.old.high ≤ 20000001 }
     ensures { (rest : ℕ) (resource : Resource) (all : List Prospect)
-        → IsTangent rest resource all tangent → IsKnown base.number limit rest resource all known.old
+        → IsTangent rest resource all tangent
+        → IsKnown base.number limit rest resource all known.old
         → IsKnown base.number limit rest resource all known.new }
 {
     let bound = base.number + tangent.sum as i64;
@@ -134,9 +135,11 @@ fn first_of_resource(
 ) -> Option<Leaf>
     requires last { IfSome last.old (IsTangent left.rest left.resource all.now.list.now) }
     ensures first { IfSome result
-        (IsFirstBelow limit (resource_bounds base.number left.rest left.resource all.now.list.now all.now.list.now)) }
+        (IsFirstBelow limit
+        (resource_bounds base.number left.rest left.resource all.now.list.now all.now.list.now)) }
     ensures none { IfNone result
-        (NoneBelow limit (resource_bounds base.number left.rest left.resource all.now.list.now all.now.list.now)) }
+        (NoneBelow limit
+        (resource_bounds base.number left.rest left.resource all.now.list.now all.now.list.now)) }
     ensures last { IfSome last.new (IsTangent left.rest left.resource all.now.list.now) }
 {
     let mut known = known_by(base, limit, last);
@@ -163,9 +166,11 @@ pub(crate) fn is_plain_below(base: Base, limit: i64, plain: u64) -> bool
 /// The leaf of the first bound below the limit, of all bounds in their order; `None` where none is.
 pub(crate) fn first_below(base: Base, limit: i64, rests: Rests, all: &Prospects) -> Option<Leaf>
     ensures first { IfSome result
-        (IsFirstBelow limit (all_bounds base.number rests.budget rests.credits rests.courses all.now.list.now)) }
+        (IsFirstBelow limit
+        (all_bounds base.number rests.budget rests.credits rests.courses all.now.list.now)) }
     ensures none { IfNone result
-        (NoneBelow limit (all_bounds base.number rests.budget rests.credits rests.courses all.now.list.now)) }
+        (NoneBelow limit
+        (all_bounds base.number rests.budget rests.credits rests.courses all.now.list.now)) }
 {
     let mut tangents = Tangents::none();
     first_with(base, limit, rests, all, plain_sum(all), &mut tangents)
@@ -184,12 +189,16 @@ pub(crate) fn first_with(
 ) -> Option<Leaf>
     requires plain { plain ≡ by_course (λ p. 1000 * p.worth) all.now.list.now }
     requires plain_high { plain ≤ 1200000000 }
-    requires tangents { AreTangents rests.budget rests.credits rests.courses all.now.list.now tangents.old }
+    requires tangents { AreTangents rests.budget rests.credits rests.courses all.now.list.now
+        tangents.old }
     ensures first { IfSome result
-        (IsFirstBelow limit (all_bounds base.number rests.budget rests.credits rests.courses all.now.list.now)) }
+        (IsFirstBelow limit
+        (all_bounds base.number rests.budget rests.credits rests.courses all.now.list.now)) }
     ensures none { IfNone result
-        (NoneBelow limit (all_bounds base.number rests.budget rests.credits rests.courses all.now.list.now)) }
-    ensures tangents { AreTangents rests.budget rests.credits rests.courses all.now.list.now tangents.new }
+        (NoneBelow limit
+        (all_bounds base.number rests.budget rests.credits rests.courses all.now.list.now)) }
+    ensures tangents { AreTangents rests.budget rests.credits rests.courses all.now.list.now
+        tangents.new }
 {
     if is_plain_below(base, limit, plain) {
         return Some(Leaf::Plain);
@@ -213,16 +222,22 @@ fn first_after_money(
     all: &Prospects,
     tangents: &mut Tangents,
 ) -> Option<Leaf>
-    requires tangents { AreTangents rests.budget rests.credits rests.courses all.now.list.now tangents.old }
+    requires tangents { AreTangents rests.budget rests.credits rests.courses all.now.list.now
+        tangents.old }
     ensures first { IfSome result
         (IsFirstBelow limit
-        (resource_bounds base.number rests.credits Resource.Credits all.now.list.now all.now.list.now
-        ++ resource_bounds base.number rests.courses Resource.Count all.now.list.now all.now.list.now)) }
+        (resource_bounds base.number rests.credits Resource.Credits all.now.list.now
+        all.now.list.now
+        ++ resource_bounds base.number rests.courses Resource.Count all.now.list.now
+        all.now.list.now)) }
     ensures none { IfNone result
         (NoneBelow limit
-        (resource_bounds base.number rests.credits Resource.Credits all.now.list.now all.now.list.now
-        ++ resource_bounds base.number rests.courses Resource.Count all.now.list.now all.now.list.now)) }
-    ensures tangents { AreTangents rests.budget rests.credits rests.courses all.now.list.now tangents.new }
+        (resource_bounds base.number rests.credits Resource.Credits all.now.list.now
+        all.now.list.now
+        ++ resource_bounds base.number rests.courses Resource.Count all.now.list.now
+        all.now.list.now)) }
+    ensures tangents { AreTangents rests.budget rests.credits rests.courses all.now.list.now
+        tangents.new }
 {
     let credits = Left {
         resource: Resource::Credits,

@@ -187,7 +187,8 @@ impl Stem {
             ≡ true }
         ensures { IsStem (data_of offer.now)
             (sections_of champion.now) (node.now.place + 1)
-            (sections_of node.now.chosen ++ section_at offer.now.menu.now.places node.now.place ∷ [])
+            (sections_of node.now.chosen
+            ++ section_at offer.now.menu.now.places node.now.place ∷ [])
             below.new }
     {
         let menu = offer.menu;

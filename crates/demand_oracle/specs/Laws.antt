@@ -24,7 +24,8 @@ SearchFindsTheBest =
 -- most so many sections is no more than what can be reached from the node
 abbrev pub ReachIsSound : Type 0
 ReachIsSound =
-    (offer : OfferData) (multipliers : Multipliers) (k : ℕ) (chosen bundle : List ℕ) (count most : ℕ)
+    (offer : OfferData) (multipliers : Multipliers) (k : ℕ) (chosen bundle : List ℕ)
+    (count most : ℕ)
     → IsMenu offer.menu → IsNode offer k chosen
     → IsTakable offer bundle → Completes offer k chosen bundle
     → length bundle ≤ length chosen + count → Covers offer multipliers k count most

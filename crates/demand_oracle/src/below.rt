@@ -84,7 +84,8 @@ fn fits(question: &Question, summed: &SummedNode, place: u8) -> bool
     requires { place < MAX_RATINGS }
     ensures { IsQuestion question.now → place < length (offer_asked question.now).menu.places
         → IsTrue result
-        ↔ ((price_at (offer_asked question.now) place ≤ (offer_asked question.now).budget - summed.now.paid)
+        ↔ ((price_at (offer_asked question.now) place
+        ≤ (offer_asked question.now).budget - summed.now.paid)
         × (credits_at (offer_asked question.now).menu.places place
         ≤ (offer_asked question.now).menu.credits - summed.now.credits)) }
 {

@@ -47,7 +47,8 @@ impl Goods {
 // The price of each place.
 fn prices_of(offer: &Offer) -> [u32; PLACES]
     ensures { (place : ℕ) → place < length offer.now.menu.now.places
-        → slice_index result place ≡ price_in offer.now.prices.now (section_at offer.now.menu.now.places place) }
+        → slice_index result place
+        ≡ price_in offer.now.prices.now (section_at offer.now.menu.now.places place) }
 {
     let mut row = [0; PLACES];
     for place in 0..offer.menu.len() {

@@ -195,7 +195,8 @@ fn place_alone(offer: &Offer, section: SectionNo) -> Option<u8>
         (λ place. IsTakable (data_of offer.now)
         (section_at offer.now.menu.now.places place ∷ [])) }
     ensures none { IfNone result
-        (¬ SomeHas (wishes_of offer.now.menu.now) (price_in offer.now.prices.now) offer.now.budget.0 (set.contains offer.now.allowed.now)
+        (¬ SomeHas (wishes_of offer.now.menu.now) (price_in offer.now.prices.now)
+        offer.now.budget.0 (set.contains offer.now.allowed.now)
         section.0) }
 {
     let menu = offer.menu;
@@ -220,7 +221,8 @@ fn search(frames: &mut Frames, offer: &Offer, given: Option<u8>, first: Option<&
         (section_at offer.now.menu.now.places place ∷ [])) }
     ensures leads { LeadsWanted (data_of offer.now)
         (wanted_by offer.now.menu.now given) (sections_of result) }
-    ensures wanted { IfNone first.entry (wanted_by offer.now.menu.now given (sections_of result) ≡ true) }
+    ensures wanted { IfNone first.entry
+        (wanted_by offer.now.menu.now given (sections_of result) ≡ true) }
 {
     frames.reach.measure(offer);
     let goods = Goods::of(offer);
@@ -250,7 +252,8 @@ fn first_champion(
         (λ place. IsTakable (data_of offer.now)
         (section_at offer.now.menu.now.places place ∷ [])) }
     ensures champion { IsChampion (data_of offer.now) result }
-    ensures wanted { IfNone first.entry (wanted_by offer.now.menu.now given (chosen_of result) ≡ true) }
+    ensures wanted { IfNone first.entry
+        (wanted_by offer.now.menu.now given (chosen_of result) ≡ true) }
 {
     match given {
         Some(place) => begun_beside(offer, place, first),

@@ -171,11 +171,13 @@ fn put_place(
     requires shift { shift < 32 }
     requires place { place < length offer.now.menu.now.places }
     requires menu { IsMenu offer.now.menu.now }
-    requires small { AreSmall offer.now.menu.now.courses most.old (place + 1) (length offer.now.menu.now.places) }
+    requires small { AreSmall offer.now.menu.now.courses most.old (place + 1)
+        (length offer.now.menu.now.places) }
     ensures covers { hoped ≡ hopes_from (data_of offer.now) (place + 1) place
         → HoldsCovers (data_of offer.now) multipliers shift most.old (place + 1)
         → HoldsCovers (data_of offer.now) multipliers shift most.new place }
-    ensures small { AreSmall offer.now.menu.now.courses most.new place (length offer.now.menu.now.places) }
+    ensures small { AreSmall offer.now.menu.now.courses most.new place
+        (length offer.now.menu.now.places) }
 {
     let menu = offer.menu;
     let courses = menu.courses();

@@ -35,7 +35,8 @@ ReasonsLeaveABundle =
 -- the section
 abbrev pub ForcedTreesProveTheBest : Type 0
 ForcedTreesProveTheBest =
-    (offer : OfferData) (champion : List ℕ) (section : ℕ) → IsMenu offer.menu → IsTakable offer champion
+    (offer : OfferData) (champion : List ℕ) (section : ℕ) → IsMenu offer.menu
+    → IsTakable offer champion
     → has champion section ≡ true
     → ((text : List ℕ) × IsTreeText offer (Some (place_in offer.menu.places section)) champion text)
     ↔ IsBestWith (wishes_of offer.menu) offer.price offer.budget offer.allowed section champion
@@ -43,7 +44,8 @@ ForcedTreesProveTheBest =
 -- a student is told one thing of a section
 abbrev pub OneExplanation : Type 0
 OneExplanation =
-    (offer : OfferData) (bundle : List ℕ) (section : ℕ) (one other : ExplainedData) → IsMenu offer.menu
+    (offer : OfferData) (bundle : List ℕ) (section : ℕ) (one other : ExplainedData)
+    → IsMenu offer.menu
     → IsExplained offer bundle section one → IsExplained offer bundle section other → one ≡ other
 
 -- a student gains nothing of utility by the best bundle with a section: what is told as lost is at
