@@ -1,15 +1,17 @@
 -- A bound prunes a node exactly where it is below the limit.
-use Rattle.std.proofs.Common.{◌≡◌, ℕ, ◌-◌, ◌<◌, true, List, [], ◌∷◌, Option, Some, None, length, take, drop, min, sym, ap, ◌∙◌, subst, arith, inl, inr}
+use Rattle.std.proofs.Common.{◌≡◌, ℕ, ◌-◌, ◌<◌, ◌≤◌, true, List, [], ◌∷◌, Option, Some, None, length, take, drop, min, sym, ap, ◌∙◌, subst, arith, inl, inr}
 use Rattle.std.specs.Prelude.{ℤ, pos, ◌+ℤ◌, ◌*ℤ◌, ◌<ℤ◌, IfSome, IfNone}
 use Rattle.std.proofs.lemmas.Int.{ints}
 use Rattle.std.proofs.lemmas.Bool.{cases_Bool}
+use Rattle.std.proofs.Math.Seq.{drop-length}
+use Rattle.std.proofs.lemmas.List.{length-take}
 use Rattle.market_units.specs.Members.{has}
 use Rattle.bundle_rules.specs.Sets.{IsAscending}
 use Rattle.bundle_rules.specs.Wishes.{utility}
 use Rattle.bundle_rules.specs.Menus.{by_place}
 use Rattle.bundle_bounds.specs.declared.nodes.Leaf.{Leaf}
 use Rattle.bundle_bounds.specs.declared.prospects.Prospect.{Prospect}
-use Rattle.bundle_bounds.specs.Offers.{Offer}
+use Rattle.bundle_bounds.specs.Offers.{OfferData}
 use Rattle.bundle_bounds.specs.Opens.{budget_left, credits_left, courses_left, open_places, opens_from, prospects}
 use Rattle.bundle_bounds.specs.Bounds.{base_of, all_bounds, bounds, Prunes, NonePrunes, IsFirstPruning}
 use Rattle.bundle_bounds.specs.Limits.{NoneBelow, IsFirstBelow}
@@ -21,8 +23,16 @@ use Rattle.bundle_bounds.proofs.Outlook.{open_places-within, rest_whole}
 pub rest_of_room : (room : List Prospect) (s : ℕ) → length room ≡ 60 → take (60 - s) (drop s room) ≡ drop s room
 rest_of_room room s whole = ap (λ n. take (n - s) (drop s room)) (sym whole) ∙ rest_whole room s
 
+-- nothing is behind the room
+pub nothing_behind : (room : List Prospect) → length room ≡ 60 → drop 60 room ≡ []
+nothing_behind room whole = ap (λ n. drop n room) (sym whole) ∙ drop-length room
+
+pub few_of_room : (room : List Prospect) (s : ℕ) → length room ≡ 60 → length (take (60 - s) (drop s room)) ≤ 60
+few_of_room room s whole =
+    let size : length (take (60 - s) (drop s room)) ≡ min (60 - s) (length (drop s room)) = length-take (60 - s) (drop s room) in omega arith
+
 -- what the code collects from its place on is the node's open places with their worth
-pub collected : (offer : Offer) (k : ℕ) (cs slice : List ℕ) (room : List Prospect) (start from places : ℕ) → slice ≡ cs → length room ≡ 60 → from ≡ min k places
+pub collected : (offer : OfferData) (k : ℕ) (cs slice : List ℕ) (room : List Prospect) (start from places : ℕ) → slice ≡ cs → length room ≡ 60 → from ≡ min k places
     → places ≡ length offer.menu.places
     → drop start room ≡ prospects offer slice (opens_from offer slice from (length offer.menu.places - from))
     → take (60 - start) (drop start room) ≡ prospects offer cs (open_places offer k cs)
@@ -33,13 +43,13 @@ collected offer k cs slice room start from places same whole from_is places_is f
     ∙ ap (prospects offer cs) (sym (open_places-within offer k cs))
 
 -- what the code computes with is the node's menu of bounds
-pub same_numbers : (offer : Offer) (k : ℕ) (cs : List ℕ) (base : ℤ) (budget credits courses : ℕ) (ps : List Prospect) → base ≡ base_of offer cs
+pub same_numbers : (offer : OfferData) (k : ℕ) (cs : List ℕ) (base : ℤ) (budget credits courses : ℕ) (ps : List Prospect) → base ≡ base_of offer cs
     → budget ≡ budget_left offer cs → credits ≡ credits_left offer cs → courses ≡ courses_left offer cs
     → ps ≡ prospects offer cs (open_places offer k cs) → all_bounds base budget credits courses ps ≡ bounds offer k cs
 same_numbers offer k cs base budget credits courses ps base_is budget_is credits_is courses_is ps_is =
     λ i. all_bounds (base_is i) (budget_is i) (credits_is i) (courses_is i) (ps_is i)
 
-module _ (offer : Offer) (k : ℕ) (cs ch : List ℕ) (up : IsAscending ch) (up' : IsAscending cs) (low : (c : ℕ) → has cs c ≡ true → c < k) where
+module _ (offer : OfferData) (k : ℕ) (cs ch : List ℕ) (up : IsAscending ch) (up' : IsAscending cs) (low : (c : ℕ) → has cs c ≡ true → c < k) where
   abbrev pub limit : ℤ
   limit = limit_of (utility (by_place offer.menu) ch) (is_ahead k ch cs)
 

@@ -12,7 +12,7 @@ use Rattle.bundle_rules.specs.Menus.{IsMenu, section_at, place_in, wishes_of, by
 use Rattle.bundle_rules.specs.Existence.Places.{section_at-place_in, rated_on_menu}
 use Rattle.bundle_rules.proofs.Feasibility.{credits_by_place, section_has}
 use Rattle.bundle_rules.proofs.PlacesFirst.{AllOnMenu, place_in-rises}
-use Rattle.bundle_bounds.specs.Offers.{Offer, price_at, allowed_at, places_of}
+use Rattle.bundle_bounds.specs.Offers.{OfferData, price_at, allowed_at, places_of}
 use Rattle.bundle_bounds.specs.Laws.{IsTakable}
 use Rattle.bundle_bounds.proofs.Openness.{MayBeTaken}
 
@@ -58,7 +58,7 @@ ascending_places places (s ∷ ss) up all rises = (
   ascending_places places ss up (λ x is. all x (has-there s ss x is)) rises.1,
 )
 
-pub prices_by_place : (offer : Offer) (ss : List ℕ) → AllOnMenu offer.menu.places ss
+pub prices_by_place : (offer : OfferData) (ss : List ℕ) → AllOnMenu offer.menu.places ss
     → total (price_at offer) (map (place_in offer.menu.places) ss) ≡ total offer.price ss
 prices_by_place offer [] all = refl
 prices_by_place offer (s ∷ ss) all =
@@ -71,12 +71,12 @@ prices_by_place offer (s ∷ ss) all =
     let goal : price_at offer (place_in offer.menu.places s) + a ≡ offer.price s + b = omega arith in goal
 
 -- what may be taken is on the menu
-pub on_menu : (offer : Offer) (bundle : List ℕ) → IsTakable offer bundle → AllOnMenu offer.menu.places bundle
+pub on_menu : (offer : OfferData) (bundle : List ℕ) → IsTakable offer bundle → AllOnMenu offer.menu.places bundle
 unfolding wishes_of
 on_menu offer bundle may s is = rated_on_menu offer.menu.places (place_in offer.menu.places s) (may.feasible.rated s is)
 
 -- a bundle that may be taken, by its places
-pub taken_places : (offer : Offer) (bundle : List ℕ) → IsMenu offer.menu → IsTakable offer bundle → MayBeTaken offer (places_of offer.menu bundle)
+pub taken_places : (offer : OfferData) (bundle : List ℕ) → IsMenu offer.menu → IsTakable offer bundle → MayBeTaken offer (places_of offer.menu bundle)
 unfolding wishes_of by_place
 taken_places offer bundle menu may =
     let all = on_menu offer bundle may in

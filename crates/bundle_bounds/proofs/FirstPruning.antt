@@ -7,7 +7,7 @@ use Rattle.market_units.specs.Members.{has}
 use Rattle.bundle_rules.specs.Sets.{IsAscending}
 use Rattle.bundle_rules.proofs.Feasibility.{place_of_rated}
 use Rattle.bundle_bounds.specs.declared.nodes.Leaf.{Leaf}
-use Rattle.bundle_bounds.specs.Offers.{Offer, places_of}
+use Rattle.bundle_bounds.specs.Offers.{OfferData, places_of}
 use Rattle.bundle_bounds.specs.Bounds.{bounds, IsFirstPruning, NonePrunes}
 use Rattle.bundle_bounds.specs.Limits.{NoneBelow, IsFirstBelow, first_below}
 use Rattle.bundle_bounds.specs.Ahead.{first_pruning}
@@ -58,7 +58,7 @@ pub found_is : (most : ℤ) (bs : List (Leaf × ℤ)) (r : Option Leaf) → IfSo
 found_is most bs None some none = sym (none_is most bs none)
 found_is most bs (Some leaf) some none = sym (first_is most bs leaf some)
 
-module _ (offer : Offer) (k : ℕ) (cs ch : List ℕ) (up : IsAscending ch) (up' : IsAscending cs) (low : (c : ℕ) → has cs c ≡ true → c < k) where
+module _ (offer : OfferData) (k : ℕ) (cs ch : List ℕ) (up : IsAscending ch) (up' : IsAscending cs) (low : (c : ℕ) → has cs c ≡ true → c < k) where
   first_from : (bs : List (Leaf × ℤ)) (leaf : Leaf) → IsFirstPruning offer k cs ch bs leaf → IsFirstBelow (limit offer k cs ch up up' low) bs leaf
   first_from [] leaf first = first
   first_from (b ∷ bs) leaf (inl here) = inl (prunes_below offer k cs ch up up' low b.1 here.0, here.1)
@@ -90,7 +90,7 @@ first_pruning_is_the_first offer k chosen champion menu node feasible =
     (λ p is. (let at = has-places places chosen p is in rw (← at.2) (node.decided at.0 at.1)))
 
 -- what the code finds with the node's own numbers is the first pruning bound
-pub found_pruning : (offer : Offer) (k : ℕ) (chosen champion : List ℕ) (r : Option Leaf)
+pub found_pruning : (offer : OfferData) (k : ℕ) (chosen champion : List ℕ) (r : Option Leaf)
     → IsFirstOrNone offer k (places_of offer.menu chosen) (places_of offer.menu champion)
     → IfSome r (IsFirstPruning offer k (places_of offer.menu chosen) (places_of offer.menu champion) (bounds offer k (places_of offer.menu chosen)))
     → IfNone r (NonePrunes offer k (places_of offer.menu chosen) (places_of offer.menu champion) (bounds offer k (places_of offer.menu chosen)))

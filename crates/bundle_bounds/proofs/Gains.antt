@@ -6,7 +6,7 @@ use Rattle.market_units.specs.Totals.{total, signed_total}
 use Rattle.market_units.specs.Subsets.{chosen}
 use Rattle.bundle_rules.specs.Wishes.{Wishes, utility, adjustments}
 use Rattle.bundle_rules.specs.Menus.{by_place, adjustment_in}
-use Rattle.bundle_bounds.specs.Offers.{Offer}
+use Rattle.bundle_bounds.specs.Offers.{OfferData}
 use Rattle.bundle_bounds.specs.Opens.{above_zero, addition, hopes, weight, prospects}
 
 pub at_most_above : (z : ℤ) → z ≤ℤ pos (above_zero z)
@@ -78,7 +78,7 @@ module _ (w : Wishes) where
       let r : ℤ = pos (w.rating c) in
       let goal : (r +ℤ t) +ℤ u ≡ ((r +ℤ b) +ℤ v) +ℤ k = omega (arith, ints) in goal
 
-module _ (offer : Offer) (cs : List ℕ) where
+module _ (offer : OfferData) (cs : List ℕ) where
   -- the adjustments of a place with chosen later ones are at most the positive ones with all later ones
   adjustments_hope : (p : ℕ) (bs : List Bool) (ps : List ℕ) → signed_total (adjustment_in offer.menu.pairs p) (chosen bs ps) ≤ℤ pos (hopes offer p ps)
   adjustments_hope p [] ps = omega (arith, ints)

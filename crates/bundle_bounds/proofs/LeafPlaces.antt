@@ -8,7 +8,7 @@ use Rattle.bundle_bounds.specs.declared.prospects.Prospect.{Prospect}
 use Rattle.bundle_bounds.specs.declared.prospects.Resource.{Resource}
 use Rattle.bundle_bounds.specs.declared.prospects.Resource.TheVariants.{Money, Count}
 use Rattle.bundle_bounds.specs.declared.prospects.Resource.TheVariants as resources
-use Rattle.bundle_bounds.specs.Offers.{Offer}
+use Rattle.bundle_bounds.specs.Offers.{OfferData}
 use Rattle.bundle_bounds.specs.Courses.{takes_of}
 use Rattle.bundle_bounds.specs.Opens.{is_open, opens_from, open_places, prospects, left_of}
 use Rattle.bundle_bounds.specs.Bounds.{leaf_of, resource_bounds, base_of, bounds, IsFirstPruning}
@@ -33,7 +33,7 @@ abbrev AreBelow : ℕ → List ℕ → Type 0
 AreBelow n [] = ⊤
 AreBelow n (p ∷ ps) = (p < n) × AreBelow n ps
 
-opens_below : (offer : Offer) (cs : List ℕ) (place count n : ℕ) → place + count ≤ n → AreBelow n (opens_from offer cs place count)
+opens_below : (offer : OfferData) (cs : List ℕ) (place count n : ℕ) → place + count ≤ n → AreBelow n (opens_from offer cs place count)
 opens_below offer cs place zero n within = tt
 opens_below offer cs place (suc count) n within =
     let later = opens_below offer cs (place + 1) count n (omega arith) in
@@ -42,7 +42,7 @@ opens_below offer cs place (suc count) n within =
       | inr shut ↦ rw shut later
     ]
 
-prospects_at : (offer : Offer) (cs os : List ℕ) (n : ℕ) → AreBelow n os → AreAt n (prospects offer cs os)
+prospects_at : (offer : OfferData) (cs os : List ℕ) (n : ℕ) → AreBelow n os → AreAt n (prospects offer cs os)
 prospects_at offer cs [] n below = tt
 prospects_at offer cs (o ∷ os) n below = (below.0, prospects_at offer cs os n below.1)
 
@@ -64,7 +64,7 @@ low_append : (n : ℕ) (as' bs : List (Leaf × ℤ)) → AreLow n as' → AreLow
 low_append n [] bs first second = second
 low_append n (a ∷ as') bs first second = (first.0, low_append n as' bs first.1 second)
 
-all_low : (offer : Offer) (k : ℕ) (cs : List ℕ) (n : ℕ) → length offer.menu.places ≤ n → k ≤ n → AreLow n (bounds offer k cs)
+all_low : (offer : OfferData) (k : ℕ) (cs : List ℕ) (n : ℕ) → length offer.menu.places ≤ n → k ≤ n → AreLow n (bounds offer k cs)
 all_low offer k cs n few within =
     let os = open_places offer k cs in
     let ps = prospects offer cs os in
@@ -76,13 +76,13 @@ all_low offer k cs n few within =
           (low_bounds base (left_of offer cs resources.Credits) resources.Credits ps ps n at) (low_bounds base (left_of offer cs Count) Count ps ps n at)),
     )
 
-low_first : (offer : Offer) (k : ℕ) (cs ch : List ℕ) (n : ℕ) (bs : List (Leaf × ℤ)) (leaf : Leaf) → AreLow n bs → IsFirstPruning offer k cs ch bs leaf
+low_first : (offer : OfferData) (k : ℕ) (cs ch : List ℕ) (n : ℕ) (bs : List (Leaf × ℤ)) (leaf : Leaf) → AreLow n bs → IsFirstPruning offer k cs ch bs leaf
     → IsLow n leaf
 low_first offer k cs ch n [] leaf low first = absurd first
 low_first offer k cs ch n (b ∷ bs) leaf low (inl here) = subst (IsLow n) here.1 low.0
 low_first offer k cs ch n (b ∷ bs) leaf low (inr later) = low_first offer k cs ch n bs leaf low.1 later.1
 
-pub pruning_low : (offer : Offer) (k : ℕ) (cs ch : List ℕ) (leaf : Leaf) → k ≤ length offer.menu.places → IsFirstPruning offer k cs ch (bounds offer k cs) leaf
+pub pruning_low : (offer : OfferData) (k : ℕ) (cs ch : List ℕ) (leaf : Leaf) → k ≤ length offer.menu.places → IsFirstPruning offer k cs ch (bounds offer k cs) leaf
     → IsLow (length offer.menu.places) leaf
 pruning_low offer k cs ch leaf within first =
     low_first offer k cs ch (length offer.menu.places) (bounds offer k cs) leaf (all_low offer k cs (length offer.menu.places) (omega arith) within) first

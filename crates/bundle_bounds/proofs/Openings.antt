@@ -13,7 +13,7 @@ use Rattle.bundle_rules.specs.Existence.Members.{has-here, has-there, has-cases,
 use Rattle.bundle_rules.specs.Existence.Places.{section_at-place_in, on_menu_rated}
 use Rattle.bundle_rules.proofs.Feasibility.{credits_by_place}
 use Rattle.bundle_rules.proofs.PlacesFirst.{section_at-rises}
-use Rattle.bundle_bounds.specs.Offers.{Offer, price_at, allowed_at, places_of}
+use Rattle.bundle_bounds.specs.Offers.{OfferData, price_at, allowed_at, places_of}
 use Rattle.bundle_bounds.specs.Opens.{budget_left, credits_left, courses_left, is_apart, is_open}
 use Rattle.bundle_bounds.specs.Laws.{IsTakable, IsNode}
 use Rattle.bundle_bounds.proofs.Openness.{MayBeTaken, is_open-more}
@@ -29,7 +29,7 @@ has-last (x ∷ xs) s t is = elim (has-cases x (xs ++ s ∷ []) t is) [
 ]
 
 -- what the test of a place says
-pub record IsOpen (offer : Offer) (places : List ℕ) (k : ℕ) : Type 0 where
+pub record IsOpen (offer : OfferData) (places : List ℕ) (k : ℕ) : Type 0 where
   pub allowed : allowed_at offer k ≡ true
   pub apart : is_apart offer places k ≡ true
   pub price : price_at offer k ≤ budget_left offer places
@@ -43,7 +43,7 @@ both false b is = absurd (false≢true is)
 le_of : (a b : ℕ) → nat_le a b ≡ true → a ≤ b
 le_of a b h = grind (arith, nat_tests)
 
-pub open_facts : (offer : Offer) (places : List ℕ) (k : ℕ) → is_open offer places k ≡ true → IsOpen offer places k
+pub open_facts : (offer : OfferData) (places : List ℕ) (k : ℕ) → is_open offer places k ≡ true → IsOpen offer places k
 open_facts offer places k is =
     let a = both (allowed_at offer k) _ is in
     let b = both (is_apart offer places k) _ a.1 in
@@ -55,7 +55,7 @@ not_true : (b : Bool) → not b ≡ true → b ≡ false
 not_true true is = absurd (false≢true is)
 not_true false is = refl
 
-apart_from_each : (offer : Offer) (places : List ℕ) (k : ℕ) → is_apart offer places k ≡ true → (p : ℕ) → has places p ≡ true
+apart_from_each : (offer : OfferData) (places : List ℕ) (k : ℕ) → is_apart offer places k ≡ true → (p : ℕ) → has places p ≡ true
     → clash_in offer.menu.clashes k p ≡ false
 apart_from_each offer [] k apart p is = absurd (false≢true is)
 apart_from_each offer (q ∷ places) k apart p is =
@@ -73,7 +73,7 @@ ascending-last (x ∷ xs) s up low = (AllAbove-more x xs s up.0 (low x (has-here
 fits : (whole before more left most : ℕ) → whole ≡ before + (more + 0) → more ≤ most - before → before ≤ most → whole ≤ most
 fits whole before more left most split within below = omega arith
 
-module _ (offer : Offer) (menu : IsMenu offer.menu) (k : ℕ) (chosen : List ℕ) (node : IsNode offer k chosen) (low : k < length offer.menu.places) where
+module _ (offer : OfferData) (menu : IsMenu offer.menu) (k : ℕ) (chosen : List ℕ) (node : IsNode offer k chosen) (low : k < length offer.menu.places) where
   next : ℕ
   next = section_at offer.menu.places k
 
@@ -154,7 +154,7 @@ module _ (offer : Offer) (menu : IsMenu offer.menu) (k : ℕ) (chosen : List ℕ
       open_facts offer cs k (is_open-more offer k cs (k ∷ []) may below above k (has-here k []))
 
 -- the node with the next section, and the one without it
-pub node_with : (offer : Offer) (k : ℕ) (chosen : List ℕ) → IsMenu offer.menu → k < length offer.menu.places → IsNode offer k chosen
+pub node_with : (offer : OfferData) (k : ℕ) (chosen : List ℕ) → IsMenu offer.menu → k < length offer.menu.places → IsNode offer k chosen
     → IsTakable offer (chosen ++ section_at offer.menu.places k ∷ []) → IsNode offer (k + 1) (chosen ++ section_at offer.menu.places k ∷ [])
 node_with offer k chosen menu low node takable = record {
   takable = takable;
@@ -167,23 +167,23 @@ node_with offer k chosen menu low node takable = record {
   ];
 }
 
-pub node_without : (offer : Offer) (k : ℕ) (chosen : List ℕ) → IsNode offer k chosen → IsNode offer (k + 1) chosen
+pub node_without : (offer : OfferData) (k : ℕ) (chosen : List ℕ) → IsNode offer k chosen → IsNode offer (k + 1) chosen
 node_without offer k chosen node =
     record { takable = node.takable; decided = λ s is. (let below : place_in offer.menu.places s < k = node.decided s is in omega arith) }
 
 -- two names of one node
-pub node_same : (offer : Offer) (k j : ℕ) (chosen others : List ℕ) → k ≡ j → chosen ≡ others → IsNode offer k chosen → IsNode offer j others
+pub node_same : (offer : OfferData) (k j : ℕ) (chosen others : List ℕ) → k ≡ j → chosen ≡ others → IsNode offer k chosen → IsNode offer j others
 node_same offer k j chosen others same equal node = subst (λ n. IsNode offer n others) same (subst (IsNode offer k) equal node)
 
 -- a node is one also where more places count as decided
-pub node_later : (offer : Offer) (k place : ℕ) (chosen : List ℕ) → k ≤ place → IsNode offer k chosen → IsNode offer place chosen
+pub node_later : (offer : OfferData) (k place : ℕ) (chosen : List ℕ) → k ≤ place → IsNode offer k chosen → IsNode offer place chosen
 node_later offer k place chosen later node =
     record { takable = node.takable; decided = λ s is. (let below : place_in offer.menu.places s < k = node.decided s is in omega arith) }
 
 pub le_to : (a b : ℕ) → a ≤ b → nat_le a b ≡ true
 le_to a b h = grind (arith, nat_tests)
 
-pub open_of : (offer : Offer) (places : List ℕ) (k : ℕ) → IsOpen offer places k → is_open offer places k ≡ true
+pub open_of : (offer : OfferData) (places : List ℕ) (k : ℕ) → IsOpen offer places k → is_open offer places k ≡ true
 open_of offer places k is =
     rw (is.allowed, is.apart, le_to _ _ is.price, le_to _ _ is.credits) (le_to _ _ is.courses)
 

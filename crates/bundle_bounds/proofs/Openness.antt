@@ -11,13 +11,13 @@ use Rattle.bundle_rules.specs.Sets.{AllAbove, IsAscending}
 use Rattle.bundle_rules.specs.Existence.Members.{has-here, has-there, has-cases, has-above}
 use Rattle.bundle_rules.specs.declared.menu.Rated.{Rated}
 use Rattle.bundle_rules.specs.Menus.{course_at, IsMenu, clash_in, credits_at}
-use Rattle.bundle_bounds.specs.Offers.{Offer, price_at, allowed_at}
+use Rattle.bundle_bounds.specs.Offers.{OfferData, price_at, allowed_at}
 use Rattle.bundle_bounds.specs.Courses.{has_course}
 use Rattle.bundle_bounds.specs.Opens.{budget_left, credits_left, courses_left, is_apart, is_open, opens_from, first_of_course, prospects}
 use Rattle.bundle_bounds.proofs.Courses.{AreApartCourses}
 
 -- places that may be taken together
-pub record MayBeTaken (offer : Offer) (ps : List ℕ) : Type 0 where
+pub record MayBeTaken (offer : OfferData) (ps : List ℕ) : Type 0 where
   pub ascending : IsAscending ps
   pub on_menu : (p : ℕ) → has ps p ≡ true → p < length offer.menu.places
   pub affordable : total (price_at offer) ps ≤ offer.budget
@@ -77,7 +77,7 @@ member_length : (ds : List ℕ) (d : ℕ) → has ds d ≡ true → 1 ≤ length
 member_length [] d is = absurd (false≢true is)
 member_length (x ∷ ds) d is = omega arith
 
-none_clash : (offer : Offer) (cs : List ℕ) (d : ℕ) → ((c : ℕ) → has cs c ≡ true → clash_in offer.menu.clashes d c ≡ false) → is_apart offer cs d ≡ true
+none_clash : (offer : OfferData) (cs : List ℕ) (d : ℕ) → ((c : ℕ) → has cs c ≡ true → clash_in offer.menu.clashes d c ≡ false) → is_apart offer cs d ≡ true
 none_clash offer [] d none = refl
 none_clash offer (c ∷ cs) d none = rw (none c (has-here c cs)) (none_clash offer cs d (λ t is. none t (has-there c cs t is)))
 
@@ -102,7 +102,7 @@ has-append_right [] ys s is = is
 has-append_right (x ∷ xs) ys s is = has-there x (xs ++ ys) s (has-append_right xs ys s is)
 
 -- each of what completes the chosen places is open
-pub is_open-more : (offer : Offer) (k : ℕ) (cs ds : List ℕ) → MayBeTaken offer (cs ++ ds) → ((c : ℕ) → has cs c ≡ true → c < k)
+pub is_open-more : (offer : OfferData) (k : ℕ) (cs ds : List ℕ) → MayBeTaken offer (cs ++ ds) → ((c : ℕ) → has cs c ≡ true → c < k)
     → ((d : ℕ) → has ds d ≡ true → k ≤ d) → (d : ℕ) → has ds d ≡ true → is_open offer cs d ≡ true
 is_open-more offer k cs ds may low high d is =
     let in_all : has (cs ++ ds) d ≡ true = has-append_right cs ds d is in
@@ -143,7 +143,7 @@ is_open-more offer k cs ds may low high d is =
     refl
 
 -- ascending open places are a choice of the open ones
-pub among_opens : (offer : Offer) (cs : List ℕ) (j count : ℕ) (ds : List ℕ) → IsAscending ds → ((d : ℕ) → has ds d ≡ true → j ≤ d)
+pub among_opens : (offer : OfferData) (cs : List ℕ) (j count : ℕ) (ds : List ℕ) → IsAscending ds → ((d : ℕ) → has ds d ≡ true → j ≤ d)
     → ((d : ℕ) → has ds d ≡ true → d < j + count) → ((d : ℕ) → has ds d ≡ true → is_open offer cs d ≡ true)
     → (bs : List Bool) × (chosen bs (opens_from offer cs j count) ≡ ds)
 among_opens offer cs j count [] up low high open_ = ([], refl)
@@ -170,10 +170,10 @@ among_opens offer cs j (suc count) (d ∷ ds) up low high open_ =
 
 -- ---- what is known of chosen open places
 
-abbrev pub course_of : Offer → ℕ → ℕ
+abbrev pub course_of : OfferData → ℕ → ℕ
 course_of offer place = first_of_course offer.menu.places (course_at offer.menu.places place)
 
-module _ (offer : Offer) (cs : List ℕ) where
+module _ (offer : OfferData) (cs : List ℕ) where
   pub prices_of : (bs : List Bool) (os : List ℕ) → total (λ p. p.price) (chosen bs (prospects offer cs os)) ≡ total (price_at offer) (chosen bs os)
   prices_of [] os = refl
   prices_of (b ∷ bs) [] = refl
@@ -232,7 +232,7 @@ course_at-first (rated ∷ places) (suc p) low =
     ]
 
 -- places that do not clash are of different courses
-pub other_course : (offer : Offer) (p q : ℕ) → IsMenu offer.menu → p < length offer.menu.places → q < length offer.menu.places → p ≢ q
+pub other_course : (offer : OfferData) (p q : ℕ) → IsMenu offer.menu → p < length offer.menu.places → q < length offer.menu.places → p ≢ q
     → clash_in offer.menu.clashes p q ≡ false → course_of offer p ≢ course_of offer q
 other_course offer p q menu low low' apart none same =
     let course : course_at offer.menu.places p ≡ course_at offer.menu.places q =

@@ -15,7 +15,7 @@ use Rattle.bundle_rules.specs.Demand.{price_in}
 use Rattle.bundle_rules.specs.Menus.{course_at, MenuData, IsMenu, section_at, credits_at, rating_at, adjustment_in}
 use Rattle.bundle_rules.specs.Existence.Places.{rating_at-is, credits_at-is}
 use Rattle.bundle_bounds.specs.declared.prospects.Prospect.{Prospect}
-use Rattle.bundle_bounds.specs.Offers.{Offer, offer_of, allowed_at, price_at}
+use Rattle.bundle_bounds.specs.Offers.{OfferData, offer_of, allowed_at, price_at}
 use Rattle.bundle_bounds.specs.Opens.{above_zero, is_apart, is_open, budget_left, credits_left, courses_left, opens_from, open_places, first_of_course, prospect, prospects}
 
 pub total-map : {A B : Type 0} (f : B → ℕ) (g : A → B) (xs : List A) → total f (map g xs) ≡ total (λ x. f (g x)) xs
@@ -68,13 +68,13 @@ course_low menu place rated course is on at course_is =
     let few = is.places.few in omega arith
 
 -- the places of what is known of places are these places
-pub places-prospects : (offer : Offer) (chosen : List ℕ) (places : List ℕ) → map (λ p. p.place) (prospects offer chosen places) ≡ places
+pub places-prospects : (offer : OfferData) (chosen : List ℕ) (places : List ℕ) → map (λ p. p.place) (prospects offer chosen places) ≡ places
 places-prospects offer chosen [] = refl
 places-prospects offer chosen (place ∷ places) = ap (λ l. place ∷ l) (places-prospects offer chosen places)
 
 -- ---- collecting from the last place on
 
-pub open_same : (offer : Offer) (chosen : List ℕ) (place x y z : ℕ) (b : Bool)
+pub open_same : (offer : OfferData) (chosen : List ℕ) (place x y z : ℕ) (b : Bool)
     → b
     ≡ (allowed_at offer place
     && (is_apart offer chosen place && (nat_le (price_at offer place) x && (nat_le (credits_at offer.menu.places place) y && nat_le 1 z))))
@@ -97,11 +97,11 @@ open_same offer chosen place x y z b is first second third =
     && (nat_le (credits_at offer.menu.places place) (credits_left offer chosen) && nat_le 1 t))))
     third
 
-pub opens_shut : (offer : Offer) (chosen : List ℕ) (place n : ℕ) → place < n → is_open offer chosen place ≡ false
+pub opens_shut : (offer : OfferData) (chosen : List ℕ) (place n : ℕ) → place < n → is_open offer chosen place ≡ false
     → opens_from offer chosen place (n - place) ≡ opens_from offer chosen (place + 1) (n - (place + 1))
 opens_shut offer chosen place n low shut = let e : n - place ≡ suc (n - (place + 1)) = omega arith in ap (opens_from offer chosen place) e ∙ rw shut refl
 
-pub opens_open : (offer : Offer) (chosen : List ℕ) (place n : ℕ) → place < n → is_open offer chosen place ≡ true
+pub opens_open : (offer : OfferData) (chosen : List ℕ) (place n : ℕ) → place < n → is_open offer chosen place ≡ true
     → opens_from offer chosen place (n - place) ≡ place ∷ opens_from offer chosen (place + 1) (n - (place + 1))
 opens_open offer chosen place n low opened = let e : n - place ≡ suc (n - (place + 1)) = omega arith in ap (opens_from offer chosen place) e ∙ rw opened refl
 
@@ -117,7 +117,7 @@ pub all_cons : (P : Prospect → Type 0) (x : Prospect) (xs : List Prospect) →
 all_cons P x xs here rest zero d low = here
 all_cons P x xs here rest (suc k) d low = rest k d (omega arith)
 
-pub collected : (offer : Offer) (chosen : List ℕ) (place n s : ℕ) (room : List Prospect) (x : Prospect) → place < n → is_open offer chosen place ≡ true → 1 ≤ s
+pub collected : (offer : OfferData) (chosen : List ℕ) (place n s : ℕ) (room : List Prospect) (x : Prospect) → place < n → is_open offer chosen place ≡ true → 1 ≤ s
     → s ≤ length room
     → drop s room ≡ prospects offer chosen (opens_from offer chosen (place + 1) (n - (place + 1)))
     → x ≡ prospect offer chosen place (map (λ p. p.place) (drop s room))
@@ -136,7 +136,7 @@ pub rest_whole : (room : List Prospect) (s : ℕ) → take (length room - s) (dr
 rest_whole room s = ap (λ n. take n (drop s room)) (sym (length-drop s room)) ∙ take-length (drop s room)
 
 -- the open places where all are decided, and where some places past the last are
-pub open_places-within : (offer : Offer) (k : ℕ) (chosen : List ℕ)
+pub open_places-within : (offer : OfferData) (k : ℕ) (chosen : List ℕ)
     → open_places offer k chosen ≡ opens_from offer chosen (min k (length offer.menu.places)) (length offer.menu.places - min k (length offer.menu.places))
 open_places-within offer k chosen =
     let n = length offer.menu.places in

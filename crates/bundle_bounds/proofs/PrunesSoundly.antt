@@ -13,7 +13,7 @@ use Rattle.bundle_rules.specs.Ahead.{IsAhead}
 use Rattle.bundle_rules.proofs.Feasibility.{utility_by_place}
 use Rattle.bundle_rules.proofs.PlacesFirst.{place_in-rises}
 use Rattle.bundle_bounds.specs.declared.nodes.Leaf.{Leaf}
-use Rattle.bundle_bounds.specs.Offers.{Offer, places_of}
+use Rattle.bundle_bounds.specs.Offers.{OfferData, places_of}
 use Rattle.bundle_bounds.specs.Bounds.{bounds, Prunes, IsFirstPruning}
 use Rattle.bundle_bounds.specs.Laws.{IsTakable, IsNode, Completes, EachAtLeast}
 use Rattle.bundle_bounds.proofs.ByPlace.{place_in-section_at, on_menu, taken_places, has_by_place}
@@ -22,18 +22,18 @@ use Rattle.bundle_bounds.specs.Prunings.{IsAsGood}
 use Rattle.bundle_bounds.specs.PruningLaws.{BoundsPruneSoundly}
 
 -- a bound that prunes the node and is at least this number
-record PrunesAbove (offer : Offer) (k : ℕ) (chosen champion : List ℕ) (least : ℤ) : Type 0 where
+record PrunesAbove (offer : OfferData) (k : ℕ) (chosen champion : List ℕ) (least : ℤ) : Type 0 where
   bound : ℤ
   above : least ≤ℤ bound
   prunes : Prunes offer k chosen champion bound
 
-first_prunes : (offer : Offer) (k : ℕ) (chosen champion : List ℕ) (least : ℤ) (leaf : Leaf) (bs : List (Leaf × ℤ))
+first_prunes : (offer : OfferData) (k : ℕ) (chosen champion : List ℕ) (least : ℤ) (leaf : Leaf) (bs : List (Leaf × ℤ))
     → IsFirstPruning offer k chosen champion bs leaf → EachAtLeast least bs → PrunesAbove offer k chosen champion least
 first_prunes offer k chosen champion least leaf [] first each = absurd first
 first_prunes offer k chosen champion least leaf (b ∷ bs) (inl here) each = record { bound = b.1; above = each.0; prunes = here.0 }
 first_prunes offer k chosen champion least leaf (b ∷ bs) (inr later) each = first_prunes offer k chosen champion least leaf bs later.1 each.1
 
-module _ (offer : Offer) (menu : IsMenu offer.menu) (k : ℕ) (chosen champion : List ℕ) (node : IsNode offer k chosen) (takable : IsTakable offer champion) where
+module _ (offer : OfferData) (menu : IsMenu offer.menu) (k : ℕ) (chosen champion : List ℕ) (node : IsNode offer k chosen) (takable : IsTakable offer champion) where
   -- where the champion has the first decided difference, it has the first difference from all that completes the node
   pub differs_first : (bundle : List ℕ) → IsTakable offer bundle → Completes offer k chosen bundle
       → IsAhead k (places_of offer.menu champion) (places_of offer.menu chosen) → DiffersFirstIn champion bundle

@@ -15,7 +15,7 @@ use Rattle.bundle_bounds.specs.declared.prospects.Prospect.{Prospect}
 use Rattle.bundle_bounds.specs.declared.prospects.Resource.{Resource}
 use Rattle.bundle_bounds.specs.declared.prospects.Resource.TheVariants.{Money, Credits, Count}
 use Rattle.bundle_bounds.specs.declared.nodes.Leaf.{Leaf}
-use Rattle.bundle_bounds.specs.Offers.{Offer, places_of, price_at}
+use Rattle.bundle_bounds.specs.Offers.{OfferData, places_of, price_at}
 use Rattle.bundle_bounds.specs.Courses.{takes_of, by_course}
 use Rattle.bundle_bounds.specs.Opens.{left_of, open_places, prospects}
 use Rattle.bundle_bounds.specs.Bounds.{base_of, over_price, at_price, resource_bounds, bounds_over, bounds}
@@ -38,7 +38,7 @@ total_times (q ∷ qs) =
     let rest' : a ≡ 1000 * b = rest in
     let goal : 1000 * q.worth + a ≡ 1000 * (q.worth + b) = omega arith in goal
 
-module _ (offer : Offer) (cs : List ℕ) (u : ℤ) (ps : List Prospect) (bs : List Bool) (apart : AreApartCourses (chosen bs ps))
+module _ (offer : OfferData) (cs : List ℕ) (u : ℤ) (ps : List Prospect) (bs : List Bool) (apart : AreApartCourses (chosen bs ps))
     (reached : u ≤ℤ (pos 1000 *ℤ utility (by_place offer.menu) cs +ℤ pos (1000 * total (λ p. p.worth) (chosen bs ps)))) where
   plain_sound : u ≤ℤ (base_of offer cs +ℤ pos (by_course (λ p. 1000 * p.worth) ps))
   plain_sound =
@@ -86,7 +86,7 @@ rest_of : (whole front more cap : ℕ) → whole ≡ front + more → whole ≤ 
 rest_of whole front more cap split fits = omega arith
 
 -- what completes the chosen places takes no more than they leave
-fits_of : (offer : Offer) (cs : List ℕ) (bs : List Bool) (opens ds : List ℕ) → chosen bs opens ≡ ds → MayBeTaken offer (cs ++ ds) → (resource : Resource)
+fits_of : (offer : OfferData) (cs : List ℕ) (bs : List Bool) (opens ds : List ℕ) → chosen bs opens ≡ ds → MayBeTaken offer (cs ++ ds) → (resource : Resource)
     → total (takes_of resource) (chosen bs (prospects offer cs opens)) ≤ left_of offer cs resource
 fits_of offer cs bs opens ds same may Money = rw (prices_of offer cs bs opens, same) (rest_of _ _ _ _ (total-append (price_at offer) cs ds) may.affordable)
 fits_of offer cs bs opens ds same may Credits =
@@ -94,7 +94,7 @@ fits_of offer cs bs opens ds same may Credits =
 fits_of offer cs bs opens ds same may Count = rw (count_of offer cs bs opens, same) (rest_of _ _ _ _ (length-append cs ds) may.courses)
 
 -- the bounds are sound for what completes chosen places by further ones
-places_sound : (offer : Offer) (k : ℕ) (cs ds : List ℕ) → IsMenu offer.menu → MayBeTaken offer (cs ++ ds) → ((c : ℕ) → has cs c ≡ true → c < k)
+places_sound : (offer : OfferData) (k : ℕ) (cs ds : List ℕ) → IsMenu offer.menu → MayBeTaken offer (cs ++ ds) → ((c : ℕ) → has cs c ≡ true → c < k)
     → ((d : ℕ) → has ds d ≡ true → k ≤ d)
     → EachAtLeast (pos 1000 *ℤ utility (by_place offer.menu) (cs ++ ds)) (bounds offer k cs)
 places_sound offer k cs ds menu may low high =
@@ -124,7 +124,7 @@ places_sound offer k cs ds menu may low high =
     all_sound offer cs (pos 1000 *ℤ u) (prospects offer cs opens) bs apart reached (fits_of offer cs bs opens ds same may)
 
 -- the same members below k
-pub same_below : (offer : Offer) (k : ℕ) (chosen_ bundle : List ℕ) → IsMenu offer.menu → IsTakable offer chosen_ → IsTakable offer bundle
+pub same_below : (offer : OfferData) (k : ℕ) (chosen_ bundle : List ℕ) → IsMenu offer.menu → IsTakable offer chosen_ → IsTakable offer bundle
     → Completes offer k chosen_ bundle → (p : ℕ) → p < k → has (places_of offer.menu bundle) p ≡ has (places_of offer.menu chosen_) p
 same_below offer k chosen_ bundle menu may may' completes p low =
     let places = offer.menu.places in

@@ -13,7 +13,7 @@ use Rattle.bundle_rules.specs.declared.menu.Rated.{Rated}
 use Rattle.bundle_rules.specs.Menus.{MenuData, rating_at, credits_at, adjustment_in, clash_in}
 use Rattle.bundle_rules.specs.Existence.Places.{rating_at-is}
 use Rattle.bundle_bounds.specs.declared.prospects.Prospect.{Prospect}
-use Rattle.bundle_bounds.specs.Offers.{Offer, offer_of, price_at}
+use Rattle.bundle_bounds.specs.Offers.{OfferData, offer_of, price_at}
 use Rattle.bundle_bounds.specs.Opens.{above_zero, is_apart, is_open, budget_left, credits_left, courses_left, opens_from, prospect, prospects}
 use Rattle.bundle_bounds.proofs.Openings.{open_facts, open_of, both}
 use Rattle.bundle_bounds.proofs.Outlook.{total-map, places-prospects, put_front}
@@ -42,7 +42,7 @@ beside_is menu prices budget allowed before chosen place others later one rated 
 less_left : (a b c : ℕ) → a ≤ b - c → a ≤ b
 less_left a b c low = omega arith
 
-module _ (offer : Offer) (before : List ℕ) (place : ℕ) where
+module _ (offer : OfferData) (before : List ℕ) (place : ℕ) where
   apart_split : (t : ℕ) → is_apart offer (before ++ place ∷ []) t ≡ (is_apart offer before t && (not (clash_in offer.menu.clashes t place) && true))
   apart_split t = list_all-append (λ other. not (clash_in offer.menu.clashes t other)) before (place ∷ [])
 
@@ -130,7 +130,7 @@ module _ (offer : Offer) (before : List ℕ) (place : ℕ) where
     ]
   ]
 
-pub opens_all : (offer : Offer) (cs : List ℕ) (j n : ℕ) → AllByRecursion (λ other. is_open offer cs other ≡ true) (opens_from offer cs j n)
+pub opens_all : (offer : OfferData) (cs : List ℕ) (j n : ℕ) → AllByRecursion (λ other. is_open offer cs other ≡ true) (opens_from offer cs j n)
 opens_all offer cs j zero = tt
 opens_all offer cs j (suc n) = elim (cases_Bool (is_open offer cs j)) [
   | inl opened ↦ rw opened (opened, opens_all offer cs (j + 1) n)
@@ -138,7 +138,7 @@ opens_all offer cs j (suc n) = elim (cases_Bool (is_open offer cs j)) [
 ]
 
 -- one that stays open is put in front
-pub put_kept : (offer : Offer) (cs : List ℕ) (t : ℕ) (later : List ℕ) (room : List Prospect) (s : ℕ) (here : Prospect) → 1 ≤ s → s ≤ length room
+pub put_kept : (offer : OfferData) (cs : List ℕ) (t : ℕ) (later : List ℕ) (room : List Prospect) (s : ℕ) (here : Prospect) → 1 ≤ s → s ≤ length room
     → is_open offer cs t ≡ true
     → drop s room ≡ prospects offer cs (filter (is_open offer cs) later) → here ≡ prospect offer cs t (map (λ p. p.place) (drop s room))
     → drop (s - 1) (set room (s - 1) here) ≡ prospects offer cs (filter (is_open offer cs) (t ∷ later))
@@ -149,28 +149,28 @@ put_kept offer cs t later room s here some within opened rest is =
     let front : filter (is_open offer cs) (t ∷ later) ≡ t ∷ filter (is_open offer cs) later = rw opened refl in
     put_front room s here some within ∙ (λ i. first i ∷ rest i) ∙ sym (ap (prospects offer cs) front)
 
-pub shut_kept : (offer : Offer) (cs : List ℕ) (t : ℕ) (later : List ℕ) (kept : List Prospect) → is_open offer cs t ≡ false
+pub shut_kept : (offer : OfferData) (cs : List ℕ) (t : ℕ) (later : List ℕ) (kept : List Prospect) → is_open offer cs t ≡ false
     → kept ≡ prospects offer cs (filter (is_open offer cs) later) → kept ≡ prospects offer cs (filter (is_open offer cs) (t ∷ later))
 shut_kept offer cs t later kept shut rest =
     let front : filter (is_open offer cs) (t ∷ later) ≡ filter (is_open offer cs) later = rw shut refl in rest ∙ sym (ap (prospects offer cs) front)
 
-pub length-prospects : (offer : Offer) (cs ps : List ℕ) → length (prospects offer cs ps) ≡ length ps
+pub length-prospects : (offer : OfferData) (cs ps : List ℕ) → length (prospects offer cs ps) ≡ length ps
 length-prospects offer cs [] = refl
 length-prospects offer cs (p ∷ ps) = ap suc (length-prospects offer cs ps)
 
 -- one of the open places, and those after it
-pub record IsSplit (offer : Offer) (before others later : List ℕ) (one : Prospect) : Type 0 where
+pub record IsSplit (offer : OfferData) (before others later : List ℕ) (one : Prospect) : Type 0 where
   pub one_is : one ≡ prospect offer before one.place later
   pub opened : is_open offer before one.place ≡ true
   pub front : one.place ∷ later ≡ others
 
-split_suc : (offer : Offer) (before others : List ℕ) (i : ℕ) → i < length others → AllByRecursion (λ other. is_open offer before other ≡ true) others
+split_suc : (offer : OfferData) (before others : List ℕ) (i : ℕ) → i < length others → AllByRecursion (λ other. is_open offer before other ≡ true) others
     → IsSplit offer before (drop i others) (drop (suc i) others) (get_or (prospects offer before others) i no_prospect)
 split_suc offer before [] i low all = absurd (omega arith)
 split_suc offer before (t ∷ others) zero low all = record { one_is = refl; opened = all.0; front = refl }
 split_suc offer before (t ∷ others) (suc i) low all = split_suc offer before others i (omega arith) all.1
 
-pub split_here : (offer : Offer) (before others : List ℕ) (all : List Prospect) (i : ℕ) → i < length all → all ≡ prospects offer before others
+pub split_here : (offer : OfferData) (before others : List ℕ) (all : List Prospect) (i : ℕ) → i < length all → all ≡ prospects offer before others
     → AllByRecursion (λ other. is_open offer before other ≡ true) others
     → IsSplit offer before (drop i others) (drop (i + 1) others) (get_or all i no_prospect)
 split_here offer before others all i low all_are opens =

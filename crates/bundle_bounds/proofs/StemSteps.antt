@@ -23,7 +23,7 @@ use Rattle.bundle_bounds.specs.Courses.{by_course}
 use Rattle.bundle_bounds.specs.Laws.{IsNode}
 use Rattle.bundle_bounds.specs.Limits.{NoneBelow, IsFirstBelow}
 use Rattle.bundle_bounds.specs.Modest.{IsModest}
-use Rattle.bundle_bounds.specs.Offers.{Offer, places_of}
+use Rattle.bundle_bounds.specs.Offers.{OfferData, places_of}
 use Rattle.bundle_bounds.specs.Opens.{is_open, open_places, prospect}
 use Rattle.bundle_bounds.specs.Stems.{IsStem, IsQuiet, open_ones_at}
 use Rattle.bundle_bounds.specs.Tangents.{AreTangents}
@@ -66,7 +66,7 @@ tail_all P room s all = subst (All P) (drop-drop 1 s room) (all_drop (drop s roo
     all_drop [] all = all
     all_drop (x ∷ xs) all = λ k d low. all (suc k) d (omega arith)
 
-module _ (offer : Offer) (champion : List ℕ) (k : ℕ) (chosen : List ℕ) (stem : Stem) (is : IsStem offer champion k chosen stem) where
+module _ (offer : OfferData) (champion : List ℕ) (k : ℕ) (chosen : List ℕ) (stem : Stem) (is : IsStem offer champion k chosen stem) where
   cs : List ℕ
   cs = places_of offer.menu chosen
 

@@ -14,7 +14,8 @@ use Rattle.bundle_rules.proofs.Feasibility.{places_of_rated}
 use Rattle.bundle_bounds.specs.declared.prospects.Prospect.{Prospect}
 use Rattle.bundle_bounds.specs.declared.opens.Rests.{Rests}
 use Rattle.bundle_bounds.specs.Laws.{IsNode}
-use Rattle.bundle_bounds.specs.Offers.{Offer, AreOnMenu, places_of, price_at}
+use Rattle.bundle_bounds.specs.Offers.{OfferData, AreOnMenu, places_of, price_at}
+use Rattle.bundle_bounds.specs.Rests.{AreRests}
 use Rattle.bundle_bounds.specs.Opens.{is_open, budget_left, credits_left, courses_left, open_places, prospects}
 use Rattle.bundle_bounds.specs.Stems.{HasChosen, open_ones_at}
 use Rattle.bundle_bounds.proofs.ByPlace.{place_in-section_at}
@@ -22,7 +23,7 @@ use Rattle.bundle_bounds.proofs.Gains.{utility-append}
 use Rattle.bundle_bounds.proofs.Openings.{open_facts}
 use Rattle.bundle_bounds.proofs.StayingOpen.{rests_less, opens_filter}
 
-utility_taken : (offer : Offer) (cs : List ℕ) (k : ℕ) (a : ℤ) → a ≡ signed_total (λ other. adjustment_in offer.menu.pairs other k) cs
+utility_taken : (offer : OfferData) (cs : List ℕ) (k : ℕ) (a : ℤ) → a ≡ signed_total (λ other. adjustment_in offer.menu.pairs other k) cs
     → utility (by_place offer.menu) (cs ++ k ∷ []) ≡ utility (by_place offer.menu) cs +ℤ (pos (rating_at offer.menu.places k) +ℤ a)
 unfolding by_place
 utility_taken offer cs k a a_is =
@@ -34,7 +35,7 @@ utility_taken offer cs k a a_is =
     let goal : u +ℤ (((pos r +ℤ s) +ℤ pos 0) +ℤ pos 0) ≡ u +ℤ (pos r +ℤ a) = omega (arith, ints) in
     whole ∙ goal
 
-module _ (offer : Offer) (menu : IsMenu offer.menu) (k : ℕ) (low : k < length offer.menu.places) (champion chosen : List ℕ) (champions : Places) (most : ℤ)
+module _ (offer : OfferData) (menu : IsMenu offer.menu) (k : ℕ) (low : k < length offer.menu.places) (champion chosen : List ℕ) (champions : Places) (most : ℤ)
     (places : List ℕ) (count : ℕ) (so_far : ℤ) (rests : Rests)
     (is : HasChosen offer champion chosen champions most places count so_far rests) where
   pub places_next : places_of offer.menu (chosen ++ section_at offer.menu.places k ∷ []) ≡ places_of offer.menu chosen ++ k ∷ []
@@ -75,6 +76,14 @@ module _ (offer : Offer) (menu : IsMenu offer.menu) (k : ℕ) (low : k < length 
       (places_of_rated offer.menu chosen node.takable.feasible.rated)
       (All-cons (λ place. place < length offer.menu.places) k [] low (All-nil (λ place. place < length offer.menu.places))))
 
+  pub few_next : length (take (count + 1) (set places count k)) ≤ 8
+  few_next =
+      let size : length (take (count + 1) (set places count k)) ≡ min (count + 1) (length (set places count k)) =
+      length-take (count + 1) (set places count k) in
+      let same : length (set places count k) ≡ length places = length-set places count k in
+      let whole = is.whole in
+      omega arith
+
   -- what is chosen with the next place
   pub chosen_taken : is_open offer (places_of offer.menu chosen) k ≡ true → (rated : Rated) (a : ℤ) (next : ℤ) (rests' : Rests) (price credits : ℕ)
       → slice_get offer.menu.places k ≡ Some rated → rated.rating ≤ 100 → a ≡ signed_total (λ other. adjustment_in offer.menu.pairs other k) (take count places)
@@ -112,15 +121,17 @@ module _ (offer : Offer) (menu : IsMenu offer.menu) (k : ℕ) (low : k < length 
   pub rests_taken : (opened : is_open offer (places_of offer.menu chosen) k ≡ true) → (rests' : Rests) (price credits : ℕ) → price ≡ price_at offer k
       → credits ≡ credits_at offer.menu.places k
       → rests'.budget ≡ rests.budget - price → rests'.credits ≡ rests.credits - credits → rests'.courses ≡ rests.courses - 1
-      → (rests'.budget ≡ budget_left offer (take (count + 1) (set places count k)))
-      × (rests'.credits ≡ credits_left offer (take (count + 1) (set places count k)))
-      × (rests'.courses ≡ courses_left offer (take (count + 1) (set places count k)))
+      → AreRests offer (take (count + 1) (set places count k)) rests'
   rests_taken opened rests' price credits price_is credits_is budget_next credits_next courses_next =
       let less =
       rests_less offer (places_of offer.menu chosen) k rests.budget rests.credits rests.courses rests'.budget rests'.credits rests'.courses price credits
       is.budget_is is.credits_is is.courses_is price_is credits_is budget_next credits_next courses_next in
       let same = sym (chosen_next opened) in
-      (less.0 ∙ ap (budget_left offer) same, less.1 ∙ ap (credits_left offer) same, less.2 ∙ ap (courses_left offer) same)
+      record {
+        budget_is = less.0 ∙ ap (budget_left offer) same;
+        credits_is = less.1 ∙ ap (credits_left offer) same;
+        courses_is = less.2 ∙ ap (courses_left offer) same;
+      }
 
   -- what is kept of the open places
   pub kept_taken : (opened : is_open offer (places_of offer.menu chosen) k ≡ true) → (kept : List Prospect)

@@ -2,12 +2,12 @@
 use Rattle.std.proofs.Common.{◌≡◌, ℕ, zero, suc, ◌+◌, ◌-◌, ◌≤◌, ◌<◌, true, false, ◌==◌, List, [], ◌∷◌, length, get_or, sym, ap, subst, ◌∙◌, arith, inl, inr}
 use Rattle.std.proofs.lemmas.Bool.{cases_Bool, eq-eqb, ne_eqb}
 use Rattle.bundle_bounds.specs.declared.prospects.Prospect.{Prospect}
-use Rattle.bundle_bounds.specs.Offers.{Offer}
+use Rattle.bundle_bounds.specs.Offers.{OfferData}
 use Rattle.bundle_bounds.specs.Opens.{is_open, open_places, opens_from, prospect, prospects}
 use Rattle.bundle_bounds.proofs.Outlook.{opens_open, opens_shut}
 use Rattle.bundle_bounds.proofs.Steps.{no_prospect}
 
-module _ (offer : Offer) (cs : List ℕ) where
+module _ (offer : OfferData) (cs : List ℕ) where
   -- the places from one on are not before it
   first_late : (j n : ℕ) → 1 ≤ length (opens_from offer cs j n) → j ≤ (get_or (prospects offer cs (opens_from offer cs j n)) 0 no_prospect).place
   first_late j zero some = absurd (omega arith)

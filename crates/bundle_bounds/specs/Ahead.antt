@@ -4,7 +4,7 @@ use Rattle.bundle_rules.specs.Ahead.{is_ahead}
 use Rattle.bundle_rules.specs.Wishes.{utility}
 use Rattle.bundle_rules.specs.Menus.{by_place}
 use Rattle.bundle_bounds.specs.declared.nodes.Leaf.{Leaf}
-use Rattle.bundle_bounds.specs.Offers.{Offer}
+use Rattle.bundle_bounds.specs.Offers.{OfferData}
 use Rattle.bundle_bounds.specs.Bounds.{bounds}
 use Rattle.bundle_bounds.specs.Limits.{first_below}
 
@@ -15,7 +15,7 @@ limit_of most ahead = if ahead then pos 1000 *ℤ (most +ℤ pos 1) else pos 100
 
 -- the leaf of the first bound that prunes a node for a champion, `None` where none does: the law of
 -- the first pruning bound says so
-abbrev pub first_pruning : Offer → ℕ → List ℕ → List ℕ → Option Leaf
+abbrev pub first_pruning : OfferData → ℕ → List ℕ → List ℕ → Option Leaf
 first_pruning offer k chosen champion =
     first_below (limit_of (utility (by_place offer.menu) champion) (is_ahead k champion chosen))
     (bounds offer k chosen)

@@ -6,7 +6,7 @@ use Rattle.bundle_rules.specs.Wishes.{utility}
 use Rattle.bundle_rules.specs.Menus.{by_place}
 use Rattle.bundle_bounds.specs.declared.nodes.Leaf.{Leaf}
 use Rattle.bundle_bounds.specs.declared.nodes.Leaf.TheVariants.{Plain, Budget, Credits, Number}
-use Rattle.bundle_bounds.specs.Offers.{Offer}
+use Rattle.bundle_bounds.specs.Offers.{OfferData}
 use Rattle.bundle_bounds.specs.Courses.{takes_of, by_course}
 use Rattle.bundle_bounds.specs.declared.prospects.Prospect.{Prospect}
 use Rattle.bundle_bounds.specs.declared.prospects.Resource.{Resource}
@@ -40,7 +40,7 @@ resource_bounds base rest resource all (p ∷ ps) =
     else resource_bounds base rest resource all ps
 
 -- 1000 times the utility of the chosen places
-abbrev pub base_of : Offer → List ℕ → ℤ
+abbrev pub base_of : OfferData → List ℕ → ℤ
 base_of offer chosen = pos 1000 *ℤ utility (by_place offer.menu) chosen
 
 -- all bounds above this base, with these rests: the plain one, then those of the budget, of the
@@ -53,19 +53,19 @@ all_bounds base budget credits courses ps =
     ++ (resource_bounds base credits resources.Credits ps ps
     ++ resource_bounds base courses Count ps ps))
 
-abbrev pub bounds_over : Offer → List ℕ → List Prospect → List (Leaf × ℤ)
+abbrev pub bounds_over : OfferData → List ℕ → List Prospect → List (Leaf × ℤ)
 bounds_over offer chosen ps =
     all_bounds (base_of offer chosen) (left_of offer chosen Money)
     (left_of offer chosen resources.Credits) (left_of offer chosen Count) ps
 
-abbrev pub bounds : Offer → ℕ → List ℕ → List (Leaf × ℤ)
+abbrev pub bounds : OfferData → ℕ → List ℕ → List (Leaf × ℤ)
 bounds offer k chosen =
     bounds_over offer chosen (prospects offer chosen (open_places offer k chosen))
 
 -- the bound prunes the node: it is below 1000 u, u being the champion's utility; or below
 -- 1000 (u + 1), where the champion has the first decided place on which it and the chosen ones
 -- differ
-abbrev pub Prunes : Offer → ℕ → List ℕ → List ℕ → ℤ → Type 0
+abbrev pub Prunes : OfferData → ℕ → List ℕ → List ℕ → ℤ → Type 0
 Prunes offer k chosen champion bound =
     (bound <ℤ (pos 1000 *ℤ utility (by_place offer.menu) champion))
     ⊎
@@ -73,13 +73,13 @@ Prunes offer k chosen champion bound =
     × IsAhead k champion chosen)
 
 -- none of these bounds prunes the node
-abbrev pub NonePrunes : Offer → ℕ → List ℕ → List ℕ → List (Leaf × ℤ) → Type 0
+abbrev pub NonePrunes : OfferData → ℕ → List ℕ → List ℕ → List (Leaf × ℤ) → Type 0
 NonePrunes offer k chosen champion [] = ⊤
 NonePrunes offer k chosen champion (b ∷ bs) =
     (¬ Prunes offer k chosen champion b.1) × NonePrunes offer k chosen champion bs
 
 -- the leaf of the first of these bounds that prunes the node
-abbrev pub IsFirstPruning : Offer → ℕ → List ℕ → List ℕ → List (Leaf × ℤ) → Leaf → Type 0
+abbrev pub IsFirstPruning : OfferData → ℕ → List ℕ → List ℕ → List (Leaf × ℤ) → Leaf → Type 0
 IsFirstPruning offer k chosen champion [] leaf = ⊥
 IsFirstPruning offer k chosen champion (b ∷ bs) leaf =
     (Prunes offer k chosen champion b.1 × (b.0 ≡ leaf))

@@ -1,9 +1,12 @@
 pub mod Offers
 pub mod Courses
 pub mod Opens
+pub mod Views
+pub mod Rests
 pub mod Bounds
 pub mod Peaks
 pub mod Laws
+pub mod Props
 pub mod Modest
 pub mod Limits
 pub mod Ahead

@@ -10,7 +10,7 @@ use Rattle.bundle_rules.specs.declared.place_list.Places.{Places}
 use Rattle.bundle_bounds.specs.declared.opens.Rests.{Rests}
 use Rattle.bundle_bounds.specs.declared.stems.Stem.{Stem}
 use Rattle.bundle_bounds.specs.declared.tangents.Tangents.{Tangents}
-use Rattle.bundle_bounds.specs.Offers.{Offer, places_of}
+use Rattle.bundle_bounds.specs.Offers.{OfferData, places_of}
 use Rattle.bundle_bounds.specs.Opens.{budget_left, credits_left, courses_left, open_places, prospects}
 use Rattle.bundle_bounds.specs.Bounds.{all_bounds}
 use Rattle.bundle_bounds.specs.Courses.{by_course}
@@ -21,7 +21,7 @@ use Rattle.bundle_bounds.specs.Tangents.{AreTangents}
 
 -- it is for this champion and these chosen sections: their places, their utility, and what they
 -- leave
-pub record HasChosen (offer : Offer) (champion chosen : List ℕ) (champions : Places) (most : ℤ)
+pub record HasChosen (offer : OfferData) (champion chosen : List ℕ) (champions : Places) (most : ℤ)
     (places : List ℕ) (count : ℕ) (so_far : ℤ) (rests : Rests) : Type 0 where
   pub champion_is : listed champions ≡ places_of offer.menu champion
   pub most_is : most ≡ utility (wishes_of offer.menu) champion
@@ -36,7 +36,8 @@ pub record HasChosen (offer : Offer) (champion chosen : List ℕ) (champions : P
   pub courses_is : rests.courses ≡ courses_left offer (places_of offer.menu chosen)
 
 -- the room keeps these open places from here on, with what the bounds are made of
-pub record Keeps (offer : Offer) (open_ones : List Prospect) (rests : Rests) (room : List Prospect)
+pub record Keeps (offer : OfferData) (open_ones : List Prospect) (rests : Rests)
+    (room : List Prospect)
     (start plain : ℕ) (tangents : Tangents) : Type 0 where
   pub whole : length room ≡ MAX_RATINGS
   pub within : start ≤ MAX_RATINGS
@@ -54,12 +55,12 @@ IsQuiet limit so_far rests open_ones =
     (all_bounds (pos 1000 *ℤ so_far) rests.budget rests.credits rests.courses open_ones)
 
 -- the open places of a node, where these places are chosen
-abbrev pub open_ones_at : Offer → ℕ → List ℕ → List Prospect
+abbrev pub open_ones_at : OfferData → ℕ → List ℕ → List Prospect
 open_ones_at offer k places = prospects offer places (open_places offer k places)
 
 -- it is at the node with these decided places and these chosen sections, for this champion; where
 -- it is quiet no bound prunes that
-pub record IsStem (offer : Offer) (champion : List ℕ) (k : ℕ) (chosen : List ℕ)
+pub record IsStem (offer : OfferData) (champion : List ℕ) (k : ℕ) (chosen : List ℕ)
     (stem : Stem) : Type 0 where
   pub has_chosen : HasChosen offer champion chosen stem.champion stem.most stem.chosen stem.count
       stem.utility stem.rests

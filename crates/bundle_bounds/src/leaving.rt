@@ -4,7 +4,7 @@ ghost use Rattle.bundle_bounds.specs.Courses.{HasAllOfCourse, has_course, by_cou
 ghost use Rattle.bundle_bounds.specs.Modest.{IsModest};
 ghost use Rattle.bundle_bounds.specs.Tangents.{IsTangent, AreTangents};
 
-use crate::prospects::{Prospect, Resource, added_twice};
+use crate::prospects::{Prospect, Prospects, Resource, added_twice};
 use crate::tangents::{Tangent, Tangents};
 
 // How many of these there are up to the last one of the course.
@@ -23,20 +23,20 @@ fn up_to_course(more: &[Prospect], course: u8) -> usize
 /// The plain sum of the open places behind the first, and their tangents, from those of all, with
 /// the same rests. The plain sum has of each course 1000 times the greatest worth.
 #[inline(always)]
-pub(crate) fn leave(all: &[Prospect], plain: u64, tangents: Tangents) -> (u64, Tangents)
-    requires some { 1 ≤ length all.now }
-    requires modest { All IsModest all.now }
-    requires plain { plain ≡ by_course (λ p. 1000 * p.worth) all.now }
+pub(crate) fn leave(all: &Prospects, plain: u64, tangents: Tangents) -> (u64, Tangents)
+    requires some { 1 ≤ length all.now.list.now }
+    requires plain { plain ≡ by_course (λ p. 1000 * p.worth) all.now.list.now }
     requires tangents { (budget : ℕ)
         × ((credit_rest : ℕ)
-        × ((course_rest : ℕ) × AreTangents budget credit_rest course_rest all.now tangents)) }
-    ensures plain { result.0 ≡ by_course (λ p. 1000 * p.worth) (drop 1 all.now) }
+        × ((course_rest : ℕ)
+        × AreTangents budget credit_rest course_rest all.now.list.now tangents)) }
+    ensures plain { result.0 ≡ by_course (λ p. 1000 * p.worth) (drop 1 all.now.list.now) }
     ensures less { result.0 ≤ plain }
     ensures tangents { (budget credit_rest course_rest : ℕ)
-        → AreTangents budget credit_rest course_rest all.now tangents
-        → AreTangents budget credit_rest course_rest (drop 1 all.now) result.1 }
+        → AreTangents budget credit_rest course_rest all.now.list.now tangents
+        → AreTangents budget credit_rest course_rest (drop 1 all.now.list.now) result.1 }
 {
-    match all {
+    match all.list {
         [] => (plain, tangents),
         [one, more @ ..] => {
             let firsts = &more[..up_to_course(more, one.course)];

@@ -2,10 +2,13 @@
 // Neither: how long it takes.
 #![tactic(auto)]
 
+mod base;
+mod chosen;
 mod known;
 pub mod laws;
 mod leaving;
 mod nodes;
+mod offer;
 mod opens;
 mod places;
 mod prospects;
@@ -16,5 +19,6 @@ mod tangents;
 mod words;
 
 pub use nodes::{Leaf, Node, bound, bound_closes, is_open};
+pub use offer::Offer;
 pub use places::{adjustments_with, is_apart, price_of_place};
 pub use stems::Stem;

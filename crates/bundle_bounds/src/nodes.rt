@@ -1,6 +1,5 @@
 // Nodes of the search: what is open there, and which bound prunes them.
 ghost use Rattle.std.specs.Prelude.{◌≡◌, ◌<◌, ◌&&◌, ℤ, nat_le, IfSome, IfNone, length};
-ghost use Rattle.std.specs.FinSet as set;
 ghost use Rattle.bundle_rules.specs.Demand.{HasPrices};
 ghost use Rattle.bundle_rules.specs.Wishes.{IsFeasible, utility};
 ghost use Rattle.bundle_rules.specs.Menus.{wishes_of};
@@ -12,8 +11,11 @@ ghost use Rattle.bundle_rules.specs.Ahead.{is_ahead};
 ghost use Rattle.bundle_bounds.specs.Ahead.{limit_of, first_pruning};
 ghost use Rattle.bundle_bounds.specs.Laws.{IsNode};
 
+use crate::Offer;
+use crate::base::Base;
+use crate::chosen::Chosen;
 use crate::opens::{collect, is_open_at, rests_of};
-use crate::prospects::NO_PROSPECTS;
+use crate::prospects::{NO_PROSPECTS, Prospects};
 use crate::pruning::{bound_of, first_below};
 use bundle_rules::{Bundle, Menu, Places, is_ahead, utility};
 use market_units::{SectionSet, Tokens};
@@ -57,10 +59,21 @@ pub fn is_open(
     if place < node.place {
         return false;
     }
-    let chosen = Places::of(menu, &node.chosen);
-    let chosen = chosen.as_slice();
-    let rests = rests_of(menu, prices, budget, chosen);
-    is_open_at(menu, prices, allowed, rests, chosen, place)
+    let offer = Offer {
+        menu,
+        prices,
+        budget,
+        allowed,
+    };
+    let places = Places::of(menu, &node.chosen);
+    let places = places.as_slice();
+    let rests = rests_of(&offer, places);
+    let chosen = Chosen {
+        offer: &offer,
+        places,
+        rests,
+    };
+    is_open_at(&chosen, place)
 }
 
 /// The number of a bound that is on the node's menu of bounds: at least 1000 times the utility of
@@ -86,14 +99,27 @@ pub fn bound(
         (places_of menu.now (sections_of node.now.chosen)))
         leaf result }
 {
-    let chosen = Places::of(menu, &node.chosen);
-    let chosen = chosen.as_slice();
-    let rests = rests_of(menu, prices, budget, chosen);
+    let offer = Offer {
+        menu,
+        prices,
+        budget,
+        allowed,
+    };
+    let places = Places::of(menu, &node.chosen);
+    let places = places.as_slice();
+    let rests = rests_of(&offer, places);
+    let chosen = Chosen {
+        offer: &offer,
+        places,
+        rests,
+    };
     let mut room = NO_PROSPECTS;
     let from = node.place.min(menu.len());
-    let start = collect(menu, prices, allowed, rests, chosen, from, &mut room);
-    let base = 1000 * i64::from(utility(menu, &node.chosen));
-    bound_of(base, rests, &room[start..], leaf)
+    let start = collect(&chosen, from, &mut room);
+    let base = Base::of(utility(menu, &node.chosen));
+    let list = &room[start..];
+    let all = Prospects { list };
+    bound_of(base, rests, &all, leaf)
 }
 
 /// The first bound of the node's menu of bounds that prunes it for this champion: one below 1000
@@ -120,15 +146,28 @@ pub fn bound_closes(
     ensures none { IfNone result (NonePrunes (offer_of menu.now prices.now budget.0 allowed.now) node.now.place (places_of menu.now (sections_of node.now.chosen)) (places_of menu.now (sections_of champion.now))
         (bounds (offer_of menu.now prices.now budget.0 allowed.now) node.now.place (places_of menu.now (sections_of node.now.chosen)))) }
 {
-    let chosen = Places::of(menu, &node.chosen);
-    let chosen = chosen.as_slice();
-    let rests = rests_of(menu, prices, budget, chosen);
+    let offer = Offer {
+        menu,
+        prices,
+        budget,
+        allowed,
+    };
+    let places = Places::of(menu, &node.chosen);
+    let places = places.as_slice();
+    let rests = rests_of(&offer, places);
+    let chosen = Chosen {
+        offer: &offer,
+        places,
+        rests,
+    };
     let mut room = NO_PROSPECTS;
     let from = node.place.min(menu.len());
-    let start = collect(menu, prices, allowed, rests, chosen, from, &mut room);
-    let base = 1000 * i64::from(utility(menu, &node.chosen));
-    let limit = limit_of(menu, node, chosen, champion);
-    first_below(base, limit, rests, &room[start..])
+    let start = collect(&chosen, from, &mut room);
+    let base = Base::of(utility(menu, &node.chosen));
+    let list = &room[start..];
+    let all = Prospects { list };
+    let limit = limit_of(menu, node, places, champion);
+    first_below(base, limit, rests, &all)
 }
 
 /// A bound below this number prunes the node: 1000 u, u being the champion's utility; or

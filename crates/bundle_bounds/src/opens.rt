@@ -1,22 +1,21 @@
 // Which places are open at a node, and the most that each can add.
-ghost use Rattle.std.specs.Prelude.{◌≡◌, ◌<◌, ◌≤◌, ◌-◌, ◌+◌, ◌*◌, ◌≤ℤ◌, ◌+ℤ◌, neg_ℤ, pos, unsigned_abs, not, nat_le, ◌&&◌, ℕ, length, map, take, drop, All};
-ghost use Rattle.std.specs.List.{list_all};
-ghost use Rattle.std.specs.Ordering.{nat_cmp};
-ghost use Rattle.std.specs.FinSet as set;
+ghost use Rattle.std.specs.Prelude.{◌≡◌, ◌<◌, ◌≤◌, ◌-◌, ◌+◌, ◌*◌, ◌≤ℤ◌, ◌+ℤ◌, neg_ℤ, pos, unsigned_abs, nat_le, ◌&&◌, length, map, drop, All};
 ghost use Rattle.market_units.specs.Totals.{total};
 ghost use Rattle.bundle_rules.specs.Demand.{price_in, HasPrices};
-ghost use Rattle.bundle_rules.specs.Menus.{section_at, credits_at, adjustment_in, clash_in, IsMenu};
-ghost use Rattle.bundle_rules.specs.Bundles.{sections_of};
-ghost use Rattle.bundle_bounds.specs.Offers.{offer_of, AreOnMenu, places_of};
-ghost use Rattle.bundle_bounds.specs.Opens.{budget_left, credits_left, courses_left, opens_from, hopes, prospect, prospects, first_of_course, above_zero};
-ghost use Rattle.bundle_bounds.specs.Modest.{IsModest};
+ghost use Rattle.bundle_rules.specs.Menus.{section_at, credits_at, adjustment_in, IsMenu};
+ghost use Rattle.bundle_bounds.specs.Offers.{AreOnMenu, allowed_at, price_at};
+ghost use Rattle.bundle_bounds.specs.Opens.{is_apart, opens_from, hopes, prospect, prospects, first_of_course, above_zero};
+ghost use Rattle.bundle_bounds.specs.Modest.{IsModest, AreOn};
+ghost use Rattle.bundle_bounds.specs.Rests.{AreRests};
+ghost use Rattle.bundle_bounds.specs.Views.{data_of};
 
+use crate::Offer;
+use crate::chosen::Chosen;
 use crate::places::{adjustments_with, is_apart, price_of_place};
 use crate::prospects::Prospect;
 use bundle_rules::{Menu, Rated};
 use market_units::{
-    MAX_ADJUSTMENT, MAX_COURSES, MAX_PRICE, MAX_RATING, MAX_RATINGS, MAX_SECTION_CREDITS,
-    SectionSet, Tokens,
+    MAX_ADJUSTMENT, MAX_COURSES, MAX_PRICE, MAX_RATING, MAX_RATINGS, MAX_SECTION_CREDITS, Tokens,
 };
 
 /// What the chosen places leave of each resource.
@@ -27,21 +26,19 @@ pub(crate) struct Rests {
     pub(crate) courses: u32,
 }
 
-/// What the chosen places leave of the budget in tokens, of the credit cap and of the course cap; 0
-/// where they take more.
-pub(crate) fn rests_of(menu: &Menu, prices: &[Tokens], budget: Tokens, chosen: &[u8]) -> Rests
-    requires prices { HasPrices menu.now prices.now }
-    requires on_menu { AreOnMenu menu.now chosen.now }
+/// What places that are chosen of an offer leave of its budget in tokens, of the credit cap and of
+/// the course cap; 0 where they take more.
+pub(crate) fn rests_of(offer: &Offer, chosen: &[u8]) -> Rests
+    requires on_menu { AreOnMenu offer.now.menu.now chosen.now }
     requires few { length chosen.now ≤ MAX_COURSES }
-    ensures budget { (allowed : set.FinSet nat_cmp)
-        → result.budget ≡ budget_left (offer_of menu.now prices.now budget.0 allowed) chosen.now }
-    ensures credits { (allowed : set.FinSet nat_cmp)
-        → result.credits ≡ credits_left (offer_of menu.now prices.now budget.0 allowed) chosen.now }
-    ensures courses { (allowed : set.FinSet nat_cmp)
-        → result.courses ≡ courses_left (offer_of menu.now prices.now budget.0 allowed) chosen.now }
+    ensures { AreRests (data_of offer.now) chosen.now result }
 {
+    let menu = offer.menu;
     Rests {
-        budget: budget.0.saturating_sub(price_of(menu, prices, chosen)),
+        budget: offer
+            .budget
+            .0
+            .saturating_sub(price_of(menu, offer.prices, chosen)),
         credits: u32::from(menu.credits()).saturating_sub(credits_of(menu, chosen)),
         courses: u32::from(menu.courses()).saturating_sub(chosen.len() as u32),
     }
@@ -76,7 +73,7 @@ fn credits_of(menu: &Menu, chosen: &[u8]) -> u32
 /// The most that a place's adjustments with later open places can add to the utility: the positive
 /// ones, added up.
 pub(crate) fn hopes(menu: &Menu, place: u8, later: &[Prospect]) -> u32
-    requires on_menu { All (λ other. other.place < length menu.now.places) later.now }
+    requires on_menu { AreOn menu.now later.now }
     requires place { place < length menu.now.places }
     requires few { length later.now ≤ MAX_RATINGS }
     ensures value { result
@@ -93,30 +90,24 @@ pub(crate) fn hopes(menu: &Menu, place: u8, later: &[Prospect]) -> u32
 
 /// Whether an undecided place is open: it is allowed, clashes with no chosen place, and fits what
 /// is left of the budget and of both caps.
-pub(crate) fn is_open_at(
-    menu: &Menu,
-    prices: &[Tokens],
-    allowed: &SectionSet,
-    rests: Rests,
-    chosen: &[u8],
-    place: u8,
-) -> bool
-    requires prices { HasPrices menu.now prices.now }
-    requires on_menu { AreOnMenu menu.now chosen.now }
-    requires place { place < length menu.now.places }
-    ensures { result ≡ (set.contains allowed.now (section_at menu.now.places place)
-        && (list_all (λ other. not (clash_in menu.now.clashes place other)) chosen.now
-        && (nat_le (price_in prices.now (section_at menu.now.places place)) rests.budget
-        && (nat_le (credits_at menu.now.places place) rests.credits && nat_le 1 rests.courses)))) }
+pub(crate) fn is_open_at(chosen: &Chosen, place: u8) -> bool
+    requires { place < length chosen.now.offer.now.menu.now.places }
+    ensures { result ≡ (allowed_at (data_of chosen.now.offer.now) place
+        && (is_apart (data_of chosen.now.offer.now) chosen.now.places.now place
+        && (nat_le (price_at (data_of chosen.now.offer.now) place) chosen.now.rests.budget
+        && (nat_le (credits_at chosen.now.offer.now.menu.now.places place) chosen.now.rests.credits
+        && nat_le 1 chosen.now.rests.courses)))) }
 {
-    let rated = menu.rated(place);
-    if !allowed.has(rated.section) {
+    let offer = chosen.offer;
+    let rests = chosen.rests;
+    let rated = offer.menu.rated(place);
+    if !offer.allowed.has(rated.section) {
         return false;
     }
-    if !is_apart(menu, chosen, place) {
+    if !is_apart(offer.menu, chosen.places, place) {
         return false;
     }
-    if price_of_place(menu, prices, place) > rests.budget {
+    if price_of_place(offer.menu, offer.prices, place) > rests.budget {
         return false;
     }
     u32::from(rated.credits) <= rests.credits && 1 <= rests.courses
@@ -162,71 +153,51 @@ fn course_of(menu: &Menu, course: u16) -> u8
 }
 
 // What is known of an open place, before later open ones.
-fn prospect_at(
-    menu: &Menu,
-    prices: &[Tokens],
-    chosen: &[u8],
-    place: u8,
-    later: &[Prospect],
-) -> Prospect
-    requires prices { HasPrices menu.now prices.now }
-    requires on_menu { AreOnMenu menu.now chosen.now }
-    requires few { length chosen.now ≤ MAX_COURSES }
-    requires place { place < length menu.now.places }
-    requires later_on_menu { All (λ other. other.place < length menu.now.places) later.now }
+fn prospect_at(chosen: &Chosen, place: u8, later: &[Prospect]) -> Prospect
+    requires place { place < length chosen.now.offer.now.menu.now.places }
+    requires later_on_menu { AreOn chosen.now.offer.now.menu.now later.now }
     requires later_few { length later.now ≤ MAX_RATINGS }
-    ensures value { (budget : ℕ) (allowed : set.FinSet nat_cmp)
-        → result
-        ≡ prospect (offer_of menu.now prices.now budget allowed) chosen.now place
+    ensures value { result
+        ≡ prospect (data_of chosen.now.offer.now) chosen.now.places.now place
         (map (λ other. other.place) later.now) }
     ensures modest { IsModest result }
-    ensures place { result.place < length menu.now.places }
+    ensures place { result.place < length chosen.now.offer.now.menu.now.places }
 {
+    let menu = chosen.offer.menu;
     let rated = menu.rated(place);
-    let adjustments = adjustments_with(menu, chosen, place);
+    let adjustments = adjustments_with(menu, chosen.places, place);
     let later_ones = hopes(menu, place, later);
     Prospect {
         place,
         course: course_of(menu, rated.course),
         worth: worth_of(rated.rating, adjustments, later_ones),
-        price: price_of_place(menu, prices, place),
+        price: price_of_place(menu, chosen.offer.prices, place),
         credits: rated.credits,
     }
 }
 
 /// Writes the prospects of the open places from a place on to the end of the room, in the menu's
 /// order, and gives where they begin.
-pub(crate) fn collect(
-    menu: &Menu,
-    prices: &[Tokens],
-    allowed: &SectionSet,
-    rests: Rests,
-    chosen: &[u8],
-    place: u8,
-    room: &mut [Prospect],
-) -> usize
-    requires prices { HasPrices menu.now prices.now }
-    requires on_menu { AreOnMenu menu.now chosen.now }
-    requires few { length chosen.now ≤ MAX_COURSES }
-    requires place { place ≤ length menu.now.places }
-    requires room { length room.old ≡ MAX_RATINGS }
-    ensures value { (budget : ℕ) → rests.budget ≡ budget_left (offer_of menu.now prices.now budget allowed.now) chosen.now
-        → rests.credits ≡ credits_left (offer_of menu.now prices.now budget allowed.now) chosen.now
-        → rests.courses ≡ courses_left (offer_of menu.now prices.now budget allowed.now) chosen.now
-        → drop result room.new ≡ prospects (offer_of menu.now prices.now budget allowed.now) chosen.now (opens_from (offer_of menu.now prices.now budget allowed.now) chosen.now place (length menu.now.places - place)) }
+pub(crate) fn collect(chosen: &Chosen, place: u8, room: &mut [Prospect; MAX_RATINGS]) -> usize
+    requires place { place ≤ length chosen.now.offer.now.menu.now.places }
+    ensures value { drop result room.new
+        ≡ prospects (data_of chosen.now.offer.now) chosen.now.places.now
+        (opens_from (data_of chosen.now.offer.now) chosen.now.places.now place
+        (length chosen.now.offer.now.menu.now.places - place)) }
     ensures within { result ≤ MAX_RATINGS }
-    ensures space { MAX_RATINGS ≤ result + (length menu.now.places - place) }
+    ensures space { MAX_RATINGS
+        ≤ result + (length chosen.now.offer.now.menu.now.places - place) }
     ensures modest { All IsModest (drop result room.new) }
-    ensures on_menu { All (λ other. other.place < length menu.now.places) (drop result room.new) }
+    ensures on_menu { AreOn chosen.now.offer.now.menu.now (drop result room.new) }
 {
-    if place == menu.len() {
+    if place == chosen.offer.menu.len() {
         return room.len();
     }
-    let start = collect(menu, prices, allowed, rests, chosen, place + 1, room);
-    if !is_open_at(menu, prices, allowed, rests, chosen, place) {
+    let start = collect(chosen, place + 1, room);
+    if !is_open_at(chosen, place) {
         return start;
     }
-    let prospect = prospect_at(menu, prices, chosen, place, &room[start..]);
+    let prospect = prospect_at(chosen, place, &room[start..]);
     room[start - 1] = prospect;
     start - 1
 }

@@ -1,5 +1,6 @@
 // What is known of open places, and what one of each course can add at most.
 ghost use Rattle.std.specs.Prelude.{◌≡◌, ◌≤◌, ◌*◌, ◌+◌, ◌-◌, ◌==◌, if◌then◌else◌, max, false, IsTrue, length, All};
+ghost use Rattle.market_units.specs.declared.limits.TheConstants.{MAX_RATINGS};
 ghost use Rattle.bundle_bounds.specs.Courses.{takes_of, has_course, greatest, by_course};
 ghost use Rattle.bundle_bounds.specs.Bounds.{over_price, at_price};
 ghost use Rattle.bundle_bounds.specs.Modest.{IsModest};
@@ -25,6 +26,14 @@ pub(crate) struct Prospect {
     pub(crate) worth: u32,
     pub(crate) price: u32,
     pub(crate) credits: u16,
+}
+
+/// What is known of the open places of a node, in the menu's order, each within its range.
+#[derive(Clone, Copy)]
+pub(crate) struct Prospects<'p> {
+    pub(crate) list: &'p [Prospect],
+    ghost modest: { All IsModest list.now },
+    ghost few: { length list.now ≤ MAX_RATINGS },
 }
 
 // Room for what is known of the open places of a menu.
@@ -91,47 +100,42 @@ pub(crate) fn peak_of(prospect: &Prospect, resource: Resource, price: u64) -> Pe
 /// The price times what is left of the resource, and for each course the greatest `over_price` of
 /// its open places, added up.
 #[inline(always)]
-pub(crate) fn at_price(prospects: &[Prospect], resource: Resource, rest: u32, price: u64) -> u64
-    requires modest { All IsModest prospects.now }
-    requires few { length prospects.now ≤ MAX_RATINGS }
+pub(crate) fn at_price(all: &Prospects, resource: Resource, rest: u32, price: u64) -> u64
     requires price { price ≤ 20000000 }
-    ensures value { result ≡ at_price resource rest price prospects.now }
+    ensures value { result ≡ at_price resource rest price all.now.list.now }
     ensures high { result ≤ 20000000 * rest + 20000000 * MAX_RATINGS }
 {
-    at_two_prices(prospects, resource, rest, price).0
+    at_two_prices(all, resource, rest, price).0
 }
 
 /// What `at_price` gives at this price, and what it gives at the price that is greater by 1.
 #[inline(always)]
 pub(crate) fn at_two_prices(
-    prospects: &[Prospect],
+    all: &Prospects,
     resource: Resource,
     rest: u32,
     price: u64,
 ) -> (u64, u64)
-    requires modest { All IsModest prospects.now }
-    requires few { length prospects.now ≤ MAX_RATINGS }
     requires price { price ≤ 20000000 }
-    ensures here { result.0 ≡ at_price resource rest price prospects.now }
-    ensures after { result.1 ≡ at_price resource rest (price + 1) prospects.now }
+    ensures here { result.0 ≡ at_price resource rest price all.now.list.now }
+    ensures after { result.1 ≡ at_price resource rest (price + 1) all.now.list.now }
     ensures high { result.0 ≤ 20000000 * rest + 20000000 * MAX_RATINGS }
 {
-    let (here, after) = add_up_twice(prospects, resource, price);
+    let (here, after) = add_up_twice(all, resource, price);
     let rest = u64::from(rest);
     (price * rest + here, (price + 1) * rest + after)
 }
 
 // For each course the most that is left over the price, added up; and the same at the next price.
 #[inline(always)]
-fn add_up_twice(prospects: &[Prospect], resource: Resource, price: u64) -> (u64, u64)
-    requires modest { All IsModest prospects.now }
-    requires few { length prospects.now ≤ MAX_RATINGS }
+fn add_up_twice(all: &Prospects, resource: Resource, price: u64) -> (u64, u64)
     requires price { price ≤ 20000000 }
-    ensures here { result.0 ≡ by_course (over_price resource price) prospects.now }
-    ensures after { result.1 ≡ by_course (over_price resource (price + 1)) prospects.now }
-    ensures high { result.0 ≤ 20000000 * length prospects.now }
-    ensures after_high { result.1 ≤ 20000000 * length prospects.now }
+    ensures here { result.0 ≡ by_course (over_price resource price) all.now.list.now }
+    ensures after { result.1 ≡ by_course (over_price resource (price + 1)) all.now.list.now }
+    ensures high { result.0 ≤ 20000000 * length all.now.list.now }
+    ensures after_high { result.1 ≤ 20000000 * length all.now.list.now }
 {
+    let list = all.list;
     let mut courses = 0;
     let mut last = Peak {
         course: 0,
@@ -140,9 +144,9 @@ fn add_up_twice(prospects: &[Prospect], resource: Resource, price: u64) -> (u64,
     };
     let mut sum = 0;
     let mut next = 0;
-    for index in (0..prospects.len()).rev() {
-        let prospect = &prospects[index];
-        let more = &prospects[index + 1..];
+    for index in (0..list.len()).rev() {
+        let prospect = &list[index];
+        let more = &list[index + 1..];
         let is_new = !is_in(courses, prospect.course);
         let most = peak_behind(more, resource, price, prospect.course, is_new, last);
         let own = peak_of(prospect, resource, price);

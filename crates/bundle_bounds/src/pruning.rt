@@ -1,5 +1,5 @@
 // The bounds of the resources, and the first below a limit.
-ghost use Rattle.std.specs.Prelude.{ℕ, List, ◌≡◌, ◌<◌, ◌≤◌, ◌≤ℤ◌, ◌↔◌, ◌++◌, ◌*◌, ◌/◌, ◌+ℤ◌, ◌<ℤ◌, ◌&&◌, ◌==◌, ℤ, nat_lt, true, pos, neg_ℤ, IsTrue, IfSome, IfNone, length, All};
+ghost use Rattle.std.specs.Prelude.{ℕ, List, ◌≡◌, ◌<◌, ◌≤◌, ◌≤ℤ◌, ◌↔◌, ◌++◌, ◌*◌, ◌/◌, ◌+ℤ◌, ◌<ℤ◌, ◌&&◌, ◌==◌, ℤ, nat_lt, true, pos, IsTrue, IfSome, IfNone, All};
 ghost use Rattle.bundle_bounds.specs.Bounds.{leaf_of, at_price, resource_bounds, all_bounds, HasBound};
 ghost use Rattle.bundle_bounds.specs.Courses.{takes_of, by_course};
 ghost use Rattle.bundle_bounds.specs.Limits.{NoneBelow, IsFirstBelow};
@@ -10,11 +10,11 @@ ghost use Rattle.bundle_bounds.specs.declared.prospects.Prospect.{Prospect};
 ghost use Rattle.bundle_bounds.specs.declared.prospects.Resource.{Resource};
 
 use crate::Leaf;
+use crate::base::Base;
 use crate::known::Known;
 use crate::opens::Rests;
-use crate::prospects::{Prospect, Resource, at_price, at_two_prices, takes};
+use crate::prospects::{Prospect, Prospects, Resource, at_price, at_two_prices, takes};
 use crate::tangents::{Tangent, Tangents};
-use market_units::MAX_RATINGS;
 
 // The leaf of a resource by a place.
 fn leaf_of(resource: Resource, place: u8) -> Leaf
@@ -28,45 +28,46 @@ fn leaf_of(resource: Resource, place: u8) -> Leaf
 }
 
 // By how much a bound of so much above the base is above the limit at least.
-fn margin(base: i64, limit: i64, sum: u64) -> u64
-    requires low { neg_ℤ (pos 3000000000000) ≤ℤ base }
-    requires above { limit ≤ℤ (base +ℤ pos sum) }
+fn margin(base: Base, limit: i64, sum: u64) -> u64
+    requires above { limit ≤ℤ (base.number +ℤ pos sum) }
     requires high { sum ≤ 1000000000000000000 }
-    ensures above { (limit +ℤ pos result) ≤ℤ (base +ℤ pos sum) }
+    ensures above { (limit +ℤ pos result) ≤ℤ (base.number +ℤ pos sum) }
     ensures high { result ≤ sum }
 {
-    if limit < base {
+    if limit < base.number {
         return sum;
     }
-    sum - (limit - base) as u64
+    sum - (limit - base.number) as u64
+}
+
+// A resource, and what the chosen places leave of it.
+#[derive(Clone, Copy)]
+struct Left {
+    resource: Resource,
+    rest: u32,
 }
 
 // Whether a prospect has a bound, and that is below the limit. What is known of the bounds grows
 // where it is not, and what was computed for that is the last tangent.
 #[inline(always)]
 fn is_below(
-    base: i64,
+    base: Base,
     limit: i64,
-    rest: u32,
-    resource: Resource,
-    all: &[Prospect],
+    left: Left,
+    all: &Prospects,
     prospect: &Prospect,
     known: &mut Known,
     last: &mut Option<Tangent>,
 ) -> bool
-    requires low { neg_ℤ (pos 3000000000000) ≤ℤ base }
-    requires high { base ≤ℤ pos 3000000000000 }
-    requires modest { All IsModest all.now }
-    requires few { length all.now ≤ MAX_RATINGS }
     requires one_modest { IsModest prospect.now }
-    requires known { IsKnown base limit rest resource all.now known.old }
-    requires last { IfSome last.old (IsTangent rest resource all.now) }
-    ensures below { IsTrue result ↔ (((nat_lt 0 prospect.now.worth && nat_lt 0 (takes_of resource prospect.now)) ≡ true)
-        × ((base +ℤ pos (at_price resource rest (1000 * prospect.now.worth / takes_of resource prospect.now) all.now)) <ℤ limit)) }
-    ensures known { IsKnown base limit rest resource all.now known.new }
-    ensures last { IfSome last.new (IsTangent rest resource all.now) }
+    requires known { IsKnown base.number limit left.rest left.resource all.now.list.now known.old }
+    requires last { IfSome last.old (IsTangent left.rest left.resource all.now.list.now) }
+    ensures below { IsTrue result ↔ (((nat_lt 0 prospect.now.worth && nat_lt 0 (takes_of left.resource prospect.now)) ≡ true)
+        × ((base.number +ℤ pos (at_price left.resource left.rest (1000 * prospect.now.worth / takes_of left.resource prospect.now) all.now.list.now)) <ℤ limit)) }
+    ensures known { IsKnown base.number limit left.rest left.resource all.now.list.now known.new }
+    ensures last { IfSome last.new (IsTangent left.rest left.resource all.now.list.now) }
 {
-    let taken = takes(prospect, resource);
+    let taken = takes(prospect, left.resource);
     let worth = 1000 * u64::from(prospect.worth);
     if known.has_ratio(worth, taken) {
         return false;
@@ -75,8 +76,8 @@ fn is_below(
         return false;
     }
     let price = worth / taken;
-    let (sum, next) = at_two_prices(all, resource, rest, price);
-    let bound = base + sum as i64;
+    let (sum, next) = at_two_prices(all, left.resource, left.rest, price);
+    let bound = base.number + sum as i64;
     if bound < limit {
         return true;
     }
@@ -89,17 +90,16 @@ fn is_below(
 
 // Takes in what an earlier price and the next one make, where the bound at the first is not below
 // the limit.
-fn recall(known: &mut Known, base: i64, limit: i64, tangent: Tangent)
-    requires low { neg_ℤ (pos 3000000000000) ≤ℤ base }
-    requires high { base ≤ℤ pos 3000000000000 }
+fn recall(known: &mut Known, base: Base, limit: i64, tangent: Tangent)
     requires price { tangent.price < 20000000 }
     requires sum { tangent.sum ≤ 1000000000000000000 }
     requires known { known.old.high ≤ 20000001 }
     ensures { (rest : ℕ) (resource : Resource) (all : List Prospect)
-        → IsTangent rest resource all tangent → IsKnown base limit rest resource all known.old
-        → IsKnown base limit rest resource all known.new }
+        → IsTangent rest resource all tangent
+        → IsKnown base.number limit rest resource all known.old
+        → IsKnown base.number limit rest resource all known.new }
 {
-    let bound = base + tangent.sum as i64;
+    let bound = base.number + tangent.sum as i64;
     if bound < limit {
         return;
     }
@@ -108,15 +108,13 @@ fn recall(known: &mut Known, base: i64, limit: i64, tangent: Tangent)
 }
 
 // What the last tangent tells of the bounds.
-fn known_by(base: i64, limit: i64, last: &Option<Tangent>) -> Known
-    requires low { neg_ℤ (pos 3000000000000) ≤ℤ base }
-    requires high { base ≤ℤ pos 3000000000000 }
+fn known_by(base: Base, limit: i64, last: &Option<Tangent>) -> Known
     requires last { (rest : ℕ)
         × ((resource : Resource)
         × ((all : List Prospect) × IfSome last.now (IsTangent rest resource all))) }
     ensures { (rest : ℕ) (resource : Resource) (all : List Prospect)
         → IfSome last.now (IsTangent rest resource all)
-        → IsKnown base limit rest resource all result }
+        → IsKnown base.number limit rest resource all result }
 {
     let mut known = Known::nothing();
     match last {
@@ -129,57 +127,50 @@ fn known_by(base: i64, limit: i64, last: &Option<Tangent>) -> Known
 // The leaf of the first of all that has a bound below the limit.
 #[inline(always)]
 fn first_of_resource(
-    base: i64,
+    base: Base,
     limit: i64,
-    rest: u32,
-    resource: Resource,
-    all: &[Prospect],
+    left: Left,
+    all: &Prospects,
     last: &mut Option<Tangent>,
 ) -> Option<Leaf>
-    requires low { neg_ℤ (pos 3000000000000) ≤ℤ base }
-    requires high { base ≤ℤ pos 3000000000000 }
-    requires modest { All IsModest all.now }
-    requires few { length all.now ≤ MAX_RATINGS }
-    requires last { IfSome last.old (IsTangent rest resource all.now) }
+    requires last { IfSome last.old (IsTangent left.rest left.resource all.now.list.now) }
     ensures first { IfSome result
-        (IsFirstBelow limit (resource_bounds base rest resource all.now all.now)) }
+        (IsFirstBelow limit
+        (resource_bounds base.number left.rest left.resource all.now.list.now all.now.list.now)) }
     ensures none { IfNone result
-        (NoneBelow limit (resource_bounds base rest resource all.now all.now)) }
-    ensures last { IfSome last.new (IsTangent rest resource all.now) }
+        (NoneBelow limit
+        (resource_bounds base.number left.rest left.resource all.now.list.now all.now.list.now)) }
+    ensures last { IfSome last.new (IsTangent left.rest left.resource all.now.list.now) }
 {
     let mut known = known_by(base, limit, last);
     if known.is_all() {
         return None;
     }
-    for prospect in all {
-        if is_below(base, limit, rest, resource, all, prospect, &mut known, last) {
-            return Some(leaf_of(resource, prospect.place));
+    for prospect in all.list {
+        if is_below(base, limit, left, all, prospect, &mut known, last) {
+            return Some(leaf_of(left.resource, prospect.place));
         }
     }
     None
 }
 
 /// Whether the plain bound, which is so much above the base, is below the limit.
-pub(crate) fn is_plain_below(base: i64, limit: i64, plain: u64) -> bool
-    requires low { neg_ℤ (pos 3000000000000) ≤ℤ base }
-    requires high { base ≤ℤ pos 3000000000000 }
+pub(crate) fn is_plain_below(base: Base, limit: i64, plain: u64) -> bool
     requires plain_high { plain ≤ 1200000000 }
-    ensures { IsTrue result ↔ ((base +ℤ pos plain) <ℤ limit) }
+    ensures { IsTrue result ↔ ((base.number +ℤ pos plain) <ℤ limit) }
 {
-    let least = base + plain as i64;
+    let least = base.number + plain as i64;
     least < limit
 }
 
 /// The leaf of the first bound below the limit, of all bounds in their order; `None` where none is.
-pub(crate) fn first_below(base: i64, limit: i64, rests: Rests, all: &[Prospect]) -> Option<Leaf>
-    requires low { neg_ℤ (pos 3000000000000) ≤ℤ base }
-    requires high { base ≤ℤ pos 3000000000000 }
-    requires modest { All IsModest all.now }
-    requires few { length all.now ≤ MAX_RATINGS }
+pub(crate) fn first_below(base: Base, limit: i64, rests: Rests, all: &Prospects) -> Option<Leaf>
     ensures first { IfSome result
-        (IsFirstBelow limit (all_bounds base rests.budget rests.credits rests.courses all.now)) }
+        (IsFirstBelow limit
+        (all_bounds base.number rests.budget rests.credits rests.courses all.now.list.now)) }
     ensures none { IfNone result
-        (NoneBelow limit (all_bounds base rests.budget rests.credits rests.courses all.now)) }
+        (NoneBelow limit
+        (all_bounds base.number rests.budget rests.credits rests.courses all.now.list.now)) }
 {
     let mut tangents = Tangents::none();
     first_with(base, limit, rests, all, plain_sum(all), &mut tangents)
@@ -189,37 +180,34 @@ pub(crate) fn first_below(base: i64, limit: i64, rests: Rests, all: &[Prospect])
 /// Tangents that are computed on the way are kept.
 #[inline(always)]
 pub(crate) fn first_with(
-    base: i64,
+    base: Base,
     limit: i64,
     rests: Rests,
-    all: &[Prospect],
+    all: &Prospects,
     plain: u64,
     tangents: &mut Tangents,
 ) -> Option<Leaf>
-    requires low { neg_ℤ (pos 3000000000000) ≤ℤ base }
-    requires high { base ≤ℤ pos 3000000000000 }
-    requires modest { All IsModest all.now }
-    requires few { length all.now ≤ MAX_RATINGS }
-    requires plain { plain ≡ by_course (λ p. 1000 * p.worth) all.now }
+    requires plain { plain ≡ by_course (λ p. 1000 * p.worth) all.now.list.now }
     requires plain_high { plain ≤ 1200000000 }
-    requires tangents { AreTangents rests.budget rests.credits rests.courses all.now tangents.old }
+    requires tangents { AreTangents rests.budget rests.credits rests.courses all.now.list.now
+        tangents.old }
     ensures first { IfSome result
-        (IsFirstBelow limit (all_bounds base rests.budget rests.credits rests.courses all.now)) }
+        (IsFirstBelow limit
+        (all_bounds base.number rests.budget rests.credits rests.courses all.now.list.now)) }
     ensures none { IfNone result
-        (NoneBelow limit (all_bounds base rests.budget rests.credits rests.courses all.now)) }
-    ensures tangents { AreTangents rests.budget rests.credits rests.courses all.now tangents.new }
+        (NoneBelow limit
+        (all_bounds base.number rests.budget rests.credits rests.courses all.now.list.now)) }
+    ensures tangents { AreTangents rests.budget rests.credits rests.courses all.now.list.now
+        tangents.new }
 {
     if is_plain_below(base, limit, plain) {
         return Some(Leaf::Plain);
     }
-    match first_of_resource(
-        base,
-        limit,
-        rests.budget,
-        Resource::Money,
-        all,
-        &mut tangents.money,
-    ) {
+    let left = Left {
+        resource: Resource::Money,
+        rest: rests.budget,
+    };
+    match first_of_resource(base, limit, left, all, &mut tangents.money) {
         Some(leaf) => Some(leaf),
         None => first_after_money(base, limit, rests, all, tangents),
     }
@@ -228,52 +216,46 @@ pub(crate) fn first_with(
 // The same of the bounds of the credits and of the number of sections.
 #[inline(always)]
 fn first_after_money(
-    base: i64,
+    base: Base,
     limit: i64,
     rests: Rests,
-    all: &[Prospect],
+    all: &Prospects,
     tangents: &mut Tangents,
 ) -> Option<Leaf>
-    requires low { neg_ℤ (pos 3000000000000) ≤ℤ base }
-    requires high { base ≤ℤ pos 3000000000000 }
-    requires modest { All IsModest all.now }
-    requires few { length all.now ≤ MAX_RATINGS }
-    requires tangents { AreTangents rests.budget rests.credits rests.courses all.now tangents.old }
+    requires tangents { AreTangents rests.budget rests.credits rests.courses all.now.list.now
+        tangents.old }
     ensures first { IfSome result
         (IsFirstBelow limit
-        (resource_bounds base rests.credits Resource.Credits all.now all.now
-        ++ resource_bounds base rests.courses Resource.Count all.now all.now)) }
+        (resource_bounds base.number rests.credits Resource.Credits all.now.list.now
+        all.now.list.now
+        ++ resource_bounds base.number rests.courses Resource.Count all.now.list.now
+        all.now.list.now)) }
     ensures none { IfNone result
         (NoneBelow limit
-        (resource_bounds base rests.credits Resource.Credits all.now all.now
-        ++ resource_bounds base rests.courses Resource.Count all.now all.now)) }
-    ensures tangents { AreTangents rests.budget rests.credits rests.courses all.now tangents.new }
+        (resource_bounds base.number rests.credits Resource.Credits all.now.list.now
+        all.now.list.now
+        ++ resource_bounds base.number rests.courses Resource.Count all.now.list.now
+        all.now.list.now)) }
+    ensures tangents { AreTangents rests.budget rests.credits rests.courses all.now.list.now
+        tangents.new }
 {
-    match first_of_resource(
-        base,
-        limit,
-        rests.credits,
-        Resource::Credits,
-        all,
-        &mut tangents.credits,
-    ) {
+    let credits = Left {
+        resource: Resource::Credits,
+        rest: rests.credits,
+    };
+    let courses = Left {
+        resource: Resource::Count,
+        rest: rests.courses,
+    };
+    match first_of_resource(base, limit, credits, all, &mut tangents.credits) {
         Some(leaf) => Some(leaf),
-        None => first_of_resource(
-            base,
-            limit,
-            rests.courses,
-            Resource::Count,
-            all,
-            &mut tangents.courses,
-        ),
+        None => first_of_resource(base, limit, courses, all, &mut tangents.courses),
     }
 }
 
 // Of each course the greatest worth, a thousandfold, added up.
-fn plain_sum(all: &[Prospect]) -> u64
-    requires modest { All IsModest all.now }
-    requires few { length all.now ≤ MAX_RATINGS }
-    ensures value { result ≡ by_course (λ p. 1000 * p.worth) all.now }
+fn plain_sum(all: &Prospects) -> u64
+    ensures value { result ≡ by_course (λ p. 1000 * p.worth) all.now.list.now }
     ensures high { result ≤ 1200000000 }
 {
     at_price(all, Resource::Count, 0, 0)
@@ -292,28 +274,24 @@ fn has_bound_at(prospect: &Prospect, resource: Resource, place: u8) -> bool
 
 // The bound of the resource by a place that has one.
 fn resource_bound(
-    base: i64,
+    base: Base,
     rest: u32,
     resource: Resource,
-    all: &[Prospect],
+    all: &Prospects,
     some: &[Prospect],
     place: u8,
 ) -> i64
-    requires low { neg_ℤ (pos 3000000000000) ≤ℤ base }
-    requires high { base ≤ℤ pos 3000000000000 }
-    requires modest { All IsModest all.now }
-    requires few { length all.now ≤ MAX_RATINGS }
     requires some_modest { All IsModest some.now }
-    ensures { (bound : ℤ) → HasBound (resource_bounds base rest resource all.now some.now) (leaf_of resource place) bound
-        → HasBound (resource_bounds base rest resource all.now some.now) (leaf_of resource place) result }
+    ensures { (bound : ℤ) → HasBound (resource_bounds base.number rest resource all.now.list.now some.now) (leaf_of resource place) bound
+        → HasBound (resource_bounds base.number rest resource all.now.list.now some.now) (leaf_of resource place) result }
 {
     match some {
-        [] => base,
+        [] => base.number,
         [prospect, more @ ..] => {
             if has_bound_at(prospect, resource, place) {
                 let taken = takes(prospect, resource);
                 let price = 1000 * u64::from(prospect.worth) / taken;
-                return base + at_price(all, resource, rest, price) as i64;
+                return base.number + at_price(all, resource, rest, price) as i64;
             }
             resource_bound(base, rest, resource, all, more, place)
         }
@@ -322,23 +300,26 @@ fn resource_bound(
 
 /// The bound of a leaf, where the open places have a bound with that leaf; else the number means
 /// nothing.
-pub(crate) fn bound_of(base: i64, rests: Rests, all: &[Prospect], leaf: Leaf) -> i64
-    requires low { neg_ℤ (pos 3000000000000) ≤ℤ base }
-    requires high { base ≤ℤ pos 3000000000000 }
-    requires modest { All IsModest all.now }
-    requires few { length all.now ≤ MAX_RATINGS }
-    ensures { (bound : ℤ) → HasBound (all_bounds base rests.budget rests.credits rests.courses all.now) leaf bound
-        → HasBound (all_bounds base rests.budget rests.credits rests.courses all.now) leaf result }
+pub(crate) fn bound_of(base: Base, rests: Rests, all: &Prospects, leaf: Leaf) -> i64
+    ensures { (bound : ℤ) → HasBound (all_bounds base.number rests.budget rests.credits rests.courses all.now.list.now) leaf bound
+        → HasBound (all_bounds base.number rests.budget rests.credits rests.courses all.now.list.now) leaf result }
 {
     match leaf {
-        Leaf::Plain => base + plain_sum(all) as i64,
-        Leaf::Budget(place) => resource_bound(base, rests.budget, Resource::Money, all, all, place),
+        Leaf::Plain => base.number + plain_sum(all) as i64,
+        Leaf::Budget(place) => resource_bound(
+            base,
+            rests.budget,
+            Resource::Money,
+            all,
+            all.list,
+            place,
+        ),
         Leaf::Credits(place) => resource_bound(
             base,
             rests.credits,
             Resource::Credits,
             all,
-            all,
+            all.list,
             place,
         ),
         Leaf::Number(place) => resource_bound(
@@ -346,7 +327,7 @@ pub(crate) fn bound_of(base: i64, rests: Rests, all: &[Prospect], leaf: Leaf) ->
             rests.courses,
             Resource::Count,
             all,
-            all,
+            all.list,
             place,
         ),
     }

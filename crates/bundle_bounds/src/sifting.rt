@@ -1,19 +1,17 @@
 // The open places that stay open beside one more chosen place.
-ghost use Rattle.std.specs.Prelude.{◌≡◌, ◌<◌, ◌≤◌, ◌+◌, ◌-◌, ◌++◌, ◌∷◌, [], ℕ, List, not, nat_le, ◌&&◌, true, length, map, drop, filter, All};
+ghost use Rattle.std.specs.Prelude.{◌≡◌, ◌<◌, ◌≤◌, ◌+◌, ◌-◌, ◌++◌, ◌∷◌, [], ℕ, List, not, nat_le, ◌&&◌, true, length, map, drop, All};
 ghost use Rattle.std.specs.List.{AllByRecursion};
-ghost use Rattle.std.specs.Ordering.{nat_cmp};
-ghost use Rattle.std.specs.FinSet as set;
-ghost use Rattle.market_units.specs.declared.units.Tokens.{Tokens};
 ghost use Rattle.bundle_rules.specs.Menus.{clash_in};
-ghost use Rattle.bundle_bounds.specs.Offers.{offer_of, AreOnMenu};
-ghost use Rattle.bundle_bounds.specs.Opens.{budget_left, credits_left, courses_left, is_open, prospect, prospects};
-ghost use Rattle.bundle_bounds.specs.Modest.{IsModest};
+ghost use Rattle.bundle_bounds.specs.Opens.{is_open, open_among, prospect, prospects};
+ghost use Rattle.bundle_bounds.specs.Modest.{IsModest, AreOn};
+ghost use Rattle.bundle_bounds.specs.Views.{data_of};
 
+use crate::chosen::Chosen;
 use crate::opens::{Rests, hopes, worth_of};
 use crate::places::adjustments_with;
-use crate::prospects::Prospect;
+use crate::prospects::{Prospect, Prospects};
 use bundle_rules::Menu;
-use market_units::{MAX_COURSES, MAX_RATINGS};
+use market_units::MAX_RATINGS;
 
 /// What is left of the budget, the credits and the courses once one more place is chosen; 0 where
 /// it takes more than is left.
@@ -47,19 +45,21 @@ fn stays_open(menu: &Menu, rests: Rests, place: u8, one: &Prospect) -> bool
 
 // The open place beside these chosen places and before these open ones.
 #[inline(always)]
-fn beside(menu: &Menu, chosen: &[u8], one: &Prospect, later: &[Prospect]) -> Prospect
-    requires on_menu { AreOnMenu menu.now chosen.now }
-    requires few { length chosen.now ≤ MAX_COURSES }
+fn beside(chosen: &Chosen, one: &Prospect, later: &[Prospect]) -> Prospect
     requires modest { IsModest one.now }
-    requires place { one.now.place < length menu.now.places }
-    requires later_on_menu { All (λ other. other.place < length menu.now.places) later.now }
+    requires place { one.now.place < length chosen.now.offer.now.menu.now.places }
+    requires later_on_menu { AreOn chosen.now.offer.now.menu.now later.now }
     requires later_few { length later.now ≤ MAX_RATINGS }
-    ensures value { (prices : List Tokens) (budget : ℕ) (allowed : set.FinSet nat_cmp) (before : List ℕ) (others : List ℕ) → one.now ≡ prospect (offer_of menu.now prices budget allowed) before one.now.place others
-        → result ≡ prospect (offer_of menu.now prices budget allowed) chosen.now one.now.place (map (λ other. other.place) later.now) }
+    ensures value { (before others : List ℕ)
+        → one.now ≡ prospect (data_of chosen.now.offer.now) before one.now.place others
+        → result
+        ≡ prospect (data_of chosen.now.offer.now) chosen.now.places.now one.now.place
+        (map (λ other. other.place) later.now) }
     ensures modest { IsModest result }
     ensures place { result.place ≡ one.now.place }
 {
-    let adjustments = adjustments_with(menu, chosen, one.place);
+    let menu = chosen.offer.menu;
+    let adjustments = adjustments_with(menu, chosen.places, one.place);
     let later_ones = hopes(menu, one.place, later);
     Prospect {
         place: one.place,
@@ -74,71 +74,65 @@ fn beside(menu: &Menu, chosen: &[u8], one: &Prospect, later: &[Prospect]) -> Pro
 // where they begin then.
 #[inline(always)]
 fn put_open(
-    menu: &Menu,
-    chosen: &[u8],
-    rests: Rests,
+    chosen: &Chosen,
     place: u8,
     one: &Prospect,
     start: usize,
-    room: &mut [Prospect],
+    room: &mut [Prospect; MAX_RATINGS],
 ) -> usize
-    requires on_menu { AreOnMenu menu.now chosen.now }
-    requires few { length chosen.now ≤ MAX_COURSES }
-    requires place { place < length menu.now.places }
+    requires place { place < length chosen.now.offer.now.menu.now.places }
     requires modest { IsModest one.now }
-    requires one_on_menu { one.now.place < length menu.now.places }
-    requires room { length room.old ≡ MAX_RATINGS }
+    requires one_on_menu { one.now.place < length chosen.now.offer.now.menu.now.places }
     requires some { 1 ≤ start }
     requires within { start ≤ MAX_RATINGS }
     requires later_modest { All IsModest (drop start room.old) }
-    requires later_on_menu { All (λ other. other.place < length menu.now.places)
-        (drop start room.old) }
-    ensures value { (prices : List Tokens) (budget : ℕ) (allowed : set.FinSet nat_cmp) (before others later : List ℕ) → chosen.now ≡ before ++ place ∷ []
-        → rests.budget ≡ budget_left (offer_of menu.now prices budget allowed) chosen.now → rests.credits ≡ credits_left (offer_of menu.now prices budget allowed) chosen.now → rests.courses ≡ courses_left (offer_of menu.now prices budget allowed) chosen.now
-        → is_open (offer_of menu.now prices budget allowed) before one.now.place ≡ true → one.now ≡ prospect (offer_of menu.now prices budget allowed) before one.now.place others
-        → drop start room.old ≡ prospects (offer_of menu.now prices budget allowed) chosen.now (filter (is_open (offer_of menu.now prices budget allowed) chosen.now) later)
-        → drop result room.new ≡ prospects (offer_of menu.now prices budget allowed) chosen.now (filter (is_open (offer_of menu.now prices budget allowed) chosen.now) (one.now.place ∷ later)) }
+    requires later_on_menu { AreOn chosen.now.offer.now.menu.now (drop start room.old) }
+    ensures value { (before others later : List ℕ)
+        → chosen.now.places.now ≡ before ++ place ∷ []
+        → is_open (data_of chosen.now.offer.now) before one.now.place ≡ true
+        → one.now ≡ prospect (data_of chosen.now.offer.now) before one.now.place others
+        → drop start room.old
+        ≡ open_among (data_of chosen.now.offer.now) chosen.now.places.now later
+        → drop result room.new
+        ≡ open_among (data_of chosen.now.offer.now) chosen.now.places.now
+        (one.now.place ∷ later) }
     ensures low { start ≤ result + 1 }
     ensures high { result ≤ start }
     ensures modest { All IsModest (drop result room.new) }
-    ensures on_menu { All (λ other. other.place < length menu.now.places) (drop result room.new) }
+    ensures on_menu { AreOn chosen.now.offer.now.menu.now (drop result room.new) }
 {
-    if !stays_open(menu, rests, place, one) {
+    if !stays_open(chosen.offer.menu, chosen.rests, place, one) {
         return start;
     }
-    let here = beside(menu, chosen, one, &room[start..]);
+    let here = beside(chosen, one, &room[start..]);
     room[start - 1] = here;
     start - 1
 }
 
-/// Writes the prospects of those open places that stay open beside one more chosen place to the end
-/// of the room, and gives where they begin.
+/// Writes the prospects of those open places that stay open beside one more chosen place, the last
+/// of these, to the end of the room, and gives where they begin.
 pub(crate) fn sift(
-    menu: &Menu,
-    chosen: &[u8],
-    rests: Rests,
+    chosen: &Chosen,
     place: u8,
-    all: &[Prospect],
-    room: &mut [Prospect],
+    all: &Prospects,
+    room: &mut [Prospect; MAX_RATINGS],
 ) -> usize
-    requires on_menu { AreOnMenu menu.now chosen.now }
-    requires few { length chosen.now ≤ MAX_COURSES }
-    requires place { place < length menu.now.places }
-    requires modest { All IsModest all.now }
-    requires all_on_menu { All (λ other. other.place < length menu.now.places) all.now }
-    requires all_few { length all.now ≤ MAX_RATINGS }
-    requires room { length room.old ≡ MAX_RATINGS }
-    ensures value { (prices : List Tokens) (budget : ℕ) (allowed : set.FinSet nat_cmp) (before others : List ℕ) → chosen.now ≡ before ++ place ∷ []
-        → rests.budget ≡ budget_left (offer_of menu.now prices budget allowed) chosen.now → rests.credits ≡ credits_left (offer_of menu.now prices budget allowed) chosen.now → rests.courses ≡ courses_left (offer_of menu.now prices budget allowed) chosen.now
-        → AllByRecursion (λ other. is_open (offer_of menu.now prices budget allowed) before other ≡ true) others → all.now ≡ prospects (offer_of menu.now prices budget allowed) before others
-        → drop result room.new ≡ prospects (offer_of menu.now prices budget allowed) chosen.now (filter (is_open (offer_of menu.now prices budget allowed) chosen.now) others) }
+    requires place { place < length chosen.now.offer.now.menu.now.places }
+    requires all_on_menu { AreOn chosen.now.offer.now.menu.now all.now.list.now }
+    ensures value { (before others : List ℕ) → chosen.now.places.now ≡ before ++ place ∷ []
+        → AllByRecursion (λ other. is_open (data_of chosen.now.offer.now) before other ≡ true)
+        others
+        → all.now.list.now ≡ prospects (data_of chosen.now.offer.now) before others
+        → drop result room.new
+        ≡ open_among (data_of chosen.now.offer.now) chosen.now.places.now others }
     ensures within { result ≤ MAX_RATINGS }
     ensures modest { All IsModest (drop result room.new) }
-    ensures on_menu { All (λ other. other.place < length menu.now.places) (drop result room.new) }
+    ensures on_menu { AreOn chosen.now.offer.now.menu.now (drop result room.new) }
 {
+    let list = all.list;
     let mut start = room.len();
-    for index in (0..all.len()).rev() {
-        start = put_open(menu, chosen, rests, place, &all[index], start, room);
+    for index in (0..list.len()).rev() {
+        start = put_open(chosen, place, &list[index], start, room);
     }
     start
 }

@@ -1,26 +1,29 @@
 // Nodes that have chosen the same sections.
 ghost use Rattle.std.specs.Prelude.{◌≡◌, ◌<◌, ◌+◌, ◌++◌, ◌∷◌, [], true, IfSome, IfNone, IsTrue, length};
 ghost use Rattle.bundle_rules.specs.Ahead.{is_ahead};
-ghost use Rattle.bundle_rules.specs.Demand.{HasPrices};
 ghost use Rattle.bundle_rules.specs.Wishes.{IsFeasible};
 ghost use Rattle.bundle_rules.specs.Menus.{wishes_of, section_at};
 ghost use Rattle.bundle_rules.specs.Bundles.{sections_of};
-ghost use Rattle.bundle_bounds.specs.Offers.{offer_of, places_of};
+ghost use Rattle.bundle_bounds.specs.Offers.{places_of};
 ghost use Rattle.bundle_bounds.specs.Opens.{is_open};
 ghost use Rattle.bundle_bounds.specs.Bounds.{bounds, IsFirstPruning, NonePrunes};
 ghost use Rattle.bundle_bounds.specs.Ahead.{limit_of};
 ghost use Rattle.bundle_bounds.specs.Laws.{IsNode};
+ghost use Rattle.bundle_bounds.specs.Views.{data_of};
 
+use crate::Offer;
+use crate::base::Base;
+use crate::chosen::Chosen;
 use crate::leaving::leave;
 use crate::nodes::{Leaf, Node};
 use crate::opens::{Rests, collect, rests_of};
 use crate::places::adjustments_with;
-use crate::prospects::{NO_PROSPECTS, Prospect, Resource, at_price};
+use crate::prospects::{NO_PROSPECTS, Prospect, Prospects, Resource, at_price};
 use crate::pruning::{first_with, is_plain_below};
 use crate::sifting::{rests_after, sift};
 use crate::tangents::Tangents;
-use bundle_rules::{Bundle, Menu, Places, is_ahead, utility};
-use market_units::{MAX_COURSES, MAX_RATINGS, SectionSet, Tokens};
+use bundle_rules::{Bundle, Places, is_ahead, utility};
+use market_units::{MAX_COURSES, MAX_RATINGS};
 
 // The places of a menu, and the sections of a bundle.
 const ROOM: usize = MAX_RATINGS;
@@ -52,27 +55,27 @@ pub struct Stem {
 impl Stem {
     ghost use Rattle.bundle_bounds.specs.Stems.{IsStem};
 
-    /// The stem at the root: no place is decided. There is a price for each section of the menu,
-    /// each at most 1,000,001.
-    pub fn root(
-        menu: &Menu,
-        prices: &[Tokens],
-        budget: Tokens,
-        allowed: &SectionSet,
-        champion: &Bundle,
-    ) -> Stem
-        requires prices { HasPrices menu.now prices.now }
-        requires champion { IsFeasible (wishes_of menu.now) (sections_of champion.now) }
-        ensures { IsStem (offer_of menu.now prices.now budget.0 allowed.now)
+    /// The stem at the root: no place is decided.
+    pub fn root(offer: &Offer, champion: &Bundle) -> Stem
+        requires champion { IsFeasible (wishes_of offer.now.menu.now) (sections_of champion.now) }
+        ensures { IsStem (data_of offer.now)
             (sections_of champion.now) 0 [] result }
     {
+        let places = &[];
+        let rests = rests_of(offer, places);
+        let chosen = Chosen {
+            offer,
+            places,
+            rests,
+        };
         let mut room = NO_PROSPECTS;
-        let rests = rests_of(menu, prices, budget, &[]);
-        let start = collect(menu, prices, allowed, rests, &[], 0, &mut room);
-        let plain = at_price(&room[start..], Resource::Count, 0, 0);
-        let most = utility(menu, champion);
+        let start = collect(&chosen, 0, &mut room);
+        let list = &room[start..];
+        let all = Prospects { list };
+        let plain = at_price(&all, Resource::Count, 0, 0);
+        let most = utility(offer.menu, champion);
         Stem {
-            champion: Places::of(menu, champion),
+            champion: Places::of(offer.menu, champion),
             most,
             chosen: [0; MOST],
             count: 0,
@@ -88,21 +91,13 @@ impl Stem {
     }
 
     /// Whether the next place of its node is open.
-    pub fn is_next_open(
-        &self,
-        menu: &Menu,
-        prices: &[Tokens],
-        budget: Tokens,
-        allowed: &SectionSet,
-        champion: &Bundle,
-        node: &Node,
-    ) -> bool
-        requires stem { IsStem (offer_of menu.now prices.now budget.0 allowed.now)
+    pub fn is_next_open(&self, offer: &Offer, champion: &Bundle, node: &Node) -> bool
+        requires stem { IsStem (data_of offer.now)
             (sections_of champion.now) node.now.place (sections_of node.now.chosen) self.now }
-        requires left { node.now.place < length menu.now.places }
+        requires left { node.now.place < length offer.now.menu.now.places }
         ensures { result
-            ≡ is_open (offer_of menu.now prices.now budget.0 allowed.now)
-            (places_of menu.now (sections_of node.now.chosen)) node.now.place }
+            ≡ is_open (data_of offer.now)
+            (places_of offer.now.menu.now (sections_of node.now.chosen)) node.now.place }
     {
         match &self.room[self.start..] {
             [] => false,
@@ -112,45 +107,38 @@ impl Stem {
 
     /// The first bound that prunes its node for the champion, as `bound_closes` tells it.
     #[inline(always)]
-    pub fn pruning(
-        &mut self,
-        menu: &Menu,
-        prices: &[Tokens],
-        budget: Tokens,
-        allowed: &SectionSet,
-        champion: &Bundle,
-        node: &Node,
-    ) -> Option<Leaf>
-        requires node { IsNode (offer_of menu.now prices.now budget.0 allowed.now) node.now.place
+    pub fn pruning(&mut self, offer: &Offer, champion: &Bundle, node: &Node) -> Option<Leaf>
+        requires node { IsNode (data_of offer.now) node.now.place
             (sections_of node.now.chosen) }
-        requires champion { IsFeasible (wishes_of menu.now) (sections_of champion.now) }
-        requires stem { IsStem (offer_of menu.now prices.now budget.0 allowed.now)
+        requires champion { IsFeasible (wishes_of offer.now.menu.now) (sections_of champion.now) }
+        requires stem { IsStem (data_of offer.now)
             (sections_of champion.now) node.now.place (sections_of node.now.chosen) self.old }
-        ensures first { IfSome result (IsFirstPruning (offer_of menu.now prices.now budget.0 allowed.now) node.now.place (places_of menu.now (sections_of node.now.chosen)) (places_of menu.now (sections_of champion.now))
-            (bounds (offer_of menu.now prices.now budget.0 allowed.now) node.now.place (places_of menu.now (sections_of node.now.chosen)))) }
-        ensures none { IfNone result (NonePrunes (offer_of menu.now prices.now budget.0 allowed.now) node.now.place (places_of menu.now (sections_of node.now.chosen)) (places_of menu.now (sections_of champion.now))
-            (bounds (offer_of menu.now prices.now budget.0 allowed.now) node.now.place (places_of menu.now (sections_of node.now.chosen)))) }
-        ensures stem { IsStem (offer_of menu.now prices.now budget.0 allowed.now)
+        ensures first { IfSome result (IsFirstPruning (data_of offer.now) node.now.place (places_of offer.now.menu.now (sections_of node.now.chosen)) (places_of offer.now.menu.now (sections_of champion.now))
+            (bounds (data_of offer.now) node.now.place (places_of offer.now.menu.now (sections_of node.now.chosen)))) }
+        ensures none { IfNone result (NonePrunes (data_of offer.now) node.now.place (places_of offer.now.menu.now (sections_of node.now.chosen)) (places_of offer.now.menu.now (sections_of champion.now))
+            (bounds (data_of offer.now) node.now.place (places_of offer.now.menu.now (sections_of node.now.chosen)))) }
+        ensures stem { IsStem (data_of offer.now)
             (sections_of champion.now) node.now.place (sections_of node.now.chosen) self.new }
     {
-        prove!(menu.len() <= PLACES);
+        prove!(offer.menu.len() <= PLACES);
         if self.is_quiet {
             return None;
         }
         // A bound is sought on the champion's own path too, though none prunes there: a law for
         // that would spare 2 ns a node.
-        let base = 1000 * i64::from(self.utility);
+        let base = Base::of(self.utility);
         // Most nodes end here, before the tangents are copied.
         if is_plain_below(base, self.limit, self.plain) {
             return Some(Leaf::Plain);
         }
         let mut tangents = self.tangents;
-        let open_ones = &self.room[self.start..];
+        let list = &self.room[self.start..];
+        let all = Prospects { list };
         let leaf = first_with(
             base,
             self.limit,
             self.rests,
-            open_ones,
+            &all,
             self.plain,
             &mut tangents,
         );
@@ -161,31 +149,24 @@ impl Stem {
 
     /// Goes on to the node with the next place decided and not taken.
     #[inline(always)]
-    pub fn pass(
-        &mut self,
-        menu: &Menu,
-        prices: &[Tokens],
-        budget: Tokens,
-        allowed: &SectionSet,
-        champion: &Bundle,
-        node: &Node,
-    )
-        requires stem { IsStem (offer_of menu.now prices.now budget.0 allowed.now)
+    pub fn pass(&mut self, offer: &Offer, champion: &Bundle, node: &Node)
+        requires stem { IsStem (data_of offer.now)
             (sections_of champion.now) node.now.place (sections_of node.now.chosen) self.old }
-        requires left { node.now.place < length menu.now.places }
-        ensures { IsStem (offer_of menu.now prices.now budget.0 allowed.now)
+        requires left { node.now.place < length offer.now.menu.now.places }
+        ensures { IsStem (data_of offer.now)
             (sections_of champion.now) (node.now.place + 1) (sections_of node.now.chosen) self.new }
     {
-        prove!(node.place < menu.len());
+        prove!(node.place < offer.menu.len());
         let champions = self.champion.as_slice();
         let limit = limit_after(self.most, champions, &self.chosen[..self.count], node.place);
-        if !self.is_next_open(menu, prices, budget, allowed, champion, node) {
+        if !self.is_next_open(offer, champion, node) {
             self.is_quiet = is_still_quiet(self.is_quiet, self.limit, limit);
             self.limit = limit;
             return;
         }
-        let open_ones = &self.room[self.start..];
-        let (plain, tangents) = leave(open_ones, self.plain, self.tangents);
+        let list = &self.room[self.start..];
+        let all = Prospects { list };
+        let (plain, tangents) = leave(&all, self.plain, self.tangents);
         self.plain = plain;
         self.tangents = tangents;
         self.start += 1;
@@ -195,41 +176,43 @@ impl Stem {
 
     /// Writes the stem of the node with the next place decided and taken, which is open, into the
     /// other one.
-    pub fn take(
-        &self,
-        menu: &Menu,
-        prices: &[Tokens],
-        budget: Tokens,
-        allowed: &SectionSet,
-        champion: &Bundle,
-        node: &Node,
-        below: &mut Stem,
-    )
-        requires node { IsNode (offer_of menu.now prices.now budget.0 allowed.now) node.now.place
+    pub fn take(&self, offer: &Offer, champion: &Bundle, node: &Node, below: &mut Stem)
+        requires node { IsNode (data_of offer.now) node.now.place
             (sections_of node.now.chosen) }
-        requires stem { IsStem (offer_of menu.now prices.now budget.0 allowed.now)
+        requires stem { IsStem (data_of offer.now)
             (sections_of champion.now) node.now.place (sections_of node.now.chosen) self.now }
-        requires left { node.now.place < length menu.now.places }
-        requires open { is_open (offer_of menu.now prices.now budget.0 allowed.now)
-            (places_of menu.now (sections_of node.now.chosen)) node.now.place
+        requires left { node.now.place < length offer.now.menu.now.places }
+        requires open { is_open (data_of offer.now)
+            (places_of offer.now.menu.now (sections_of node.now.chosen)) node.now.place
             ≡ true }
-        ensures { IsStem (offer_of menu.now prices.now budget.0 allowed.now)
+        ensures { IsStem (data_of offer.now)
             (sections_of champion.now) (node.now.place + 1)
-            (sections_of node.now.chosen ++ section_at menu.now.places node.now.place ∷ [])
+            (sections_of node.now.chosen
+            ++ section_at offer.now.menu.now.places node.now.place ∷ [])
             below.new }
     {
+        let menu = offer.menu;
         prove!(node.place < menu.len());
         let rated = menu.rated(node.place);
         let before = &self.chosen[..self.count];
         let addition = i32::from(rated.rating) + adjustments_with(menu, before, node.place);
         let mut places = self.chosen;
         places[self.count] = node.place;
-        let chosen = &places[..self.count + 1];
         let rests = rests_after(self.rests, &self.room[self.start]);
+        let taken = &places[..self.count + 1];
+        let chosen = Chosen {
+            offer,
+            places: taken,
+            rests,
+        };
         let later = &self.room[self.start + 1..];
-        let start = sift(menu, chosen, rests, node.place, later, &mut below.room);
-        let plain = at_price(&below.room[start..], Resource::Count, 0, 0);
-        let limit = limit_after(self.most, self.champion.as_slice(), chosen, node.place);
+        let later = Prospects { list: later };
+        let start = sift(&chosen, node.place, &later, &mut below.room);
+        let list = &below.room[start..];
+        let all = Prospects { list };
+        let plain = at_price(&all, Resource::Count, 0, 0);
+        let champions = self.champion.as_slice();
+        let limit = limit_after(self.most, champions, taken, node.place);
         below.champion = self.champion;
         below.most = self.most;
         below.chosen = places;

@@ -7,7 +7,7 @@ use Rattle.std.proofs.lemmas.Bool.{lt-ltb}
 use Rattle.market_units.specs.Totals.{total}
 use Rattle.market_units.specs.declared.units.Tokens.{Tokens}
 use Rattle.bundle_bounds.specs.Laws.{IsTakable}
-use Rattle.bundle_bounds.specs.Offers.{Offer, offer_of}
+use Rattle.bundle_bounds.specs.Offers.{OfferData, offer_of}
 use Rattle.bundle_rules.specs.Bundles.{sections_of}
 use Rattle.bundle_rules.specs.Demand.{IsPriced, price_in}
 use Rattle.bundle_rules.specs.Menus.{MenuData, wishes_of}
@@ -70,7 +70,7 @@ module _ (terms : Terms) (publication : declared.Publication) (k : ℕ) (m : Men
   proved_read = sym (proved_is publication k item low read.printed)
 
   -- a fact of what is read is one of what is printed
-  pub told_of : (P : Offer → Proved → Type 0) → P (offer_of m prices b.0 all) (proved_of item)
+  pub told_of : (P : OfferData → Proved → Type 0) → P (offer_of m prices b.0 all) (proved_of item)
       → P (offer_in (terms_of terms).crowd (publication_of publication) k) (proved_in (publication_of publication) k)
   told_of P is =
       moved P (offer_of m prices b.0 all) (offer_in (terms_of terms).crowd (publication_of publication) k) (proved_of item)

@@ -1,7 +1,7 @@
 -- The walk of a tree with a text finds one defect at most.
 use Rattle.std.proofs.Common.{ℕ, ◌≡◌, ◌≢◌, ◌<◌, ◌⊎◌, ◌∙◌, ◌++◌, Option, None, List, [], ◌∷◌, refl, ap, sym, subst, arith, inl, inr}
 use Rattle.std.proofs.lemmas.Bool.{cases_lt}
-use Rattle.bundle_bounds.specs.Offers.{Offer, places_of}
+use Rattle.bundle_bounds.specs.Offers.{OfferData, places_of}
 use Rattle.proof_tree.specs.declared.signs.Sign.{Sign}
 use Rattle.proof_tree.specs.declared.signs.Sign.TheVariants.{Champion, Shut, Pruned, Forced, Open, Passed}
 use Rattle.proof_tree.specs.declared.defects.TreeDefect.{TreeDefect}
@@ -15,7 +15,7 @@ use Rattle.proof_tree.proofs.OneSymbol.{one_symbol}
 use Rattle.proof_tree.proofs.Spelling.{cancel, no_sign}
 use Rattle.proof_tree.proofs.Uniqueness.{one_sign}
 
-module _ (offer : Offer) (required : Option ℕ) (champion : List ℕ) where
+module _ (offer : OfferData) (required : Option ℕ) (champion : List ℕ) where
   -- the symbol of the next node's canonical sign stands first
   abbrev CanGoOn : List (ℕ × List ℕ) → List ℕ → Type 0
   CanGoOn [] rest = ⊥
@@ -43,7 +43,7 @@ module _ (offer : Offer) (required : Option ℕ) (champion : List ℕ) where
       other.1.2
 
 -- the signs of canonical trees
-canonical_sign : (offer : Offer) (champion : List ℕ) (k : ℕ) (chosen : List ℕ) (sign : Sign) → IsSign offer None champion k chosen sign → IsCanonical sign
+canonical_sign : (offer : OfferData) (champion : List ℕ) (k : ℕ) (chosen : List ℕ) (sign : Sign) → IsSign offer None champion k chosen sign → IsCanonical sign
 canonical_sign offer champion k chosen Champion is = tt
 canonical_sign offer champion k chosen Shut is = absurd (cc is.1.1)
 canonical_sign offer champion k chosen (Pruned leaf) is = tt
@@ -70,7 +70,7 @@ one_kind (WrongBranch at) (WrongBranch place) same e = ap (λ n. WrongBranch n) 
 one_kind (Rest at) (Rest place) same e = ap (λ n. Rest n) e
 one_kind one other same e = absurd (omega (arith, same))
 
-module _ (offer : Offer) (champion : List ℕ) where
+module _ (offer : OfferData) (champion : List ℕ) where
   -- what is wrong at a node
   abbrev Fault : TreeDefect → ℕ → List ℕ → List ℕ → Type 0
   Fault (Syntax at) k chosen rest = (read : Sign) → ¬ Reads rest read
@@ -156,14 +156,14 @@ module _ (offer : Offer) (champion : List ℕ) where
   ]
 
 -- the place of a defect on the walk
-record HasPlace (offer : Offer) (champion text : List ℕ) (defect : TreeDefect) : Type 0 where
+record HasPlace (offer : OfferData) (champion text : List ℕ) (defect : TreeDefect) : Type 0 where
   nodes : List (ℕ × List ℕ)
   rest : List ℕ
   come : HasCome offer None champion text nodes rest
   told : offset_in defect ≡ offset text rest
   wrong : FaultAt offer champion defect nodes rest
 
-has_place : (offer : Offer) (champion text : List ℕ) (defect : TreeDefect) → IsDefect offer champion text defect → HasPlace offer champion text defect
+has_place : (offer : OfferData) (champion text : List ℕ) (defect : TreeDefect) → IsDefect offer champion text defect → HasPlace offer champion text defect
 has_place offer champion text (Syntax at) is =
     record { nodes = (is.0, is.1.0) ∷ is.1.1.0; rest = is.1.1.1.0; come = is.1.1.1.1; told = is.1.1.1.2; wrong = is.1.1.1.3 }
 has_place offer champion text (NotClosed at) is =
@@ -176,7 +176,7 @@ has_place offer champion text (WrongBranch at) is =
     record { nodes = (is.0, is.1.0) ∷ is.1.1.0; rest = is.1.1.1.0; come = is.1.1.1.1; told = is.1.1.1.2; wrong = is.1.1.1.3 }
 has_place offer champion text (Rest at) is = record { nodes = []; rest = is.0; come = is.1; told = is.3; wrong = is.2 }
 
-pub one_defect : (offer : Offer) (champion text : List ℕ) (one other : TreeDefect) → IsDefect offer champion text one → IsDefect offer champion text other
+pub one_defect : (offer : OfferData) (champion text : List ℕ) (one other : TreeDefect) → IsDefect offer champion text one → IsDefect offer champion text other
     → one ≡ other
 one_defect offer champion text one other is so =
     let here = has_place offer champion text one is in

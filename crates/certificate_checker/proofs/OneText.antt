@@ -3,7 +3,7 @@ use Rattle.std.proofs.Common.{ℕ, zero, suc, ◌≡◌, ◌<◌, ◌≤◌, ◌
 use Rattle.std.specs.Prelude.{slice_get, slice_index, slice_index_or}
 use Rattle.std.proofs.lemmas.List.{take_all, take_more}
 use Rattle.budget_draw.specs.Budgets.{raised_by}
-use Rattle.bundle_bounds.specs.Offers.{Offer}
+use Rattle.bundle_bounds.specs.Offers.{OfferData}
 use Rattle.demand_api.specs.Crowds.{CrowdData, Student as Asked, holders}
 use Rattle.market_certificate.specs.Publications.{Proved, ProvedTurn, Publication}
 use Rattle.market_certificate.specs.Texts.{text_of}
@@ -113,7 +113,7 @@ module _ (market : Market) (streams : List (List Command)) (one other : List ℕ
   same_offer : (k : ℕ) → offer_in a.holds.crowd p k ≡ offer_in b.holds.crowd q k
   same_offer k = λ i. offer_from (same_crowd i) (alike.prices i) k
     where
-      offer_from : CrowdData → List ℕ → ℕ → Offer
+      offer_from : CrowdData → List ℕ → ℕ → OfferData
       offer_from crowd prices k =
           offer_in crowd (record { order = []; budgets = []; start = []; error = 0; prices = prices; bundles = []; turns = []; allocation = []; used = [] }) k
 
@@ -155,7 +155,7 @@ module _ (market : Market) (streams : List (List Command)) (one other : List ℕ
       record { best = best_at market streams other b k small; proved = also.proved } in
       same_turn (turn_in p k) (turn_in q k) due.0 due.1 (one_best _ _ _ _ _ mine yours) (one_proof _ _ _ _ _ mine yours)
     where
-      offer_behind : CrowdData → List ℕ → ℕ → List (List ℕ) → Offer
+      offer_behind : CrowdData → List ℕ → ℕ → List (List ℕ) → OfferData
       offer_behind crowd prices number held =
           let student : Asked = student_in crowd number in
           offer_to student (slice_index prices) (raised_by market.settings.raise student.budget) (may_choose (seats_in market) held number)

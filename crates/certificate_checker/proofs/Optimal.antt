@@ -9,7 +9,7 @@ use Rattle.std.proofs.lemmas.List.{append-nil, get_or-map, same_lists, take_all}
 use Rattle.std.proofs.lemmas.Option.{slice_get-get_or}
 use Rattle.budget_draw.specs.AfterOrder.{after_order_of}
 use Rattle.budget_draw.specs.Budgets.{raised_by}
-use Rattle.bundle_bounds.specs.Offers.{Offer}
+use Rattle.bundle_bounds.specs.Offers.{OfferData}
 use Rattle.bundle_rules.specs.Demand.{IsBest}
 use Rattle.bundle_rules.specs.Menus.{IsMenu, wishes_of}
 use Rattle.bundle_rules.specs.Places.{places_from}
@@ -46,7 +46,7 @@ use Rattle.certificate_checker.proofs.Refusing.{menu_sound}
 use Rattle.certificate_checker.proofs.Turning.{held_length, held_next, order_length}
 
 -- what has a tree is the best of the offer
-pub best_of_tree : (offer : Offer) (bundle tree : List ℕ) → IsMenu offer.menu → IsAffordable offer bundle → MayTake offer bundle → IsOffered offer bundle
+pub best_of_tree : (offer : OfferData) (bundle tree : List ℕ) → IsMenu offer.menu → IsAffordable offer bundle → MayTake offer bundle → IsOffered offer bundle
     → IsTreeText offer None bundle tree → IsBest (wishes_of offer.menu) offer.price offer.budget offer.allowed bundle
 best_of_tree offer bundle tree menu affordable feasible offered text =
     (trees_prove_the_best offer bundle menu (record { feasible = feasible; affordable = affordable; within = offered })).0 (text.0, text.1)

@@ -5,7 +5,7 @@ use Rattle.std.specs.FinSet as set
 use Rattle.std.specs.Ordering.{nat_cmp}
 use Rattle.market_units.specs.Totals.{total}
 use Rattle.market_units.specs.declared.units.Tokens.{Tokens}
-use Rattle.bundle_bounds.specs.Offers.{Offer, offer_of}
+use Rattle.bundle_bounds.specs.Offers.{OfferData, offer_of}
 use Rattle.bundle_rules.specs.Bundles.{sections_of}
 use Rattle.bundle_rules.specs.Demand.{HasPrices, IsPriced, price_in}
 use Rattle.bundle_rules.specs.Menus.{MenuData, wishes_of}
@@ -111,7 +111,7 @@ module _ (terms : Terms) (publication : declared.Publication) (place : ℕ) (ord
 
   module _ (m : MenuData) (b raised : Tokens) (prices : List Tokens) (of : IsTurnOf terms publication item m b raised prices) where
     -- what is offered, where these sections may be chosen
-    abbrev offered : (ℕ → Bool) → Offer
+    abbrev offered : (ℕ → Bool) → OfferData
     offered allowed = record { menu = m; price = price_in prices; budget = raised.0; allowed = allowed }
 
     offered_is : (allowed : ℕ → Bool) → ((s : ℕ) → allowed s ≡ may_choose terms.seats.items (held_before (publication_of publication) place) item.student.0 s)
@@ -123,7 +123,7 @@ module _ (terms : Terms) (publication : declared.Publication) (place : ℕ) (ord
         allowed who of.menu of.budget (sym read) of.more told)
 
     -- a fact of what is read is one of what is printed
-    pub told_of_turn : (P : Offer → ProvedTurn → Type 0) (allowed : ℕ → Bool)
+    pub told_of_turn : (P : OfferData → ProvedTurn → Type 0) (allowed : ℕ → Bool)
         → ((s : ℕ) → allowed s ≡ may_choose terms.seats.items (held_before (publication_of publication) place) item.student.0 s)
         → P (offered allowed) (turn_of item) → P (turn_offer (terms_of terms) (publication_of publication) place) (turn_in (publication_of publication) place)
     told_of_turn P allowed told is =

@@ -10,7 +10,7 @@ use Rattle.std.proofs.lemmas.List.Elements.{All-take}
 use Rattle.std.proofs.lemmas.Option.{get_or_from_slice_get, slice_get-get_or}
 use Rattle.market_units.specs.declared.units.StudentNo.{StudentNo}
 use Rattle.market_units.specs.declared.units.Tokens.{Tokens}
-use Rattle.bundle_bounds.specs.Offers.{Offer}
+use Rattle.bundle_bounds.specs.Offers.{OfferData}
 use Rattle.bundle_rules.specs.Bundles.{sections_of}
 use Rattle.bundle_rules.specs.declared.bundle.Bundle.{Bundle}
 use Rattle.bundle_rules.specs.Menus.{MenuData}
@@ -55,7 +55,7 @@ turn_offer_is crowd seats raise k publication item m b raised allowed low first 
     let number : (turn_in (publication_of publication) k).student ≡ item.student.0 = ap (λ (t : ProvedTurn). t.student) turn in
     let student : student_in (data_of crowd) item.student.0 ≡ record { menu = m; budget = b.0 } =
     student_is crowd item.student.0 m b low first second in
-    let offered : ℕ → Student → Offer = λ n who. record {
+    let offered : ℕ → Student → OfferData = λ n who. record {
       menu = who.menu;
       price = slice_index (map (λ (t : Tokens). t.0) publication.prices.items);
       budget = raised_by raise who.budget;

@@ -3,7 +3,7 @@
 use Rattle.std.specs.Prelude.{ℕ, ◌≡◌, ◌<◌, ◌≤◌, ◌+◌, ◌*◌, None, Some, List, [], length, map, slice_get, slice_index, slice_index_or, take}
 use Rattle.budget_draw.specs.AfterOrder.{after_order_of}
 use Rattle.budget_draw.specs.Budgets.{raised_by}
-use Rattle.bundle_bounds.specs.Offers.{Offer}
+use Rattle.bundle_bounds.specs.Offers.{OfferData}
 use Rattle.demand_api.specs.Crowds.{CrowdData}
 use Rattle.market_certificate.specs.Publications.{ProvedTurn, Publication}
 use Rattle.proof_tree.specs.Texts.{IsTreeText}
@@ -54,7 +54,7 @@ pub record IsDue (crowd : CrowdData) (p : Publication) (turn : ℕ) : Type 0 whe
 
 -- what is offered at a turn: the sections that the student holds and those that are free, at the
 -- prices of the second stage, for its raised budget
-abbrev pub turn_offer : TermsData → Publication → ℕ → Offer
+abbrev pub turn_offer : TermsData → Publication → ℕ → OfferData
 turn_offer terms p turn =
     let number = (turn_in p turn).student in
     let student = student_in terms.crowd number in

@@ -11,7 +11,7 @@ use Rattle.bundle_rules.specs.Places.{places_from}
 use Rattle.bundle_rules.specs.Existence.Members.{has-here, has-there, has-cases, has-above}
 use Rattle.bundle_rules.specs.Wishes.{adjustments}
 use Rattle.bundle_rules.specs.Menus.{by_place, adjustment_in, rating_at, credits_at}
-use Rattle.bundle_bounds.specs.Offers.{Offer, price_at}
+use Rattle.bundle_bounds.specs.Offers.{OfferData, price_at}
 use Rattle.bundle_bounds.proofs.Gains.{at_most_above, gain, gain-more}
 use Rattle.demand_oracle.specs.declared.multipliers.Multipliers.{Multipliers}
 use Rattle.demand_oracle.specs.Covers.{AreApartFrom}
@@ -50,7 +50,7 @@ within_range f h first (suc count) (p ∷ ps) up low high each =
         elim (has-cases p ps q is) [ inl here ↦ omega arith | inr there ↦ let above = has-above p ps q up.0 there in omega arith ]
 
 -- what follows the first of apart places is apart, and after it
-pub rest_from : (offer : Offer) (k d : ℕ) (ds : List ℕ) → AreApartFrom offer k (d ∷ ds) → AreApartFrom offer (d + 1) ds
+pub rest_from : (offer : OfferData) (k d : ℕ) (ds : List ℕ) → AreApartFrom offer k (d ∷ ds) → AreApartFrom offer (d + 1) ds
 rest_from offer k d ds free = record {
   ascending = free.ascending.1;
   later = λ p is. let above = has-above d ds p free.ascending.0 is in omega arith;
@@ -59,7 +59,7 @@ rest_from offer k d ds free = record {
   apart = λ p q is is' other. free.apart p q (has-there d ds p is) (has-there d ds q is') other;
 }
 
-module _ (offer : Offer) where
+module _ (offer : OfferData) where
   -- the adjustments of a place with allowed places of a range are at most what they can add
   adjustments_hope : (k place : ℕ) (ps : List ℕ) → AreApartFrom offer k ps
       → signed_total (adjustment_in offer.menu.pairs place) ps ≤ℤ pos (hopes_from offer k place)

@@ -6,7 +6,7 @@ use Rattle.bundle_rules.specs.Wishes.{Wishes}
 use Rattle.bundle_rules.specs.Menus.{wishes_of}
 use Rattle.bundle_rules.specs.Preferences.{IsPreferred}
 use Rattle.bundle_rules.specs.Demand.{IsBest}
-use Rattle.bundle_bounds.specs.Offers.{Offer}
+use Rattle.bundle_bounds.specs.Offers.{OfferData}
 use Rattle.bundle_bounds.specs.Prunings.{IsAsGood}
 use Rattle.bundle_bounds.specs.Laws.{IsTakable}
 use Rattle.demand_oracle.specs.Beside.{LeadsThoseWithout}
@@ -26,7 +26,7 @@ leads_where_fewer wishes price budget fewer allowed section bundle all rest best
   } apart;
 }
 
-module _ (offer : Offer) (section : ℕ) (first : List ℕ)
+module _ (offer : OfferData) (section : ℕ) (first : List ℕ)
     (leads : LeadsThoseWithout (wishes_of offer.menu) offer.price offer.budget offer.allowed section first) where
   -- it is the best where nothing with the section may be taken
   pub best_where_none : ((other : List ℕ) → IsTakable offer other → has other section ≡ true → ⊥)

@@ -5,7 +5,7 @@ use Rattle.market_units.specs.Totals.{total}
 use Rattle.market_units.proofs.Sums.{total-append}
 use Rattle.bundle_rules.specs.Menus.{IsMenu, by_place, credits_at, place_in, section_at, wishes_of}
 use Rattle.bundle_rules.proofs.Feasibility.{credits_by_place}
-use Rattle.bundle_bounds.specs.Offers.{Offer, price_at, places_of}
+use Rattle.bundle_bounds.specs.Offers.{OfferData, price_at, places_of}
 use Rattle.bundle_bounds.specs.Opens.{budget_left, credits_left}
 use Rattle.bundle_bounds.specs.Laws.{IsTakable, IsNode}
 use Rattle.bundle_bounds.proofs.ByPlace.{on_menu, prices_by_place, place_in-section_at, has-places}
@@ -21,7 +21,7 @@ use Rattle.demand_oracle.proofs.Openings.{budget_kept, credits_kept}
 use Rattle.demand_oracle.proofs.Pruning.{hopes_read}
 
 -- where one more section may be taken, there is room for it
-pub room_for_one : (offer : Offer) → IsMenu offer.menu → (chosen : List ℕ) (s : ℕ) → IsTakable offer (chosen ++ s ∷ []) → length chosen < 8
+pub room_for_one : (offer : OfferData) → IsMenu offer.menu → (chosen : List ℕ) (s : ℕ) → IsTakable offer (chosen ++ s ∷ []) → length chosen < 8
 unfolding wishes_of
 room_for_one offer menu chosen s may =
     let cap : offer.menu.courses ≤ 8 = menu.caps.courses_cap in
@@ -29,7 +29,7 @@ room_for_one offer menu chosen s may =
     let more : length (chosen ++ s ∷ []) ≡ length chosen + 1 = length-append chosen (s ∷ []) in
     omega arith
 
-module _ (offer : Offer) (menu : IsMenu offer.menu) (summed : SummedNode) (is : IsSummed offer.menu offer.price summed) (reach : Reach) (column : Column) where
+module _ (offer : OfferData) (menu : IsMenu offer.menu) (summed : SummedNode) (is : IsSummed offer.menu offer.price summed) (reach : Reach) (column : Column) where
   -- the column of a node with its sums is that of what its sections leave
   pub column_at : IsTakable offer (chosen_of summed) → IsColumn offer.menu offer.budget reach summed column → IsColumnAt offer reach (chosen_of summed) column
   column_at may column_is =
@@ -38,7 +38,7 @@ module _ (offer : Offer) (menu : IsMenu offer.menu) (summed : SummedNode) (is : 
       (subst (λ n. IsColumnFor reach (offer.menu.courses - length (chosen_of summed)) (offer.budget - summed.paid) n column)
       (credits_kept offer menu summed is may) column_is)
 
-module _ (offer : Offer) (menu : IsMenu offer.menu) (summed : SummedNode) (is : IsSummed offer.menu offer.price summed) (place : ℕ)
+module _ (offer : OfferData) (menu : IsMenu offer.menu) (summed : SummedNode) (is : IsSummed offer.menu offer.price summed) (place : ℕ)
     (later : summed.node.place ≤ place) (low : place < length offer.menu.places) where
   abbrev with_it : List ℕ
   with_it = chosen_of summed ++ section_at offer.menu.places place ∷ []

@@ -4,7 +4,7 @@ use Rattle.std.proofs.lemmas.Bool.{cases_order, cases_lt, true≢false}
 use Rattle.market_units.specs.Totals.{total}
 use Rattle.bundle_rules.specs.Existence.Members.{has-here, has-there, has-cases, has-above}
 use Rattle.bundle_rules.specs.Menus.{clash_in}
-use Rattle.bundle_bounds.specs.Offers.{Offer, allowed_at}
+use Rattle.bundle_bounds.specs.Offers.{OfferData, allowed_at}
 use Rattle.demand_oracle.specs.declared.multipliers.Multipliers.{Multipliers}
 use Rattle.demand_oracle.specs.Values.{value, units_at}
 use Rattle.demand_oracle.specs.Covers.{AreApartFrom, CoversWithin}
@@ -12,7 +12,7 @@ use Rattle.demand_oracle.specs.Reaches.{within_at, HoldsCovers, AreSmall, IsPlac
 use Rattle.demand_oracle.proofs.Additions.{rest_from}
 use Rattle.demand_oracle.proofs.Hoping.{row_same, row_other, zero_row}
 
-module _ (offer : Offer) (multipliers : Multipliers) (shift : ℕ) where
+module _ (offer : OfferData) (multipliers : Multipliers) (shift : ℕ) where
   -- places of which the first is later than k are places from the next one on
   from_next : (k p : ℕ) (ps : List ℕ) → AreApartFrom offer k (p ∷ ps) → k < p → AreApartFrom offer (k + 1) (p ∷ ps)
   from_next k p ps free low = record {

@@ -7,7 +7,7 @@ use Rattle.std.proofs.lemmas.Nat.Bits.{bit_at-zero}
 use Rattle.bundle_rules.specs.Menus.{section_at, credits_at, wishes_of}
 use Rattle.bundle_rules.specs.Places.{menu_sections}
 use Rattle.bundle_bounds.specs.Laws.{IsTakable, IsNode}
-use Rattle.bundle_bounds.specs.Offers.{Offer, price_at}
+use Rattle.bundle_bounds.specs.Offers.{OfferData, price_at}
 use Rattle.bundle_bounds.specs.Prunings.{MayPrune}
 use Rattle.bundle_bounds.proofs.Openings.{node_later, node_with, node_without}
 use Rattle.demand_oracle.specs.declared.summed_node.SummedNode.{SummedNode}
@@ -30,38 +30,38 @@ pub record GoesOn (question : Question) (summed first : SummedNode) (word : ℕ)
   pub is_word : IsOpenWord (offer_asked question) from (chosen_of summed) word
   pub is_champion : IsChampion (offer_asked question) champion
   pub same_result : (result : List ℕ)
-      → IsSearched (offer_asked question) (wanted_in question) from (chosen_of summed) (drop from (menu_sections question.menu.now)) (chosen_of champion) result
+      → IsSearched (offer_asked question) (wanted_in question) from (chosen_of summed) (drop from (menu_sections question.offer.now.menu.now)) (chosen_of champion) result
       → IsSearched (offer_asked question) (wanted_in question) summed.node.place (chosen_of summed)
-      (drop summed.node.place (menu_sections question.menu.now)) (chosen_of first) result
+      (drop summed.node.place (menu_sections question.offer.now.menu.now)) (chosen_of first) result
 
 -- what is compared at the end, of the sections that the nodes have chosen
 pub compared : (question : Question) (summed champion result : SummedNode)
-    → (IsBetter (wishes_of question.menu.now) (wanted_in question) (chosen_of summed) (chosen_of champion) × (result ≡ summed))
-    ⊎ ((IsBetter (wishes_of question.menu.now) (wanted_in question) (chosen_of summed) (chosen_of champion) → ⊥) × (result ≡ champion))
+    → (IsBetter (wishes_of question.offer.now.menu.now) (wanted_in question) (chosen_of summed) (chosen_of champion) × (result ≡ summed))
+    ⊎ ((IsBetter (wishes_of question.offer.now.menu.now) (wanted_in question) (chosen_of summed) (chosen_of champion) → ⊥) × (result ≡ champion))
     → (k : ℕ) → IsSearched (offer_asked question) (wanted_in question) k (chosen_of summed) [] (chosen_of champion) (chosen_of result)
 compared question summed champion result (inl more) k = inl (more.0, ap chosen_of more.1)
 compared question summed champion result (inr none) k = inr (none.0, ap chosen_of none.1)
 
 module _ (question : Question) (asked : IsQuestion question) (summed : SummedNode)
-    (is_summed : IsSummed question.menu.now (offer_asked question).price summed) (node : IsNode (offer_asked question) summed.node.place (chosen_of summed)) where
-  abbrev offer : Offer
+    (is_summed : IsSummed question.offer.now.menu.now (offer_asked question).price summed) (node : IsNode (offer_asked question) summed.node.place (chosen_of summed)) where
+  abbrev offer : OfferData
   offer = offer_asked question
 
   abbrev chosen : List ℕ
   chosen = chosen_of summed
 
   abbrev Searched : ℕ → List ℕ → List ℕ → Type 0
-  Searched k champion result = IsSearched (offer_asked question) (wanted_in question) k (chosen_of summed) (drop k (menu_sections question.menu.now)) champion result
+  Searched k champion result = IsSearched (offer_asked question) (wanted_in question) k (chosen_of summed) (drop k (menu_sections question.offer.now.menu.now)) champion result
 
   -- as many sections are chosen as may be taken
-  pub whole_searched : (champion result : List ℕ) → question.menu.now.courses ≤ length (chosen_of summed)
+  pub whole_searched : (champion result : List ℕ) → question.offer.now.menu.now.courses ≤ length (chosen_of summed)
       → IsSearched (offer_asked question) (wanted_in question) summed.node.place (chosen_of summed) [] champion result
       → Searched summed.node.place champion result
   whole_searched champion result full ended =
-      full_to_end offer (wanted_in question) summed.node.place chosen (drop summed.node.place (menu_sections question.menu.now)) champion result full ended
+      full_to_end offer (wanted_in question) summed.node.place chosen (drop summed.node.place (menu_sections question.offer.now.menu.now)) champion result full ended
 
   -- the node is pruned
-  pub lost_searched : (champion : List ℕ) → summed.node.place < length question.menu.now.places
+  pub lost_searched : (champion : List ℕ) → summed.node.place < length question.offer.now.menu.now.places
       → MayPrune (offer_asked question) (wanted_in question) summed.node.place (chosen_of summed) champion → Searched summed.node.place champion champion
   lost_searched champion low may = pruned_here offer (wanted_in question) summed.node.place chosen low champion may
 
@@ -74,8 +74,8 @@ module _ (question : Question) (asked : IsQuestion question) (summed : SummedNod
         → ((k : ℕ) → IsSearched (offer_asked question) (wanted_in question) k (chosen_of summed) [] (chosen_of champion) (chosen_of result))
         → Searched summed.node.place (chosen_of first) (chosen_of result)
     end_searched result none ended =
-        let n : ℕ = length question.menu.now.places in
-        on.same_result (chosen_of result) (elim (cases_lt on.from (length question.menu.now.places)) [
+        let n : ℕ = length question.offer.now.menu.now.places in
+        on.same_result (chosen_of result) (elim (cases_lt on.from (length question.offer.now.menu.now.places)) [
           | inl before ↦
               passed_here offer (wanted_in question) chosen on.from n (omega arith) (omega arith)
               (λ p at below.
@@ -96,11 +96,11 @@ module _ (question : Question) (asked : IsQuestion question) (summed : SummedNod
       pub next_later : summed.node.place ≤ trailing_zeros w64 word
       next_later = let from = on.later in let at = opened.undecided in omega arith
 
-      pub next_on_menu : trailing_zeros w64 word < length question.menu.now.places
+      pub next_on_menu : trailing_zeros w64 word < length question.offer.now.menu.now.places
       next_on_menu = opened.on_menu
 
       -- the word of the places that clash with it
-      pub next_clashes : IsWordOf (Clashes question.menu.now (trailing_zeros w64 word)) (length question.menu.now.places)
+      pub next_clashes : IsWordOf (Clashes question.offer.now.menu.now (trailing_zeros w64 word)) (length question.offer.now.menu.now.places)
           (slice_index question.goods.now.clashes (trailing_zeros w64 word))
       next_clashes = asked.goods.clashes place next_on_menu ((asked.goods.alone place).1 (next_on_menu, opened.alone))
 
@@ -123,16 +123,16 @@ module _ (question : Question) (asked : IsQuestion question) (summed : SummedNod
           from_next (chosen_of champion) (pruned_here offer (wanted_in question) place chosen next_on_menu (chosen_of champion) may)
 
       -- its section is within what is left exactly where it may be taken
-      pub fits_where_takable : IsTakable (offer_asked question) (chosen_of summed ++ section_at question.menu.now.places (trailing_zeros w64 word) ∷ [])
+      pub fits_where_takable : IsTakable (offer_asked question) (chosen_of summed ++ section_at question.offer.now.menu.now.places (trailing_zeros w64 word) ∷ [])
           → (price_at (offer_asked question) (trailing_zeros w64 word) ≤ (offer_asked question).budget - summed.paid)
-          × (credits_at question.menu.now.places (trailing_zeros w64 word) ≤ question.menu.now.credits - summed.credits)
+          × (credits_at question.offer.now.menu.now.places (trailing_zeros w64 word) ≤ question.offer.now.menu.now.credits - summed.credits)
       fits_where_takable takable =
           let at = open_at_where_takable offer asked.menu summed is_summed summed.node.place node place next_later next_on_menu takable in (at.price, at.credits)
 
-      pub takable_where_fits : 1 ≤ question.menu.now.courses - length (chosen_of summed)
+      pub takable_where_fits : 1 ≤ question.offer.now.menu.now.courses - length (chosen_of summed)
           → price_at (offer_asked question) (trailing_zeros w64 word) ≤ (offer_asked question).budget - summed.paid
-          → credits_at question.menu.now.places (trailing_zeros w64 word) ≤ question.menu.now.credits - summed.credits
-          → IsTakable (offer_asked question) (chosen_of summed ++ section_at question.menu.now.places (trailing_zeros w64 word) ∷ [])
+          → credits_at question.offer.now.menu.now.places (trailing_zeros w64 word) ≤ question.offer.now.menu.now.credits - summed.credits
+          → IsTakable (offer_asked question) (chosen_of summed ++ section_at question.offer.now.menu.now.places (trailing_zeros w64 word) ∷ [])
       takable_where_fits courses price credits =
           takable_where_open_at offer asked.menu summed is_summed summed.node.place node place next_later next_on_menu
           record { allowed = allowed_alone offer place opened.alone; price = price; credits = credits; courses = courses; apart = opened.apart }
@@ -144,7 +144,7 @@ module _ (question : Question) (asked : IsQuestion question) (summed : SummedNod
       word_later = word_after offer asked.menu on.from chosen word fits some on.is_word
 
       -- it may not be taken
-      pub shut_goes_on : (IsTakable (offer_asked question) (chosen_of summed ++ section_at question.menu.now.places (trailing_zeros w64 word) ∷ []) → ⊥)
+      pub shut_goes_on : (IsTakable (offer_asked question) (chosen_of summed ++ section_at question.offer.now.menu.now.places (trailing_zeros w64 word) ∷ []) → ⊥)
           → GoesOn question summed first (bit_and word (bit_not w64 (1 * 2 ^ trailing_zeros w64 word % 2 ^ 64))) champion
       shut_goes_on shut = record {
         from = place + 1;
@@ -154,18 +154,18 @@ module _ (question : Question) (asked : IsQuestion question) (summed : SummedNod
         same_result = λ result searched. from_next result (shut_here offer (wanted_in question) place chosen next_on_menu (chosen_of champion) result shut searched);
       }
 
-      module _ (takable : IsTakable (offer_asked question) (chosen_of summed ++ section_at question.menu.now.places (trailing_zeros w64 word) ∷ [])) where
+      module _ (takable : IsTakable (offer_asked question) (chosen_of summed ++ section_at question.offer.now.menu.now.places (trailing_zeros w64 word) ∷ [])) where
         abbrev taken : List ℕ
-        taken = chosen_of summed ++ section_at question.menu.now.places (trailing_zeros w64 word) ∷ []
+        taken = chosen_of summed ++ section_at question.offer.now.menu.now.places (trailing_zeros w64 word) ∷ []
 
         -- the node with it
         pub node_taken : IsNode (offer_asked question) (trailing_zeros w64 word + 1)
-            (chosen_of summed ++ section_at question.menu.now.places (trailing_zeros w64 word) ∷ [])
+            (chosen_of summed ++ section_at question.offer.now.menu.now.places (trailing_zeros w64 word) ∷ [])
         node_taken = node_with offer place chosen asked.menu next_on_menu node_next takable
 
-        pub word_taken : (clashes : ℕ) → clashes < 2 ^ 64 → IsWordOf (Clashes question.menu.now (trailing_zeros w64 word)) (length question.menu.now.places) clashes
+        pub word_taken : (clashes : ℕ) → clashes < 2 ^ 64 → IsWordOf (Clashes question.offer.now.menu.now (trailing_zeros w64 word)) (length question.offer.now.menu.now.places) clashes
             → IsOpenWord (offer_asked question) (trailing_zeros w64 word + 1)
-            (chosen_of summed ++ section_at question.menu.now.places (trailing_zeros w64 word) ∷ [])
+            (chosen_of summed ++ section_at question.offer.now.menu.now.places (trailing_zeros w64 word) ∷ [])
             (bit_and (bit_and word (bit_not w64 (1 * 2 ^ trailing_zeros w64 word % 2 ^ 64))) (bit_not w64 clashes))
         word_taken clashes clashes_fit are =
             word_apart offer asked.menu (place + 1) place chosen next_on_menu cleared clashes (omega (arith, falls)) clashes_fit word_later are
@@ -175,8 +175,8 @@ module _ (question : Question) (asked : IsQuestion question) (summed : SummedNod
 
         module _ (new : SummedNode) (is_new : IsChampion (offer_asked question) new)
             (searched : IsSearched (offer_asked question) (wanted_in question) (trailing_zeros w64 word + 1)
-            (chosen_of summed ++ section_at question.menu.now.places (trailing_zeros w64 word) ∷ [])
-            (drop (trailing_zeros w64 word + 1) (menu_sections question.menu.now)) (chosen_of champion) (chosen_of new)) where
+            (chosen_of summed ++ section_at question.offer.now.menu.now.places (trailing_zeros w64 word) ∷ [])
+            (drop (trailing_zeros w64 word + 1) (menu_sections question.offer.now.menu.now)) (chosen_of champion) (chosen_of new)) where
           open_searched : (result : List ℕ) → Searched (place + 1) (chosen_of new) result → Searched summed.node.place (chosen_of first) result
           open_searched result without =
               from_next result
@@ -196,6 +196,6 @@ module _ (question : Question) (asked : IsQuestion question) (summed : SummedNod
           pub given_searched : question.given ≡ Some (trailing_zeros w64 word) → Searched summed.node.place (chosen_of first) (chosen_of new)
           given_searched given =
               open_searched (chosen_of new)
-              (none_wanted offer (wanted_in question) (place + 1) chosen (drop (place + 1) (menu_sections question.menu.now)) (chosen_of new)
+              (none_wanted offer (wanted_in question) (place + 1) chosen (drop (place + 1) (menu_sections question.offer.now.menu.now)) (chosen_of new)
               (node_without offer place chosen node_next)
               (λ bundle may completes. rw given (lacks_passed offer asked.menu place next_on_menu chosen node_next bundle may completes)))

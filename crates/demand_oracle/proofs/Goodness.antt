@@ -4,10 +4,10 @@ use Rattle.bundle_rules.specs.Sets.{IsAscending}
 use Rattle.bundle_rules.specs.Menus.{wishes_of}
 use Rattle.bundle_rules.specs.Preferences.{IsPreferred}
 use Rattle.bundle_rules.specs.Existence.Orders.{compared, preferred_trans, not_preferred_itself}
-use Rattle.bundle_bounds.specs.Offers.{Offer}
+use Rattle.bundle_bounds.specs.Offers.{OfferData}
 use Rattle.bundle_bounds.specs.Prunings.{IsAsGood}
 
-module _ (offer : Offer) where
+module _ (offer : OfferData) where
   -- what is as good as one that is as good as a third is as good as the third
   pub as_good_trans : (a b c : List ℕ) → IsAsGood offer a b → IsAsGood offer b c → IsAsGood offer a c
   as_good_trans a b c (inl e) k = subst (λ x. IsAsGood offer x c) e k

@@ -14,12 +14,12 @@ use Rattle.bundle_rules.specs.Menus.{MenuData, IsMenu, adjustment_in}
 use Rattle.bundle_rules.specs.Places.{places_from}
 use Rattle.bundle_rules.specs.Existence.Places.{section_at-is}
 use Rattle.bundle_rules.proofs.Tables.{adjustment_in-high, all_pairs}
-use Rattle.bundle_bounds.specs.Offers.{Offer, offer_of, allowed_at}
+use Rattle.bundle_bounds.specs.Offers.{OfferData, offer_of, allowed_at}
 use Rattle.bundle_bounds.specs.Opens.{above_zero}
 use Rattle.demand_oracle.specs.Values.{hope, hopes_from}
 use Rattle.demand_oracle.specs.Reaches.{number_at, HoldsHopes}
 
-module _ (offer : Offer) where
+module _ (offer : OfferData) where
   -- from a place on: with that place, and from the next one on
   pub hopes_step : (k place : ℕ) → k < length offer.menu.places → hopes_from offer k place ≡ hope offer place k + hopes_from offer (k + 1) place
   hopes_step k place low =
@@ -98,7 +98,7 @@ pub row_other : (table : List (List ℕ)) (i j : ℕ) (row : List ℕ) (place : 
 row_other table i j row place other = ap (λ r. slice_index r place) (get_or-set_other table i j row [] other)
 
 -- a table that holds what can be hoped for from the next place on, with the row of a place
-pub holds_more : (offer : Offer) (table : List (List ℕ)) (k : ℕ) (row : List ℕ) → k < length table → HoldsHopes offer table (k + 1)
+pub holds_more : (offer : OfferData) (table : List (List ℕ)) (k : ℕ) (row : List ℕ) → k < length table → HoldsHopes offer table (k + 1)
     → ((place : ℕ) → place < k → slice_index row place ≡ hopes_from offer k place) → HoldsHopes offer (set table k row) k
 holds_more offer table k row low holds is j place from on before =
     elim (cases_order j k) [
@@ -110,12 +110,12 @@ holds_more offer table k row low holds is j place from on before =
     ]
 
 -- a row before those that it holds may be anything
-pub holds_kept : (offer : Offer) (table : List (List ℕ)) (k : ℕ) (row : List ℕ) → HoldsHopes offer table (k + 1) → HoldsHopes offer (set table k row) (k + 1)
+pub holds_kept : (offer : OfferData) (table : List (List ℕ)) (k : ℕ) (row : List ℕ) → HoldsHopes offer table (k + 1) → HoldsHopes offer (set table k row) (k + 1)
 holds_kept offer table k row holds j place from on before =
     row_other table k j row place (λ e. absurd (omega arith)) ∙ holds j place from on before
 
 -- the row past the last place
-pub holds_last : (offer : Offer) (table : List (List ℕ)) (row : List ℕ) → length offer.menu.places < length table → ((place : ℕ) → slice_index row place ≡ 0)
+pub holds_last : (offer : OfferData) (table : List (List ℕ)) (row : List ℕ) → length offer.menu.places < length table → ((place : ℕ) → slice_index row place ≡ 0)
     → HoldsHopes offer (set table (length offer.menu.places) row) (length offer.menu.places)
 holds_last offer table row low zeros j place from on before =
     let same : j ≡ length offer.menu.places = omega arith in

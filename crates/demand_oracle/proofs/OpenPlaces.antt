@@ -11,7 +11,7 @@ use Rattle.bundle_rules.specs.Existence.Members.{has-here, has-there}
 use Rattle.bundle_rules.specs.Menus.{IsMenu, wishes_of, section_at, place_in, clash_in}
 use Rattle.bundle_rules.specs.Places.{menu_sections}
 use Rattle.bundle_rules.proofs.Parts.{choice_part}
-use Rattle.bundle_bounds.specs.Offers.{Offer, places_of, allowed_at}
+use Rattle.bundle_bounds.specs.Offers.{OfferData, places_of, allowed_at}
 use Rattle.bundle_bounds.specs.Opens.{is_apart}
 use Rattle.bundle_bounds.specs.Laws.{IsTakable, IsNode}
 use Rattle.bundle_bounds.specs.Prunings.{MayPrune}
@@ -22,14 +22,14 @@ use Rattle.demand_oracle.specs.Search.{IsSearched}
 use Rattle.demand_oracle.proofs.SummedNodes.{pruned_here, shut_here}
 
 -- a place that is apart from chosen ones with one more
-apart_last : (offer : Offer) (cs : List ℕ) (q p : ℕ) → is_apart offer (cs ++ q ∷ []) p ≡ (is_apart offer cs p && not (clash_in offer.menu.clashes p q))
+apart_last : (offer : OfferData) (cs : List ℕ) (q p : ℕ) → is_apart offer (cs ++ q ∷ []) p ≡ (is_apart offer cs p && not (clash_in offer.menu.clashes p q))
 apart_last offer [] q p = elim (cases_Bool (clash_in offer.menu.clashes p q)) [ inl is ↦ rw is refl | inr not_ ↦ rw not_ refl ]
 apart_last offer (c ∷ cs) q p = elim (cases_Bool (clash_in offer.menu.clashes p c)) [
   | inl is ↦ rw is refl
   | inr not_ ↦ rw not_ (apart_last offer cs q p)
 ]
 
-module _ (offer : Offer) (wanted : List ℕ → Bool) (chosen : List ℕ) where
+module _ (offer : OfferData) (wanted : List ℕ → Bool) (chosen : List ℕ) where
   -- so many places from k on may not be taken, and are passed over
   pass : (k gap : ℕ) → k + gap ≤ length offer.menu.places
       → ((p : ℕ) → k ≤ p → p < k + gap → IsTakable offer (chosen ++ section_at offer.menu.places p ∷ []) → ⊥) → (champion result : List ℕ)
@@ -54,7 +54,7 @@ module _ (offer : Offer) (wanted : List ℕ → Bool) (chosen : List ℕ) where
       pass k (place - k) (omega arith) (λ p at below. shut p at (omega arith)) champion result
       (subst (λ n. IsSearched offer wanted n chosen (drop n (menu_sections offer.menu)) champion result) (sym gap) searched)
 
-module _ (offer : Offer) (menu : IsMenu offer.menu) (k : ℕ) (chosen : List ℕ) (node : IsNode offer k chosen) where
+module _ (offer : OfferData) (menu : IsMenu offer.menu) (k : ℕ) (chosen : List ℕ) (node : IsNode offer k chosen) where
   -- a place whose section may be taken with the chosen ones stays open
   pub open_where_it_fits : (p : ℕ) → k ≤ p → p < length offer.menu.places → IsTakable offer (chosen ++ section_at offer.menu.places p ∷ [])
       → StaysOpen offer k chosen p
@@ -81,10 +81,10 @@ module _ (offer : Offer) (menu : IsMenu offer.menu) (k : ℕ) (chosen : List ℕ
         let set : bit_at word p ≡ 1 = (is p).1 (open_where_it_fits p later on takable) in omega arith
 
 -- the section of a place that may be taken alone is allowed
-pub allowed_alone : (offer : Offer) (p : ℕ) → IsAlone offer p → allowed_at offer p ≡ true
+pub allowed_alone : (offer : OfferData) (p : ℕ) → IsAlone offer p → allowed_at offer p ≡ true
 allowed_alone offer p alone = alone.within (section_at offer.menu.places p) (has-here (section_at offer.menu.places p) [])
 
-module _ (offer : Offer) (menu : IsMenu offer.menu) (k : ℕ) (chosen : List ℕ) (word : ℕ) (fits : word < 2 ^ 64) (some : 0 < word)
+module _ (offer : OfferData) (menu : IsMenu offer.menu) (k : ℕ) (chosen : List ℕ) (word : ℕ) (fits : word < 2 ^ 64) (some : 0 < word)
     (is : IsOpenWord offer k chosen word) where
   abbrev first : ℕ
   first = trailing_zeros w64 word
@@ -148,7 +148,7 @@ module _ (offer : Offer) (menu : IsMenu offer.menu) (k : ℕ) (chosen : List ℕ
   )
 
 -- a node that may be pruned at its next open place is searched
-pub pruned_at_next : (offer : Offer) (menu : IsMenu offer.menu) (wanted : List ℕ → Bool) (k : ℕ) (chosen : List ℕ) → IsNode offer k chosen → (word : ℕ)
+pub pruned_at_next : (offer : OfferData) (menu : IsMenu offer.menu) (wanted : List ℕ → Bool) (k : ℕ) (chosen : List ℕ) → IsNode offer k chosen → (word : ℕ)
     → word < 2 ^ 64 → 0 < word → IsOpenWord offer k chosen word → (champion : List ℕ)
     → MayPrune offer wanted (trailing_zeros w64 word) chosen champion
     → IsSearched offer wanted k chosen (drop k (menu_sections offer.menu)) champion champion
@@ -161,7 +161,7 @@ pruned_at_next offer menu wanted k chosen node word fits some is champion may =
     champion champion
     (pruned_here offer wanted place chosen opened.on_menu champion may)
 
-module _ (offer : Offer) (menu : IsMenu offer.menu) (k place : ℕ) (chosen : List ℕ) (low : place < length offer.menu.places) (word clashes : ℕ)
+module _ (offer : OfferData) (menu : IsMenu offer.menu) (k place : ℕ) (chosen : List ℕ) (low : place < length offer.menu.places) (word clashes : ℕ)
     (fits : word < 2 ^ 64) (clashes_fit : clashes < 2 ^ 64) (is : IsOpenWord offer k chosen word)
     (are : IsWordOf (Clashes offer.menu place) (length offer.menu.places) clashes) where
   apart_now : (p : ℕ) → is_apart offer (places_of offer.menu (chosen ++ section_at offer.menu.places place ∷ [])) p
@@ -217,7 +217,7 @@ module _ (offer : Offer) (menu : IsMenu offer.menu) (k place : ℕ) (chosen : Li
   )
 
 -- at the root each place that may be taken alone is open
-pub word_at_root : (offer : Offer) (word : ℕ) → IsWordOf (IsAlone offer) (length offer.menu.places) word → IsOpenWord offer 0 [] word
+pub word_at_root : (offer : OfferData) (word : ℕ) → IsWordOf (IsAlone offer) (length offer.menu.places) word → IsOpenWord offer 0 [] word
 word_at_root offer word is p = (
   λ set. (let at = (is p).0 set in record { undecided = omega arith; on_menu = at.0; alone = at.1; apart = refl }),
   λ stays. (is p).1 (stays.on_menu, stays.alone),

@@ -8,14 +8,14 @@ use Rattle.bundle_rules.specs.Existence.Members.{has-here, has-there}
 use Rattle.bundle_rules.specs.Wishes.{utility}
 use Rattle.bundle_rules.specs.Menus.{wishes_of, by_place}
 use Rattle.bundle_rules.specs.Existence.Orders.{int_order}
-use Rattle.bundle_bounds.specs.Offers.{Offer, places_of}
+use Rattle.bundle_bounds.specs.Offers.{OfferData, places_of}
 use Rattle.demand_oracle.specs.Values.{hopes_from}
 use Rattle.demand_oracle.specs.Covers.{IsAdded}
 use Rattle.demand_oracle.specs.Reaches.{number_at, HoldsHopes}
 use Rattle.bundle_bounds.specs.Prunings.{MayPrune, ComesFirst}
 
 -- what is compared at a node: what may be added, what is hoped for, both utilities, and what lacks
-pub record IsWeighed (offer : Offer) (k : ℕ) (chosen champion : List ℕ) (added : ℤ) (hopes : ℕ) (u worth lacking : ℤ) : Type 0 where
+pub record IsWeighed (offer : OfferData) (k : ℕ) (chosen champion : List ℕ) (added : ℤ) (hopes : ℕ) (u worth lacking : ℤ) : Type 0 where
   pub is_added : IsAdded offer k chosen added
   pub hopes_are : hopes ≡ total (hopes_from offer k) (places_of offer.menu chosen)
   pub u_is : u ≡ utility (by_place offer.menu) (places_of offer.menu chosen)
@@ -23,7 +23,7 @@ pub record IsWeighed (offer : Offer) (k : ℕ) (chosen champion : List ℕ) (add
   pub lacks : lacking ≡ (worth -ℤ u) -ℤ pos hopes
   pub high : lacking ≤ℤ pos (2 ^ 34)
 
-module _ (offer : Offer) (wanted : List ℕ → Bool) (k : ℕ) (chosen champion : List ℕ) (added : ℤ) (hopes : ℕ) (u worth lacking : ℤ)
+module _ (offer : OfferData) (wanted : List ℕ → Bool) (k : ℕ) (chosen champion : List ℕ) (added : ℤ) (hopes : ℕ) (u worth lacking : ℤ)
     (is : IsWeighed offer k chosen champion added hopes u worth lacking) where
   -- a bundle that completes the node has no more than what is hoped for and added
   most_reached : (bundle : List ℕ)
@@ -66,7 +66,7 @@ module _ (offer : Offer) (wanted : List ℕ → Bool) (k : ℕ) (chosen champion
       ]
 
 -- the hopes that are read from a row are those of the chosen places
-pub hopes_read : (offer : Offer) (table : List (List ℕ)) (k row : ℕ) (cs : List ℕ) → HoldsHopes offer table 0 → row ≡ k → k ≤ length offer.menu.places
+pub hopes_read : (offer : OfferData) (table : List (List ℕ)) (k row : ℕ) (cs : List ℕ) → HoldsHopes offer table 0 → row ≡ k → k ≤ length offer.menu.places
     → ((c : ℕ) → has cs c ≡ true → c < k) → total (number_at table row) cs ≡ total (hopes_from offer k) cs
 hopes_read offer table k row [] holds is on below = refl
 hopes_read offer table k row (c ∷ cs) holds is on below =

@@ -13,7 +13,7 @@ use Rattle.bundle_rules.specs.Existence.Members.{has-here, has-there, has-above,
 use Rattle.bundle_rules.specs.Existence.Fronts.{choice_front}
 use Rattle.bundle_rules.specs.Existence.Extending.{with_or_without, nothing_later}
 use Rattle.bundle_rules.proofs.BestBits.{choice_among}
-use Rattle.bundle_bounds.specs.Offers.{Offer}
+use Rattle.bundle_bounds.specs.Offers.{OfferData}
 use Rattle.bundle_bounds.specs.Laws.{IsTakable, IsNode, Completes}
 use Rattle.bundle_bounds.proofs.NodeFacts.{nothing_chosen}
 use Rattle.bundle_bounds.proofs.Openings.{node_with, node_without}
@@ -72,7 +72,7 @@ has-append_none : (xs ys : List ℕ) (s : ℕ) → (has ys s ≡ true → ⊥) �
 has-append_none [] ys s none = elim (cases_Bool (has ys s)) [ inl is ↦ absurd (none is) | inr not_in ↦ not_in ]
 has-append_none (x ∷ xs) ys s none = rw (has-append_none xs ys s none) refl
 
-module _ (offer : Offer) (menu : IsMenu offer.menu) where
+module _ (offer : OfferData) (menu : IsMenu offer.menu) where
   -- what extends the chosen sections by undecided ones completes them
   extends_completes : (k : ℕ) (chosen bundle : List ℕ) → Extends chosen (drop k (menu_sections offer.menu)) bundle → Completes offer k chosen bundle
   extends_completes k chosen bundle extends place low on =
@@ -191,7 +191,7 @@ module _ (offer : Offer) (menu : IsMenu offer.menu) where
   wanted_at_end wanted champion result = stays_wanted wanted 0 [] (menu_sections offer.menu) champion result
 
 -- what leads all that is wanted, and is wanted, is the best of it
-pub best_of_wanted : (offer : Offer) (wanted : List ℕ → Bool) (bundle : List ℕ) → LeadsWanted offer wanted bundle → wanted bundle ≡ true
+pub best_of_wanted : (offer : OfferData) (wanted : List ℕ → Bool) (bundle : List ℕ) → LeadsWanted offer wanted bundle → wanted bundle ≡ true
     → IsBestOf (wishes_of offer.menu) offer.price offer.budget offer.allowed wanted bundle
 best_of_wanted offer wanted bundle leads fits = record {
   choice = leads.takable;

@@ -12,7 +12,7 @@ use Rattle.bundle_rules.specs.Existence.Members.{has-here}
 use Rattle.bundle_rules.specs.Wishes.{utility}
 use Rattle.bundle_rules.specs.Menus.{IsMenu, by_place, credits_at, place_in, wishes_of}
 use Rattle.bundle_rules.proofs.Feasibility.{utility_by_place}
-use Rattle.bundle_bounds.specs.Offers.{Offer, places_of, price_at}
+use Rattle.bundle_bounds.specs.Offers.{OfferData, places_of, price_at}
 use Rattle.bundle_bounds.specs.Opens.{budget_left, credits_left}
 use Rattle.bundle_bounds.specs.Laws.{IsTakable, IsNode, Completes}
 use Rattle.bundle_bounds.proofs.Gains.{gain, utility-append}
@@ -27,7 +27,7 @@ use Rattle.demand_oracle.specs.Laws.{ReachIsSound, ReachWithinIsSound}
 use Rattle.demand_oracle.proofs.Additions.{rest_from, gain_hoped, most_added_within}
 
 -- the places that complete chosen ones
-pub record AreAdded (offer : Offer) (k : ℕ) (cs ps ds : List ℕ) : Type 0 where
+pub record AreAdded (offer : OfferData) (k : ℕ) (cs ps ds : List ℕ) : Type 0 where
   pub split : ps ≡ cs ++ ds
   pub free : AreApartFrom offer k ds
   pub affordable : total (price_at offer) ds ≤ budget_left offer cs
@@ -38,7 +38,7 @@ pub record AreAdded (offer : Offer) (k : ℕ) (cs ps ds : List ℕ) : Type 0 whe
 rest_of : (whole front more cap : ℕ) → whole ≡ front + more → whole ≤ cap → more ≤ cap - front
 rest_of whole front more cap split fits = omega arith
 
-pub added_places : (offer : Offer) (k : ℕ) (chosen bundle : List ℕ) → IsMenu offer.menu → IsNode offer k chosen → IsTakable offer bundle
+pub added_places : (offer : OfferData) (k : ℕ) (chosen bundle : List ℕ) → IsMenu offer.menu → IsNode offer k chosen → IsTakable offer bundle
     → Completes offer k chosen bundle → (ds : List ℕ) × AreAdded offer k (places_of offer.menu chosen) (places_of offer.menu bundle) ds
 added_places offer k chosen bundle menu node may completes =
     let cs = places_of offer.menu chosen in
@@ -67,7 +67,7 @@ added_places offer k chosen bundle menu node may completes =
     )
 
 -- what is reached by added places
-reached : (offer : Offer) (multipliers : Multipliers) (k most : ℕ) (cs ps ds : List ℕ) → AreAdded offer k cs ps ds → total (value offer multipliers) ds ≤ most
+reached : (offer : OfferData) (multipliers : Multipliers) (k most : ℕ) (cs ps ds : List ℕ) → AreAdded offer k cs ps ds → total (value offer multipliers) ds ≤ most
     → (pos 1000000 *ℤ utility (by_place offer.menu) ps) ≤ℤ reach_of offer multipliers k cs most
 reached offer multipliers k most cs ps ds added covered =
     let w = by_place offer.menu in
@@ -85,7 +85,7 @@ reached offer multipliers k most cs ps ds added covered =
     let goal : (pos 1000000 *ℤ u) ≤ℤ ((pos 1000000 *ℤ (v +ℤ pos h)) +ℤ pos (m + most)) = omega (arith, ints) in goal
 
 -- and by a bundle, where a number covers so many places as it may add
-reached_by : (offer : Offer) (multipliers : Multipliers) (k : ℕ) (chosen bundle : List ℕ) (count most : ℕ) → IsMenu offer.menu → IsNode offer k chosen
+reached_by : (offer : OfferData) (multipliers : Multipliers) (k : ℕ) (chosen bundle : List ℕ) (count most : ℕ) → IsMenu offer.menu → IsNode offer k chosen
     → IsTakable offer bundle → Completes offer k chosen bundle → length bundle ≤ length chosen + count
     →
     ((ds : List ℕ) → AreAdded offer k (places_of offer.menu chosen) (places_of offer.menu bundle) ds → length ds ≤ count
@@ -108,7 +108,7 @@ reach_is_sound offer multipliers k chosen bundle count most menu node may comple
     reached_by offer multipliers k chosen bundle count most menu node may completes few (λ ds added within. covers ds added.free within)
 
 -- where no place more is taken, no more is reached than what is hoped for
-alone_reached : (offer : Offer) (k : ℕ) (cs ds : List ℕ) → length ds ≤ 0 → (pos 1000000 *ℤ utility (by_place offer.menu) (cs ++ ds)) ≤ℤ hoped_of offer k cs
+alone_reached : (offer : OfferData) (k : ℕ) (cs ds : List ℕ) → length ds ≤ 0 → (pos 1000000 *ℤ utility (by_place offer.menu) (cs ++ ds)) ≤ℤ hoped_of offer k cs
 alone_reached offer k cs [] none =
     let u : ℤ = utility (by_place offer.menu) cs in
     let h : ℕ = total (hopes_from offer k) cs in
@@ -116,7 +116,7 @@ alone_reached offer k cs [] none =
     subst (λ ps. (pos 1000000 *ℤ utility (by_place offer.menu) ps) ≤ℤ hoped_of offer k cs) (sym (append-nil cs)) goal
 alone_reached offer k cs (d ∷ ds) none = absurd (omega arith)
 
-pub none_reached : (offer : Offer) (k : ℕ) (chosen bundle : List ℕ) → IsMenu offer.menu → IsNode offer k chosen → IsTakable offer bundle
+pub none_reached : (offer : OfferData) (k : ℕ) (chosen bundle : List ℕ) → IsMenu offer.menu → IsNode offer k chosen → IsTakable offer bundle
     → Completes offer k chosen bundle → length bundle ≤ length chosen
     → (pos 1000000 *ℤ utility (wishes_of offer.menu) bundle) ≤ℤ hoped_of offer k (places_of offer.menu chosen)
 none_reached offer k chosen bundle menu node may completes few =
@@ -132,7 +132,7 @@ none_reached offer k chosen bundle menu node may completes few =
     (alone_reached offer k cs ds none)
 
 -- whole units of places are no more than those of their prices
-units_times : (offer : Offer) (shift : ℕ) (ds : List ℕ) → total (units_at offer shift) ds * 2 ^ shift ≤ total (price_at offer) ds
+units_times : (offer : OfferData) (shift : ℕ) (ds : List ℕ) → total (units_at offer shift) ds * 2 ^ shift ≤ total (price_at offer) ds
 units_times offer shift [] = omega arith
 units_times offer shift (d ∷ ds) =
     let rest = units_times offer shift ds in
@@ -145,7 +145,7 @@ units_times offer shift (d ∷ ds) =
     let split : (cost + costs) * 2 ^ shift ≡ cost * 2 ^ shift + costs * 2 ^ shift = add-mul cost costs (2 ^ shift) in
     rw split (let goal : cost * 2 ^ shift + costs * 2 ^ shift ≤ price + prices = omega arith in goal)
 
-units_fit : (offer : Offer) (shift budget : ℕ) (ds : List ℕ) → total (price_at offer) ds ≤ budget → total (units_at offer shift) ds ≤ budget / 2 ^ shift
+units_fit : (offer : OfferData) (shift budget : ℕ) (ds : List ℕ) → total (price_at offer) ds ≤ budget → total (units_at offer shift) ds ≤ budget / 2 ^ shift
 units_fit offer shift budget ds affordable =
     let costs : ℕ = total (units_at offer shift) ds in
     let prices : ℕ = total (price_at offer) ds in
@@ -160,7 +160,7 @@ reach_within_is_sound offer multipliers shift k chosen bundle count most menu no
     (λ ds added within. covers ds added.free within (units_fit offer shift (budget_left offer (places_of offer.menu chosen)) ds added.affordable))
 
 -- so many places have at least so many times the credits of the lightest
-lightest_times : (offer : Offer) (lightest k : ℕ) (ds : List ℕ) → IsLightest offer lightest → AreApartFrom offer k ds
+lightest_times : (offer : OfferData) (lightest k : ℕ) (ds : List ℕ) → IsLightest offer lightest → AreApartFrom offer k ds
     → length ds * lightest ≤ total (credits_at offer.menu.places) ds
 lightest_times offer lightest k [] light free = omega arith
 lightest_times offer lightest k (d ∷ ds) light free =
@@ -173,7 +173,7 @@ lightest_times offer lightest k (d ∷ ds) light free =
     rw split (let goal : n * lightest + lightest ≤ credits_at offer.menu.places d + t = omega arith in goal)
 
 -- what completes a node has no more sections than fit the course cap and the credits of the lightest
-pub fits_count : (offer : Offer) (k : ℕ) (chosen bundle : List ℕ) (lightest courses credits count : ℕ) → IsMenu offer.menu → IsNode offer k chosen
+pub fits_count : (offer : OfferData) (k : ℕ) (chosen bundle : List ℕ) (lightest courses credits count : ℕ) → IsMenu offer.menu → IsNode offer k chosen
     → IsTakable offer bundle → Completes offer k chosen bundle → IsLightest offer lightest
     → courses ≡ offer.menu.courses - length chosen → credits ≡ credits_left offer (places_of offer.menu chosen)
     → ((n : ℕ) → n ≤ courses → n * lightest ≤ credits → n ≤ count) → length bundle ≤ length chosen + count

@@ -2,26 +2,26 @@
 use Rattle.std.proofs.Common.{◌≡◌, ◌<◌, ◌≤◌, ◌+◌, ◌++◌, ℕ, Bool, List, [], ◌∷◌, length, drop, refl, sym, subst, inl, inr, arith, length-append}
 use Rattle.bundle_rules.specs.Menus.{section_at, wishes_of}
 use Rattle.bundle_rules.specs.Places.{menu_sections}
-use Rattle.bundle_bounds.specs.Offers.{Offer}
+use Rattle.bundle_bounds.specs.Offers.{OfferData}
 use Rattle.bundle_bounds.specs.Laws.{IsTakable}
 use Rattle.bundle_bounds.specs.Prunings.{MayPrune}
 use Rattle.demand_oracle.specs.Search.{IsSearched}
 use Rattle.demand_oracle.proofs.Searching.{next_section, none_undecided}
 
-none_fits : (offer : Offer) (chosen : List ℕ) (s : ℕ) → offer.menu.courses ≤ length chosen → IsTakable offer (chosen ++ s ∷ []) → ⊥
+none_fits : (offer : OfferData) (chosen : List ℕ) (s : ℕ) → offer.menu.courses ≤ length chosen → IsTakable offer (chosen ++ s ∷ []) → ⊥
 unfolding wishes_of
 none_fits offer chosen s full takable =
     let courses : length (chosen ++ s ∷ []) ≤ offer.menu.courses = takable.feasible.courses in
     let count : length (chosen ++ s ∷ []) ≡ length chosen + 1 = length-append chosen (s ∷ []) in omega arith
 
 -- where as many sections are chosen as may be taken, all later places are passed over
-pub full_to_end : (offer : Offer) (wanted : List ℕ → Bool) (k : ℕ) (chosen undecided champion result : List ℕ) → offer.menu.courses ≤ length chosen
+pub full_to_end : (offer : OfferData) (wanted : List ℕ → Bool) (k : ℕ) (chosen undecided champion result : List ℕ) → offer.menu.courses ≤ length chosen
     → IsSearched offer wanted k chosen [] champion result → IsSearched offer wanted k chosen undecided champion result
 full_to_end offer wanted k chosen [] champion result full ended = ended
 full_to_end offer wanted k chosen (s ∷ undecided) champion result full ended =
     inr (inr (none_fits offer chosen s full, full_to_end offer wanted (k + 1) chosen undecided champion result full ended))
 
-module _ (offer : Offer) (wanted : List ℕ → Bool) (k : ℕ) (chosen : List ℕ) where
+module _ (offer : OfferData) (wanted : List ℕ → Bool) (k : ℕ) (chosen : List ℕ) where
   -- all places are decided
   pub ended_here : (champion result : List ℕ) → length offer.menu.places ≤ k → IsSearched offer wanted k chosen [] champion result
       → IsSearched offer wanted k chosen (drop k (menu_sections offer.menu)) champion result

@@ -7,14 +7,14 @@ use Rattle.bundle_rules.specs.Menus.{IsMenu, wishes_of, section_at, place_in}
 use Rattle.bundle_rules.specs.Existence.Places.{section_at-place_in}
 use Rattle.bundle_rules.proofs.Parts.{IsPart, choice_part}
 use Rattle.bundle_rules.proofs.PlacesFirst.{section_at-rises}
-use Rattle.bundle_bounds.specs.Offers.{Offer}
+use Rattle.bundle_bounds.specs.Offers.{OfferData}
 use Rattle.bundle_bounds.specs.Laws.{IsTakable, IsNode, Completes}
 use Rattle.bundle_bounds.specs.Prunings.{MayPrune}
 use Rattle.bundle_bounds.proofs.ByPlace.{on_menu, place_in-section_at}
 use Rattle.bundle_bounds.proofs.Openings.{has-last, ascending-last}
 use Rattle.demand_oracle.specs.Search.{IsSearched}
 
-module _ (offer : Offer) (wanted : List ℕ → Bool) where
+module _ (offer : OfferData) (wanted : List ℕ → Bool) where
   -- such a node changes no champion
   pub none_wanted : (k : ℕ) (chosen undecided champion : List ℕ) → IsNode offer k chosen
       → ((bundle : List ℕ) → IsTakable offer bundle → Completes offer k chosen bundle → wanted bundle ≡ false)
@@ -23,7 +23,7 @@ module _ (offer : Offer) (wanted : List ℕ → Bool) where
   none_wanted k chosen (s ∷ undecided) champion node none =
       inl ((λ bundle may is_wanted completes. absurd (true≢false (sym is_wanted ∙ none bundle may completes))), refl)
 
-module _ (offer : Offer) (menu : IsMenu offer.menu) (place : ℕ) (on : place < length offer.menu.places) where
+module _ (offer : OfferData) (menu : IsMenu offer.menu) (place : ℕ) (on : place < length offer.menu.places) where
   -- what does without a place lacks its section
   pub lacks_passed : (chosen : List ℕ) → IsNode offer place chosen → (bundle : List ℕ) → IsTakable offer bundle → Completes offer (place + 1) chosen bundle
       → has bundle (section_at offer.menu.places place) ≡ false

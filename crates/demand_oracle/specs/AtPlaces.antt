@@ -2,13 +2,13 @@
 use Rattle.std.specs.Prelude.{ℕ, ◌<◌, ◌≡◌, length, slice_index}
 use Rattle.std.specs.Int.{bit_at}
 use Rattle.bundle_rules.specs.Menus.{credits_at}
-use Rattle.bundle_bounds.specs.Offers.{Offer, price_at}
+use Rattle.bundle_bounds.specs.Offers.{OfferData, price_at}
 use Rattle.demand_oracle.specs.declared.goods.Goods.{Goods}
 use Rattle.demand_oracle.specs.OpenWords.{IsWordOf, Clashes, IsAlone}
 
 -- the price and the credits of each place, the places that may be taken alone, and the clashes of
 -- each of these
-pub record IsGoods (offer : Offer) (goods : Goods) : Type 0 where
+pub record IsGoods (offer : OfferData) (goods : Goods) : Type 0 where
   pub prices : (p : ℕ) → p < length offer.menu.places
       → slice_index goods.prices p ≡ price_at offer p
   pub credits : (p : ℕ) → p < length offer.menu.places

@@ -1,7 +1,7 @@
 -- What is looked up at each place where the same sections are chosen.
 use Rattle.std.specs.Prelude.{ℕ, List, ◌+◌, ◌*◌, ◌-◌, ◌/◌, ◌^◌, ◌≤◌, ◌≡◌, ◌⊎◌, length}
 use Rattle.bundle_rules.specs.Menus.{MenuData}
-use Rattle.bundle_bounds.specs.Offers.{Offer, places_of}
+use Rattle.bundle_bounds.specs.Offers.{OfferData, places_of}
 use Rattle.bundle_bounds.specs.Opens.{budget_left, credits_left}
 use Rattle.demand_oracle.specs.declared.summed_node.SummedNode.{SummedNode}
 use Rattle.demand_oracle.specs.declared.reach.Reach.{Reach}
@@ -30,7 +30,7 @@ IsColumn menu budget reach summed column =
     (menu.credits - summed.credits) column
 
 -- the column of a node, by what its sections leave
-abbrev pub IsColumnAt : Offer → Reach → List ℕ → Column → Type 0
+abbrev pub IsColumnAt : OfferData → Reach → List ℕ → Column → Type 0
 IsColumnAt offer reach chosen column =
     IsColumnFor reach (offer.menu.courses - length chosen)
     (budget_left offer (places_of offer.menu chosen))

@@ -3,7 +3,7 @@ use Rattle.std.specs.Prelude.{ℕ, ◌≡◌, Bool, true, List, [], ◌+◌, ◌
 use Rattle.bundle_rules.specs.Menus.{IsMenu, wishes_of}
 use Rattle.bundle_rules.specs.Given.{IsBestOf}
 use Rattle.bundle_rules.specs.Places.{menu_sections}
-use Rattle.bundle_bounds.specs.Offers.{Offer, places_of}
+use Rattle.bundle_bounds.specs.Offers.{OfferData, places_of}
 use Rattle.bundle_bounds.specs.Laws.{IsTakable, IsNode, Completes}
 use Rattle.demand_oracle.specs.Search.{IsSearched}
 use Rattle.bundle_rules.specs.Wishes.{utility}
@@ -15,7 +15,7 @@ use Rattle.demand_oracle.specs.Covers.{Covers, CoversWithin, reach_of}
 -- wanted bundles
 abbrev pub SearchFindsTheBest : Type 0
 SearchFindsTheBest =
-    (offer : Offer) (wanted : List ℕ → Bool) (champion result : List ℕ) → IsMenu offer.menu
+    (offer : OfferData) (wanted : List ℕ → Bool) (champion result : List ℕ) → IsMenu offer.menu
     → IsTakable offer champion → wanted champion ≡ true
     → IsSearched offer wanted 0 [] (menu_sections offer.menu) champion result
     → IsBestOf (wishes_of offer.menu) offer.price offer.budget offer.allowed wanted result
@@ -24,7 +24,8 @@ SearchFindsTheBest =
 -- most so many sections is no more than what can be reached from the node
 abbrev pub ReachIsSound : Type 0
 ReachIsSound =
-    (offer : Offer) (multipliers : Multipliers) (k : ℕ) (chosen bundle : List ℕ) (count most : ℕ)
+    (offer : OfferData) (multipliers : Multipliers) (k : ℕ) (chosen bundle : List ℕ)
+    (count most : ℕ)
     → IsMenu offer.menu → IsNode offer k chosen
     → IsTakable offer bundle → Completes offer k chosen bundle
     → length bundle ≤ length chosen + count → Covers offer multipliers k count most
@@ -35,7 +36,7 @@ ReachIsSound =
 -- thousandths
 abbrev pub ReachWithinIsSound : Type 0
 ReachWithinIsSound =
-    (offer : Offer) (multipliers : Multipliers) (shift k : ℕ) (chosen bundle : List ℕ)
+    (offer : OfferData) (multipliers : Multipliers) (shift k : ℕ) (chosen bundle : List ℕ)
     (count most : ℕ)
     → IsMenu offer.menu → IsNode offer k chosen
     → IsTakable offer bundle → Completes offer k chosen bundle

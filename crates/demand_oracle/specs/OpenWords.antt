@@ -2,7 +2,7 @@
 use Rattle.std.specs.Prelude.{ℕ, ◌<◌, ◌≤◌, ◌≡◌, ◌↔◌, true, List, [], ◌∷◌, length}
 use Rattle.std.specs.Int.{bit_at}
 use Rattle.bundle_rules.specs.Menus.{MenuData, section_at, clash_in}
-use Rattle.bundle_bounds.specs.Offers.{Offer, places_of}
+use Rattle.bundle_bounds.specs.Offers.{OfferData, places_of}
 use Rattle.bundle_bounds.specs.Opens.{is_apart}
 use Rattle.bundle_bounds.specs.Laws.{IsTakable}
 
@@ -15,16 +15,16 @@ abbrev pub Clashes : MenuData → ℕ → ℕ → Type 0
 Clashes menu other p = clash_in menu.clashes p other ≡ true
 
 -- the section of a place may be taken alone
-abbrev pub IsAlone : Offer → ℕ → Type 0
+abbrev pub IsAlone : OfferData → ℕ → Type 0
 IsAlone offer p = IsTakable offer (section_at offer.menu.places p ∷ [])
 
 -- a place from k on whose section may be taken alone, and that clashes with no chosen one
-pub record StaysOpen (offer : Offer) (k : ℕ) (chosen : List ℕ) (p : ℕ) : Type 0 where
+pub record StaysOpen (offer : OfferData) (k : ℕ) (chosen : List ℕ) (p : ℕ) : Type 0 where
   pub undecided : k ≤ p
   pub on_menu : p < length offer.menu.places
   pub alone : IsAlone offer p
   pub apart : is_apart offer (places_of offer.menu chosen) p ≡ true
 
 -- a word has these places, and no others
-abbrev pub IsOpenWord : Offer → ℕ → List ℕ → ℕ → Type 0
+abbrev pub IsOpenWord : OfferData → ℕ → List ℕ → ℕ → Type 0
 IsOpenWord offer k chosen word = (p : ℕ) → (bit_at word p ≡ 1) ↔ StaysOpen offer k chosen p

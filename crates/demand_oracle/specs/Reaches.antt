@@ -2,7 +2,7 @@
 use Rattle.std.specs.Prelude.{ℕ, ◌*◌, ◌+◌, ◌-◌, ◌≤◌, ◌<◌, ◌≡◌, max, true, List, [], length, slice_index, slice_index_or}
 use Rattle.market_units.specs.declared.limits.TheConstants.{MAX_COURSES}
 use Rattle.bundle_rules.specs.Menus.{credits_at}
-use Rattle.bundle_bounds.specs.Offers.{Offer, allowed_at}
+use Rattle.bundle_bounds.specs.Offers.{OfferData, allowed_at}
 use Rattle.demand_oracle.specs.declared.multipliers.Multipliers.{Multipliers}
 use Rattle.demand_oracle.specs.declared.reach.Reach.{Reach}
 use Rattle.demand_oracle.specs.Values.{hopes_from}
@@ -14,7 +14,7 @@ number_at table row place = slice_index (slice_index_or table row []) place
 
 -- each row from this one on has what the adjustments of earlier places with the places from the
 -- row's on can add
-abbrev pub HoldsHopes : Offer → List (List ℕ) → ℕ → Type 0
+abbrev pub HoldsHopes : OfferData → List (List ℕ) → ℕ → Type 0
 HoldsHopes offer table from =
     (k place : ℕ) → from ≤ k → k ≤ length offer.menu.places → place < k
     → number_at table k place ≡ hopes_from offer k place
@@ -25,7 +25,7 @@ within_at table place count units = number_at table (place * 9 + count) units
 
 -- from this place on the table has for each count up to the course cap, and for each number of
 -- units, one that covers so many places from there on
-abbrev pub HoldsCovers : Offer → Multipliers → ℕ → List (List ℕ) → ℕ → Type 0
+abbrev pub HoldsCovers : OfferData → Multipliers → ℕ → List (List ℕ) → ℕ → Type 0
 HoldsCovers offer multipliers shift table from =
     (k count units : ℕ) → from ≤ k → k ≤ length offer.menu.places → count ≤ offer.menu.courses
     → units < 64
@@ -52,13 +52,13 @@ pub record IsPlaced (courses v cost k next : ℕ) (old new : List (List ℕ)) : 
       → within_at new j count units ≡ within_at old j count units
 
 -- no allowed place has fewer credits
-abbrev pub IsLightest : Offer → ℕ → Type 0
+abbrev pub IsLightest : OfferData → ℕ → Type 0
 IsLightest offer lightest =
     (place : ℕ) → place < length offer.menu.places → allowed_at offer place ≡ true
     → lightest ≤ credits_at offer.menu.places place
 
 -- the table is that of the offer
-pub record IsReach (offer : Offer) (reach : Reach) : Type 0 where
+pub record IsReach (offer : OfferData) (reach : Reach) : Type 0 where
   pub lightest : IsLightest offer reach.lightest
   pub hopes : HoldsHopes offer reach.hopes 0
   pub covers : HoldsCovers offer reach.credits reach.shift reach.most 0

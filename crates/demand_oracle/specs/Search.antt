@@ -5,7 +5,7 @@ use Rattle.market_units.specs.Members.{has}
 use Rattle.bundle_rules.specs.Wishes.{Wishes}
 use Rattle.bundle_rules.specs.Menus.{MenuData, wishes_of, section_at}
 use Rattle.bundle_rules.specs.Preferences.{IsPreferred}
-use Rattle.bundle_bounds.specs.Offers.{Offer}
+use Rattle.bundle_bounds.specs.Offers.{OfferData}
 use Rattle.bundle_bounds.specs.Laws.{IsTakable}
 use Rattle.bundle_bounds.specs.Prunings.{IsAsGood, MayPrune}
 
@@ -22,7 +22,7 @@ IsBetter wishes wanted chosen champion = (wanted chosen ≡ true) × IsPreferred
 -- Where none is, it is the better of the chosen sections and the champion. Where the node may be
 -- pruned, the champion may stay as it is; else the search goes on with the next section, if it may
 -- be taken, and then without it.
-abbrev pub IsSearched : Offer → (List ℕ → Bool) → ℕ → List ℕ → List ℕ → List ℕ → List ℕ → Type 0
+abbrev pub IsSearched : OfferData → (List ℕ → Bool) → ℕ → List ℕ → List ℕ → List ℕ → List ℕ → Type 0
 IsSearched offer wanted k chosen [] champion result =
     (IsBetter (wishes_of offer.menu) wanted chosen champion × (result ≡ chosen))
     ⊎ ((¬ IsBetter (wishes_of offer.menu) wanted chosen champion) × (result ≡ champion))
@@ -32,7 +32,7 @@ IsSearched offer wanted k chosen (s ∷ undecided) champion result =
     ⊎ ((¬ IsTakable offer (chosen ++ s ∷ [])) × IsSearched offer wanted (k + 1) chosen undecided champion result))
 
 -- a bundle that may be taken, and is as good as every wanted one that may be
-pub record LeadsWanted (offer : Offer) (wanted : List ℕ → Bool) (bundle : List ℕ) : Type 0 where
+pub record LeadsWanted (offer : OfferData) (wanted : List ℕ → Bool) (bundle : List ℕ) : Type 0 where
   pub takable : IsTakable offer bundle
   pub over : (other : List ℕ) → IsTakable offer other → wanted other ≡ true
       → IsAsGood offer bundle other

@@ -6,7 +6,7 @@ use Rattle.market_units.specs.Members.{has}
 use Rattle.bundle_rules.specs.Bundles.{sections_of}
 use Rattle.bundle_rules.specs.Wishes.{AllRated, utility}
 use Rattle.bundle_rules.specs.Menus.{MenuData, wishes_of, place_in, section_at}
-use Rattle.bundle_bounds.specs.Offers.{places_of}
+use Rattle.bundle_bounds.specs.Offers.{OfferData, places_of}
 use Rattle.demand_oracle.specs.declared.summed_node.SummedNode.{SummedNode}
 
 -- the sections that a node has chosen
@@ -38,3 +38,7 @@ pub record IsSummed (menu : MenuData) (price : ℕ → ℕ) (summed : SummedNode
   pub credits : summed.credits ≡ total (wishes_of menu).credits (chosen_of summed)
   pub utility : summed.utility ≡ utility (wishes_of menu) (chosen_of summed)
   pub small : AreSmallSums (length (chosen_of summed)) summed.paid summed.credits summed.utility
+
+-- the same at the prices of an offer
+abbrev pub IsSummedOf : OfferData → SummedNode → Type 0
+IsSummedOf offer summed = IsSummed offer.menu offer.price summed

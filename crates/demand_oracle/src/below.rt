@@ -13,7 +13,7 @@ ghost use Rattle.demand_oracle.specs.Columns.{IsColumnAt};
 ghost use Rattle.demand_oracle.specs.OpenWords.{IsOpenWord};
 ghost use Rattle.demand_oracle.specs.Questions.{IsQuestion, offer_asked, wanted_in};
 ghost use Rattle.demand_oracle.specs.Search.{wanted_by, IsBetter, IsSearched};
-ghost use Rattle.demand_oracle.specs.SummedNodes.{chosen_of, with_place_of, IsSummed};
+ghost use Rattle.demand_oracle.specs.SummedNodes.{chosen_of, with_place_of, IsSummed, IsSummedOf};
 
 use crate::question::Question;
 use crate::reach::{Column, is_below, lacking};
@@ -30,7 +30,7 @@ pub(crate) fn below(
     champion: &mut SummedNode,
 ) -> u64
     requires question { IsQuestion question.now }
-    requires summed { IsSummed question.now.menu.now (offer_asked question.now).price summed.now }
+    requires summed { IsSummedOf (offer_asked question.now) summed.now }
     requires node { IsNode (offer_asked question.now) summed.now.node.place (chosen_of summed.now) }
     requires word { IsOpenWord (offer_asked question.now) summed.now.node.place
         (chosen_of summed.now) word }
@@ -38,10 +38,10 @@ pub(crate) fn below(
     ensures champion { IsChampion (offer_asked question.now) champion.new }
     ensures searched { IsSearched (offer_asked question.now) (wanted_in question.now)
         summed.now.node.place (chosen_of summed.now)
-        (drop summed.now.node.place (menu_sections question.now.menu.now))
+        (drop summed.now.node.place (menu_sections (offer_asked question.now).menu))
         (chosen_of champion.old) (chosen_of champion.new) }
 {
-    let menu = question.menu;
+    let menu = question.offer.menu;
     let reach = question.reach;
     if summed.courses_left(menu) == 0 {
         put_better(menu, question.given, summed, champion);
@@ -50,7 +50,7 @@ pub(crate) fn below(
     if is_lost(question, summed, word) {
         return 0;
     }
-    let column = reach.column(menu, question.budget, summed);
+    let column = reach.column(menu, question.offer.budget, summed);
     let mut opened = 0u64;
     let mut left = word;
     'places: while left != 0 {
@@ -67,7 +67,7 @@ pub(crate) fn below(
         if falls_short(question, summed, place, apart, champion) {
             continue;
         }
-        let with_it = summed.with_place(menu, question.prices, place);
+        let with_it = summed.with_place(question.offer, place);
         opened = opened.saturating_add(below(question, &with_it, apart, champion));
         if is_given(question.given, place) {
             return opened;
@@ -82,17 +82,18 @@ pub(crate) fn below(
 #[inline(always)]
 fn fits(question: &Question, summed: &SummedNode, place: u8) -> bool
     requires { place < MAX_RATINGS }
-    ensures { IsQuestion question.now → place < length question.now.menu.now.places
+    ensures { IsQuestion question.now → place < length (offer_asked question.now).menu.places
         → IsTrue result
-        ↔ ((price_at (offer_asked question.now) place ≤ question.now.budget.0 - summed.now.paid)
-        × (credits_at question.now.menu.now.places place
-        ≤ question.now.menu.now.credits - summed.now.credits)) }
+        ↔ ((price_at (offer_asked question.now) place
+        ≤ (offer_asked question.now).budget - summed.now.paid)
+        × (credits_at (offer_asked question.now).menu.places place
+        ≤ (offer_asked question.now).menu.credits - summed.now.credits)) }
 {
     let at = usize::from(place);
-    if question.goods.prices[at] > summed.budget_left(question.budget) {
+    if question.goods.prices[at] > summed.budget_left(question.offer.budget) {
         return false;
     }
-    u32::from(question.goods.credits[at]) <= summed.credits_left(question.menu)
+    u32::from(question.goods.credits[at]) <= summed.credits_left(question.offer.menu)
 }
 
 // Whether it is plain that nothing with the section of an open place is better than the champion,
@@ -108,18 +109,18 @@ fn falls_short(
     champion: &SummedNode,
 ) -> bool
     requires question { IsQuestion question.now }
-    requires summed { IsSummed question.now.menu.now (offer_asked question.now).price summed.now }
+    requires summed { IsSummedOf (offer_asked question.now) summed.now }
     requires undecided { summed.now.node.place ≤ place }
-    requires on_menu { place < length question.now.menu.now.places }
+    requires on_menu { place < length (offer_asked question.now).menu.places }
     requires node { IsNode (offer_asked question.now) (place + 1)
-        (with_place_of question.now.menu.now summed.now place) }
+        (with_place_of (offer_asked question.now).menu summed.now place) }
     requires word { IsOpenWord (offer_asked question.now) (place + 1)
-        (with_place_of question.now.menu.now summed.now place) apart }
+        (with_place_of (offer_asked question.now).menu summed.now place) apart }
     requires champion { IsChampion (offer_asked question.now) champion.now }
     ensures { IsTrue result
         → IsSearched (offer_asked question.now) (wanted_in question.now) (place + 1)
-        (with_place_of question.now.menu.now summed.now place)
-        (drop (place + 1) (menu_sections question.now.menu.now))
+        (with_place_of (offer_asked question.now).menu summed.now place)
+        (drop (place + 1) (menu_sections (offer_asked question.now).menu))
         (chosen_of champion.now) (chosen_of champion.now) }
 {
     if apart == 0 {
@@ -132,7 +133,7 @@ fn falls_short(
     let next = apart.trailing_zeros() as u8;
     let column = column_with(question, summed, place);
     let added = reach.added(&column, next);
-    let utility = summed.utility_with(question.menu, place);
+    let utility = summed.utility_with(question.offer.menu, place);
     // Adjustments can only add, so they are looked up where the rest is too little.
     if !is_below(added, lacking(champion.utility(), utility, 0)) {
         return false;
@@ -145,19 +146,19 @@ fn falls_short(
 #[inline(always)]
 fn column_with(question: &Question, summed: &SummedNode, place: u8) -> Column
     requires question { IsQuestion question.now }
-    requires summed { IsSummed question.now.menu.now (offer_asked question.now).price summed.now }
+    requires summed { IsSummedOf (offer_asked question.now) summed.now }
     requires undecided { summed.now.node.place ≤ place }
-    requires on_menu { place < length question.now.menu.now.places }
+    requires on_menu { place < length (offer_asked question.now).menu.places }
     requires takable { IsTakable (offer_asked question.now)
-        (with_place_of question.now.menu.now summed.now place) }
+        (with_place_of (offer_asked question.now).menu summed.now place) }
     ensures { IsColumnAt (offer_asked question.now) question.now.reach.now
-        (with_place_of question.now.menu.now summed.now place) result }
+        (with_place_of (offer_asked question.now).menu summed.now place) result }
 {
     let at = usize::from(place);
-    let budget_left = summed.budget_left(question.budget);
-    let credits_left = summed.credits_left(question.menu);
+    let budget_left = summed.budget_left(question.offer.budget);
+    let credits_left = summed.credits_left(question.offer.menu);
     question.reach.column_for(
-        summed.courses_left(question.menu).saturating_sub(1),
+        summed.courses_left(question.offer.menu).saturating_sub(1),
         budget_left.saturating_sub(question.goods.prices[at]),
         credits_left.saturating_sub(u32::from(question.goods.credits[at])),
     )
@@ -168,12 +169,12 @@ fn column_with(question: &Question, summed: &SummedNode, place: u8) -> Column
 #[inline(always)]
 fn is_lost(question: &Question, summed: &SummedNode, word: u64) -> bool
     requires question { IsQuestion question.now }
-    requires summed { IsSummed question.now.menu.now (offer_asked question.now).price summed.now }
+    requires summed { IsSummedOf (offer_asked question.now) summed.now }
     requires node { IsNode (offer_asked question.now) summed.now.node.place (chosen_of summed.now) }
     requires word { IsOpenWord (offer_asked question.now) summed.now.node.place
         (chosen_of summed.now) word }
     ensures undecided { IsTrue result
-        → summed.now.node.place < length question.now.menu.now.places }
+        → summed.now.node.place < length (offer_asked question.now).menu.places }
     ensures lost { (champion : List ℕ) → IsTrue result
         → MayPrune (offer_asked question.now) (wanted_in question.now) summed.now.node.place
         (chosen_of summed.now) champion }

@@ -1,14 +1,12 @@
 // A choice of places to begin a search with, made by what each place adds for what it takes. Any
 // choice is right: a good one only makes the search short.
 ghost use Rattle.std.specs.Prelude.{◌≡◌, ◌<◌, length, IfSome};
-ghost use Rattle.bundle_rules.specs.Demand.{HasPrices};
 ghost use Rattle.bundle_rules.specs.Menus.{IsMenu};
 
 use crate::multipliers::Multipliers;
 use crate::tables::{MILLION, PLACES};
-use bundle_bounds::price_of_place;
-use bundle_rules::Menu;
-use market_units::{MAX_RATINGS, SectionSet, Tokens};
+use bundle_bounds::{Offer, price_of_place};
+use market_units::MAX_RATINGS;
 
 // The places that are chosen so far, and what they leave.
 #[derive(Clone, Copy)]
@@ -28,45 +26,30 @@ impl Draft {
     /// As many places as the course cap allows, or fewer where no more fit: each the one that adds
     /// most to those before it, less what its price and its credits are counted for, of those that
     /// fit.
-    pub(crate) fn of(
-        menu: &Menu,
-        prices: &[Tokens],
-        budget: Tokens,
-        allowed: &SectionSet,
-        multipliers: Multipliers,
-    ) -> Draft
-        requires { HasPrices menu.now prices.now }
-    {
-        let mut draft = Draft::begun(menu, prices, budget, allowed, multipliers);
-        for _ in 0..menu.courses() {
-            let Some(place) = draft.best(menu, prices) else {
+    pub(crate) fn of(offer: &Offer, multipliers: Multipliers) -> Draft {
+        let mut draft = Draft::begun(offer, multipliers);
+        for _ in 0..offer.menu.courses() {
+            let Some(place) = draft.best(offer) else {
                 return draft;
             };
-            draft.choose(menu, prices, place);
+            draft.choose(offer, place);
         }
         draft
     }
 
     // The draft without places.
-    fn begun(
-        menu: &Menu,
-        prices: &[Tokens],
-        budget: Tokens,
-        allowed: &SectionSet,
-        multipliers: Multipliers,
-    ) -> Draft
-        requires { HasPrices menu.now prices.now }
-    {
+    fn begun(offer: &Offer, multipliers: Multipliers) -> Draft {
+        let menu = offer.menu;
         let mut draft = Draft {
             chosen: 0,
             shut: 0,
-            budget: budget.0,
+            budget: offer.budget.0,
             credits: u32::from(menu.credits()),
             worth: [0; PLACES],
         };
         for place in 0..menu.len() {
-            draft.worth[usize::from(place)] = worth_of(menu, prices, multipliers, place);
-            draft.shut |= u64::from(!allowed.has(menu.rated(place).section)) << place;
+            draft.worth[usize::from(place)] = worth_of(offer, multipliers, place);
+            draft.shut |= u64::from(!offer.allowed.has(menu.rated(place).section)) << place;
         }
         draft
     }
@@ -79,14 +62,14 @@ impl Draft {
     }
 
     // The place that adds most, of those that fit.
-    fn best(&self, menu: &Menu, prices: &[Tokens]) -> Option<u8>
-        requires { HasPrices menu.now prices.now }
-        ensures { IfSome result (λ place. place < length menu.now.places) }
+    fn best(&self, offer: &Offer) -> Option<u8>
+        ensures { IfSome result (λ place. place < length offer.now.menu.now.places) }
     {
+        let menu = offer.menu;
         let mut best = menu.len();
         let mut most = i64::MIN;
         for place in 0..menu.len() {
-            let worth = self.worth_if_it_fits(menu, prices, place);
+            let worth = self.worth_if_it_fits(offer, place);
             if worth > most {
                 most = worth;
                 best = place;
@@ -96,15 +79,15 @@ impl Draft {
     }
 
     // What a place adds, or the least number where it does not fit.
-    fn worth_if_it_fits(&self, menu: &Menu, prices: &[Tokens], place: u8) -> i64
-        requires prices { HasPrices menu.now prices.now }
-        requires place { place < length menu.now.places }
-        requires menu { IsMenu menu.now }
+    fn worth_if_it_fits(&self, offer: &Offer, place: u8) -> i64
+        requires place { place < length offer.now.menu.now.places }
+        requires menu { IsMenu offer.now.menu.now }
     {
+        let menu = offer.menu;
         if (self.shut >> place) & 1 == 1 {
             return i64::MIN;
         }
-        if price_of_place(menu, prices, place) > self.budget {
+        if price_of_place(menu, offer.prices, place) > self.budget {
             return i64::MIN;
         }
         if u32::from(menu.rated(place).credits) > self.credits {
@@ -114,16 +97,16 @@ impl Draft {
     }
 
     // Chooses one more place.
-    fn choose(&mut self, menu: &Menu, prices: &[Tokens], place: u8)
-        requires prices { HasPrices menu.now prices.now }
-        requires place { place < length menu.now.places }
+    fn choose(&mut self, offer: &Offer, place: u8)
+        requires place { place < length offer.now.menu.now.places }
     {
+        let menu = offer.menu;
         prove!(place < menu.len());
         self.chosen |= 1 << place;
         self.shut |= 1 << place;
         self.budget = self
             .budget
-            .saturating_sub(price_of_place(menu, prices, place));
+            .saturating_sub(price_of_place(menu, offer.prices, place));
         self.credits = self
             .credits
             .saturating_sub(u32::from(menu.rated(place).credits));
@@ -136,13 +119,13 @@ impl Draft {
 }
 
 // A million times the rating of a place, less what its price and its credits are counted for.
-fn worth_of(menu: &Menu, prices: &[Tokens], multipliers: Multipliers, place: u8) -> i64
-    requires prices { HasPrices menu.now prices.now }
-    requires place { place < length menu.now.places }
-    requires menu { IsMenu menu.now }
+fn worth_of(offer: &Offer, multipliers: Multipliers, place: u8) -> i64
+    requires place { place < length offer.now.menu.now.places }
+    requires menu { IsMenu offer.now.menu.now }
 {
+    let menu = offer.menu;
     let rated = menu.rated(place);
-    let price = multipliers.money * u64::from(price_of_place(menu, prices, place));
+    let price = multipliers.money * u64::from(price_of_place(menu, offer.prices, place));
     let credits = multipliers.credits * u64::from(rated.credits);
     let worth = MILLION as i64 * i64::from(rated.rating);
     worth.wrapping_sub((price + credits) as i64)

@@ -2,16 +2,15 @@
 // clashes with, and whether it may be taken alone.
 ghost use Rattle.std.specs.Prelude.{◌≡◌, ◌<◌, ◌↔◌, ◌⊎◌, ℕ, true, length, slice_index};
 ghost use Rattle.std.specs.Int.{bit_at};
-ghost use Rattle.bundle_rules.specs.Demand.{price_in, HasPrices};
+ghost use Rattle.bundle_rules.specs.Demand.{price_in};
 ghost use Rattle.bundle_rules.specs.Menus.{credits_at, section_at, IsMenu};
-ghost use Rattle.bundle_bounds.specs.Offers.{offer_of};
+ghost use Rattle.bundle_bounds.specs.Views.{data_of};
 ghost use Rattle.demand_oracle.specs.OpenWords.{IsWordOf, Clashes, IsAlone};
 
 use crate::summed_node::SummedNode;
 use crate::tables::PLACES;
-use bundle_bounds::price_of_place;
+use bundle_bounds::{Offer, price_of_place};
 use bundle_rules::Menu;
-use market_units::{SectionSet, Tokens};
 
 // Rows by place, so that a search reads one number where it asks one thing. Bit q of a word stands
 // for place q.
@@ -30,14 +29,14 @@ impl Goods {
     ghost use Rattle.demand_oracle.specs.AtPlaces.{IsGoods};
 
     /// The goods of a menu at these prices, with this budget and these allowed sections.
-    pub(crate) fn of(menu: &Menu, prices: &[Tokens], budget: Tokens, allowed: &SectionSet) -> Goods
-        requires { HasPrices menu.now prices.now }
-        ensures goods { IsGoods (offer_of menu.now prices.now budget.0 allowed.now) result }
-        ensures menu { IsMenu menu.now }
+    pub(crate) fn of(offer: &Offer) -> Goods
+        ensures goods { IsGoods (data_of offer.now) result }
+        ensures menu { IsMenu offer.now.menu.now }
     {
-        let alone = alone(menu, prices, budget, allowed);
+        let menu = offer.menu;
+        let alone = alone(offer);
         Goods {
-            prices: prices_of(menu, prices),
+            prices: prices_of(offer),
             credits: credits_of(menu),
             clashes: clashes_of(menu, alone),
             alone,
@@ -46,14 +45,14 @@ impl Goods {
 }
 
 // The price of each place.
-fn prices_of(menu: &Menu, prices: &[Tokens]) -> [u32; PLACES]
-    requires { HasPrices menu.now prices.now }
-    ensures { (place : ℕ) → place < length menu.now.places
-        → slice_index result place ≡ price_in prices.now (section_at menu.now.places place) }
+fn prices_of(offer: &Offer) -> [u32; PLACES]
+    ensures { (place : ℕ) → place < length offer.now.menu.now.places
+        → slice_index result place
+        ≡ price_in offer.now.prices.now (section_at offer.now.menu.now.places place) }
 {
     let mut row = [0; PLACES];
-    for place in 0..menu.len() {
-        row[usize::from(place)] = price_of_place(menu, prices, place);
+    for place in 0..offer.menu.len() {
+        row[usize::from(place)] = price_of_place(offer.menu, offer.prices, place);
     }
     row
 }
@@ -101,16 +100,15 @@ fn clashing(menu: &Menu, alone: u64, place: u8) -> u64
 }
 
 // The word of the places whose sections may be taken alone.
-fn alone(menu: &Menu, prices: &[Tokens], budget: Tokens, allowed: &SectionSet) -> u64
-    requires { HasPrices menu.now prices.now }
-    ensures word { IsWordOf (IsAlone (offer_of menu.now prices.now budget.0 allowed.now))
-        (length menu.now.places) result }
-    ensures menu { IsMenu menu.now }
+fn alone(offer: &Offer) -> u64
+    ensures word { IsWordOf (IsAlone (data_of offer.now))
+        (length offer.now.menu.now.places) result }
+    ensures menu { IsMenu offer.now.menu.now }
 {
     let root = SummedNode::root();
     let mut word = 0;
-    for place in 0..menu.len() {
-        let is_takable = root.may_take(menu, prices, budget, allowed, place);
+    for place in 0..offer.menu.len() {
+        let is_takable = root.may_take(offer, place);
         word = with_bit(word, place, is_takable);
     }
     word

@@ -6,13 +6,11 @@
 // the multiplier at which they meet is tried, and its line takes the place of one of the two, three
 // times. Any multipliers are right: these only make the search short.
 ghost use Rattle.std.specs.Prelude.{◌≤◌, ◌^◌};
-ghost use Rattle.bundle_rules.specs.Demand.{HasPrices};
 
 use crate::places::fitting;
 use crate::tables::{MILLION, PLACES, ROWS};
-use bundle_bounds::price_of_place;
-use bundle_rules::Menu;
-use market_units::{MAX_COURSES, MAX_RATINGS, MAX_SECTION_CREDITS, SectionSet, Tokens};
+use bundle_bounds::{Offer, price_of_place};
+use market_units::{MAX_COURSES, MAX_RATINGS, MAX_SECTION_CREDITS};
 
 /// What a token of the price and a credit are counted for, in millionths of a point of utility.
 #[derive(Clone, Copy, Debug)]
@@ -71,18 +69,15 @@ struct Line {
 /// What a token and a credit are counted for, in the tables of what can be reached. Any multipliers
 /// are right; with these the tables have small numbers, so that much is pruned.
 pub(crate) fn multipliers_at(
-    menu: &Menu,
-    prices: &[Tokens],
-    budget: Tokens,
-    allowed: &SectionSet,
+    offer: &Offer,
     hopes: &[[u16; PLACES]; ROWS],
     lightest: u32,
 ) -> Multipliers
-    requires prices { HasPrices menu.now prices.now }
     requires lightest { lightest ≤ MAX_SECTION_CREDITS }
 {
+    let menu = offer.menu;
     let mut items = [NO_ITEM; PLACES];
-    let len = items_of(menu, prices, allowed, hopes, &mut items);
+    let len = items_of(offer, hopes, &mut items);
     let items = &items[..len];
     let courses = u32::from(menu.courses().min(MAX_COURSES));
     let count = fitting(courses, u32::from(menu.credits()), lightest) as usize;
@@ -91,7 +86,7 @@ pub(crate) fn multipliers_at(
         credits: 0,
     };
     let credits = u32::from(menu.credits());
-    let paid = meeting_multiplier(items, count, Scarce::Money, free, budget.0);
+    let paid = meeting_multiplier(items, count, Scarce::Money, free, offer.budget.0);
     meeting_multiplier(items, count, Scarce::Credits, paid, credits)
 }
 
@@ -199,24 +194,18 @@ fn sum_of(picks: &[Pick], multiplier: u64) -> Line {
 }
 
 // The allowed places, of which so many are written.
-fn items_of(
-    menu: &Menu,
-    prices: &[Tokens],
-    allowed: &SectionSet,
-    hopes: &[[u16; PLACES]; ROWS],
-    items: &mut [Item; PLACES],
-) -> usize
-    requires { HasPrices menu.now prices.now }
+fn items_of(offer: &Offer, hopes: &[[u16; PLACES]; ROWS], items: &mut [Item; PLACES]) -> usize
     ensures { result ≤ MAX_RATINGS }
 {
+    let menu = offer.menu;
     let mut count = 0;
     for place in 0..menu.len() {
         let rated = menu.rated(place);
-        if allowed.has(rated.section) {
+        if offer.allowed.has(rated.section) {
             let hoped = hopes[usize::from(place) + 1][usize::from(place)];
             items[count] = Item {
                 most_added: u32::from(rated.rating) + u32::from(hoped),
-                price: price_of_place(menu, prices, place),
+                price: price_of_place(menu, offer.prices, place),
                 credits: u32::from(rated.credits),
             };
             count += 1;

@@ -1,6 +1,6 @@
 // The best bundle, by a depth-first search that prunes nodes by what can still be reached from
 // them.
-ghost use Rattle.std.specs.Prelude.{◌≡◌, ◌<◌, [], ◌∷◌, ℕ, true, IfSome, IfNone, length};
+ghost use Rattle.std.specs.Prelude.{◌≡◌, ◌<◌, [], ◌∷◌, true, IfSome, IfNone, length};
 ghost use Rattle.std.specs.FinSet as set;
 ghost use Rattle.bundle_rules.specs.Bundles.{sections_of};
 ghost use Rattle.market_units.specs.Members.{has};
@@ -8,8 +8,8 @@ ghost use Rattle.bundle_rules.specs.Demand.{price_in, HasPrices, IsBest};
 ghost use Rattle.bundle_rules.specs.Given.{IsBestWith, SomeHas};
 ghost use Rattle.bundle_rules.specs.Menus.{wishes_of, section_at};
 ghost use Rattle.bundle_bounds.specs.Laws.{IsTakable};
-ghost use Rattle.bundle_bounds.specs.Offers.{offer_of};
-ghost use Rattle.demand_oracle.specs.SummedNodes.{chosen_of, IsSummed};
+ghost use Rattle.bundle_bounds.specs.Views.{data_of};
+ghost use Rattle.demand_oracle.specs.SummedNodes.{chosen_of, IsSummedOf};
 ghost use Rattle.demand_oracle.specs.Beside.{LeadsThoseWithout};
 ghost use Rattle.demand_oracle.specs.Champions.{IsChampion};
 ghost use Rattle.demand_oracle.specs.Search.{wanted_by, LeadsWanted};
@@ -19,6 +19,7 @@ use crate::goods::Goods;
 use crate::question::Question;
 use crate::reach::{Reach, begun_with};
 use crate::summed_node::SummedNode;
+use bundle_bounds::Offer;
 use bundle_rules::{Bundle, Menu, prefers};
 use market_units::{NoMemory, SectionNo, SectionSet, Tokens};
 use std::alloc::Global;
@@ -84,15 +85,13 @@ pub fn demand(
     ensures { IsBest (wishes_of menu.now) (price_in prices.now) budget.0 (set.contains allowed.now)
         (sections_of result) }
 {
-    search(
-        &mut workspace.frames,
+    let offer = Offer {
         menu,
         prices,
         budget,
         allowed,
-        None,
-        None,
-    )
+    };
+    search(&mut workspace.frames, &offer, None, None)
 }
 
 /// The same, found sooner where this bundle, or what may be taken of it, is nearly the best. Any
@@ -109,15 +108,13 @@ pub fn demand_from(
     ensures { IsBest (wishes_of menu.now) (price_in prices.now) budget.0 (set.contains allowed.now)
         (sections_of result) }
 {
-    search(
-        &mut workspace.frames,
+    let offer = Offer {
         menu,
         prices,
         budget,
         allowed,
-        None,
-        Some(first),
-    )
+    };
+    search(&mut workspace.frames, &offer, None, Some(first))
 }
 
 /// The best bundle with a given section: the feasible one of allowed sections with this one among
@@ -141,16 +138,14 @@ pub fn demand_with(
         section.0) }
 {
     workspace.frames.opened = 0;
-    let place = place_alone(menu, prices, budget, allowed, section)?;
-    let bundle = search(
-        &mut workspace.frames,
+    let offer = Offer {
         menu,
         prices,
         budget,
         allowed,
-        Some(place),
-        None,
-    );
+    };
+    let place = place_alone(&offer, section)?;
+    let bundle = search(&mut workspace.frames, &offer, Some(place), None);
     Some(bundle)
 }
 
@@ -174,19 +169,17 @@ pub fn demand_beside(
         (sections_of result) }
 {
     workspace.frames.opened = 0;
-    let Some(place) = place_alone(menu, prices, budget, allowed, section) else {
-        return *first;
-    };
-    let given = Some(place);
-    let found = search(
-        &mut workspace.frames,
+    let offer = Offer {
         menu,
         prices,
         budget,
         allowed,
-        given,
-        Some(first),
-    );
+    };
+    let Some(place) = place_alone(&offer, section) else {
+        return *first;
+    };
+    let given = Some(place);
+    let found = search(&mut workspace.frames, &offer, given, Some(first));
     if prefers(menu, first, &found) {
         return *first;
     }
@@ -194,29 +187,24 @@ pub fn demand_beside(
 }
 
 // The place of a section that may be taken alone; `None` exactly where it may be in no bundle.
-fn place_alone(
-    menu: &Menu,
-    prices: &[Tokens],
-    budget: Tokens,
-    allowed: &SectionSet,
-    section: SectionNo,
-) -> Option<u8>
-    requires { HasPrices menu.now prices.now }
+fn place_alone(offer: &Offer, section: SectionNo) -> Option<u8>
     ensures place { IfSome result
-        (λ place. (place < length menu.now.places)
-        × (section_at menu.now.places place ≡ section.0)) }
+        (λ place. (place < length offer.now.menu.now.places)
+        × (section_at offer.now.menu.now.places place ≡ section.0)) }
     ensures alone { IfSome result
-        (λ place. IsTakable (offer_of menu.now prices.now budget.0 allowed.now)
-        (section_at menu.now.places place ∷ [])) }
+        (λ place. IsTakable (data_of offer.now)
+        (section_at offer.now.menu.now.places place ∷ [])) }
     ensures none { IfNone result
-        (¬ SomeHas (wishes_of menu.now) (price_in prices.now) budget.0 (set.contains allowed.now)
+        (¬ SomeHas (wishes_of offer.now.menu.now) (price_in offer.now.prices.now)
+        offer.now.budget.0 (set.contains offer.now.allowed.now)
         section.0) }
 {
+    let menu = offer.menu;
     let place = menu.place(section);
     if place >= menu.len() {
         return None;
     }
-    if !SummedNode::root().may_take(menu, prices, budget, allowed, place) {
+    if !SummedNode::root().may_take(offer, place) {
         return None;
     }
     Some(place)
@@ -226,33 +214,22 @@ fn place_alone(
 // alone: what the search below the root leaves. Where a first bundle is told, the search may begin
 // with it, and where both are, it may end with it: with what is as good as all bundles with the
 // section.
-fn search(
-    frames: &mut Frames,
-    menu: &Menu,
-    prices: &[Tokens],
-    budget: Tokens,
-    allowed: &SectionSet,
-    given: Option<u8>,
-    first: Option<&Bundle>,
-) -> Bundle
-    requires prices { HasPrices menu.now prices.now }
-    requires given { IfSome given (λ place. place < length menu.now.places) }
+fn search(frames: &mut Frames, offer: &Offer, given: Option<u8>, first: Option<&Bundle>) -> Bundle
+    requires given { IfSome given (λ place. place < length offer.now.menu.now.places) }
     requires alone { IfSome given
-        (λ place. IsTakable (offer_of menu.now prices.now budget.0 allowed.now)
-        (section_at menu.now.places place ∷ [])) }
-    ensures leads { LeadsWanted (offer_of menu.now prices.now budget.0 allowed.now)
-        (wanted_by menu.now given) (sections_of result) }
-    ensures wanted { IfNone first.entry (wanted_by menu.now given (sections_of result) ≡ true) }
+        (λ place. IsTakable (data_of offer.now)
+        (section_at offer.now.menu.now.places place ∷ [])) }
+    ensures leads { LeadsWanted (data_of offer.now)
+        (wanted_by offer.now.menu.now given) (sections_of result) }
+    ensures wanted { IfNone first.entry
+        (wanted_by offer.now.menu.now given (sections_of result) ≡ true) }
 {
-    frames.reach.measure(menu, prices, budget, allowed);
-    let goods = Goods::of(menu, prices, budget, allowed);
+    frames.reach.measure(offer);
+    let goods = Goods::of(offer);
     let reach = &frames.reach;
-    let mut champion = first_champion(reach, menu, prices, budget, allowed, given, first);
+    let mut champion = first_champion(reach, offer, given, first);
     let question = Question {
-        menu,
-        prices,
-        budget,
-        allowed,
+        offer,
         given,
         reach,
         goods: &goods,
@@ -266,75 +243,56 @@ fn search(
 // where it is worth no less.
 fn first_champion(
     reach: &Reach,
-    menu: &Menu,
-    prices: &[Tokens],
-    budget: Tokens,
-    allowed: &SectionSet,
+    offer: &Offer,
     given: Option<u8>,
     first: Option<&Bundle>,
 ) -> SummedNode
-    requires prices { HasPrices menu.now prices.now }
-    requires given { IfSome given (λ place. place < length menu.now.places) }
+    requires given { IfSome given (λ place. place < length offer.now.menu.now.places) }
     requires alone { IfSome given
-        (λ place. IsTakable (offer_of menu.now prices.now budget.0 allowed.now)
-        (section_at menu.now.places place ∷ [])) }
-    ensures champion { IsChampion (offer_of menu.now prices.now budget.0 allowed.now) result }
-    ensures wanted { IfNone first.entry (wanted_by menu.now given (chosen_of result) ≡ true) }
+        (λ place. IsTakable (data_of offer.now)
+        (section_at offer.now.menu.now.places place ∷ [])) }
+    ensures champion { IsChampion (data_of offer.now) result }
+    ensures wanted { IfNone first.entry
+        (wanted_by offer.now.menu.now given (chosen_of result) ≡ true) }
 {
     match given {
-        Some(place) => begun_beside(menu, prices, budget, allowed, place, first),
+        Some(place) => begun_beside(offer, place, first),
         None => {
-            let drafted = reach.first_champion(menu, prices, budget, allowed);
-            from_first(menu, prices, budget, allowed, first, drafted)
+            let drafted = reach.first_champion(offer);
+            from_first(offer, first, drafted)
         }
     }
 }
 
 // The section of the given place alone, or what may be taken of the first bundle, where one is
 // told.
-fn begun_beside(
-    menu: &Menu,
-    prices: &[Tokens],
-    budget: Tokens,
-    allowed: &SectionSet,
-    place: u8,
-    first: Option<&Bundle>,
-) -> SummedNode
-    requires prices { HasPrices menu.now prices.now }
-    requires place { place < length menu.now.places }
-    requires alone { IsTakable (offer_of menu.now prices.now budget.0 allowed.now)
-        (section_at menu.now.places place ∷ []) }
-    ensures champion { IsChampion (offer_of menu.now prices.now budget.0 allowed.now) result }
+fn begun_beside(offer: &Offer, place: u8, first: Option<&Bundle>) -> SummedNode
+    requires place { place < length offer.now.menu.now.places }
+    requires alone { IsTakable (data_of offer.now)
+        (section_at offer.now.menu.now.places place ∷ []) }
+    ensures champion { IsChampion (data_of offer.now) result }
     ensures wanted { IfNone first.entry
-        (has (chosen_of result) (section_at menu.now.places place) ≡ true) }
+        (has (chosen_of result) (section_at offer.now.menu.now.places place) ≡ true) }
 {
     match first {
-        Some(bundle) => begun_with(menu, prices, budget, allowed, bundle),
-        None => SummedNode::alone(menu, prices, place),
+        Some(bundle) => begun_with(offer, bundle),
+        None => SummedNode::alone(offer, place),
     }
 }
 
 // The node, or that of the first bundle where it is told and worth no less.
-fn from_first(
-    menu: &Menu,
-    prices: &[Tokens],
-    budget: Tokens,
-    allowed: &SectionSet,
-    first: Option<&Bundle>,
-    summed: SummedNode,
-) -> SummedNode
-    requires prices { HasPrices menu.now prices.now }
-    requires summed { IsSummed menu.now (price_in prices.now) summed }
-    requires takable { IsTakable (offer_of menu.now prices.now budget.0 allowed.now)
+fn from_first(offer: &Offer, first: Option<&Bundle>, summed: SummedNode) -> SummedNode
+    requires summed { IsSummedOf (data_of offer.now) summed }
+    requires takable { IsTakable (data_of offer.now)
         (chosen_of summed) }
-    ensures summed { IsSummed menu.now (price_in prices.now) result }
-    ensures takable { IsTakable (offer_of menu.now prices.now budget.0 allowed.now)
+    ensures summed { IsSummedOf (data_of offer.now) result }
+    ensures takable { IsTakable (data_of offer.now)
         (chosen_of result) }
 {
     let Some(bundle) = first else {
         return summed;
     };
-    let begun = begun_with(menu, prices, budget, allowed, bundle);
+    let begun = begun_with(offer, bundle);
     if begun.utility() >= summed.utility() {
         return begun;
     }

@@ -5,12 +5,13 @@ ghost use Rattle.std.specs.FinSet as set;
 ghost use Rattle.market_units.specs.declared.limits.TheConstants.{MAX_COURSES, MAX_RATINGS, MAX_SECTION_CREDITS};
 ghost use Rattle.market_units.specs.declared.units.Tokens.{Tokens};
 ghost use Rattle.market_units.specs.Totals.{total};
-ghost use Rattle.bundle_rules.specs.Demand.{price_in, HasPrices};
+ghost use Rattle.bundle_rules.specs.Demand.{price_in};
 ghost use Rattle.bundle_rules.specs.Menus.{IsMenu};
-ghost use Rattle.bundle_bounds.specs.Offers.{Offer, offer_of};
+ghost use Rattle.bundle_bounds.specs.Offers.{OfferData, offer_of};
 ghost use Rattle.bundle_bounds.specs.Laws.{IsTakable, IsNode};
-ghost use Rattle.demand_oracle.specs.SummedNodes.{chosen_of, IsSummed};
+ghost use Rattle.demand_oracle.specs.SummedNodes.{chosen_of, IsSummed, IsSummedOf};
 ghost use Rattle.bundle_bounds.specs.Prunings.{MayPrune};
+ghost use Rattle.bundle_bounds.specs.Views.{data_of};
 ghost use Rattle.demand_oracle.specs.Covers.{IsAdded};
 
 use crate::draft::Draft;
@@ -21,8 +22,9 @@ use crate::tables::{
     COUNTS, MILLION, PLACES, ROWS, THOUSAND, Table, UNITS, in_units, lightest, put_hopes, put_most,
     shift_for,
 };
+use bundle_bounds::Offer;
 use bundle_rules::{Bundle, Menu};
-use market_units::{SectionSet, Tokens};
+use market_units::Tokens;
 
 // More than can be added at any node, in millionths of a point of utility.
 const ENOUGH: u64 = 1 << 62;
@@ -74,34 +76,18 @@ impl Reach {
 
     /// Measures what can be reached at these prices with this budget and these allowed sections.
     /// There is a price for each section of the menu, each at most 1,000,001.
-    pub fn measure(&mut self, menu: &Menu, prices: &[Tokens], budget: Tokens, allowed: &SectionSet)
-        requires { HasPrices menu.now prices.now }
-        ensures { IsReach (offer_of menu.now prices.now budget.0 allowed.now) self.new }
+    pub fn measure(&mut self, offer: &Offer)
+        ensures { IsReach (data_of offer.now) self.new }
     {
-        self.lightest = lightest(menu, allowed);
-        put_hopes(menu, allowed, &mut self.hopes);
-        self.multipliers = multipliers_at(
-            menu,
-            prices,
-            budget,
-            allowed,
-            &self.hopes,
-            self.lightest,
-        );
+        self.lightest = lightest(offer);
+        put_hopes(offer, &mut self.hopes);
+        self.multipliers = multipliers_at(offer, &self.hopes, self.lightest);
         self.credits = Multipliers {
             money: 0,
             credits: self.multipliers.credits,
         };
-        self.shift = shift_for(budget);
-        put_most(
-            menu,
-            prices,
-            allowed,
-            self.credits,
-            self.shift,
-            &self.hopes,
-            &mut self.most,
-        );
+        self.shift = shift_for(offer.budget);
+        put_most(offer, self.credits, self.shift, &self.hopes, &mut self.most);
     }
 
     /// What is looked up in all places for the sections that a node has chosen. The table is one that
@@ -191,23 +177,16 @@ impl Reach {
     /// most for what it takes, of those that fit. A search that begins with it as its champion
     /// prunes most nodes at once. The table is one that was measured for the same menu, prices,
     /// budget and allowed sections; with another the node may be worth little.
-    pub fn first_champion(
-        &self,
-        menu: &Menu,
-        prices: &[Tokens],
-        budget: Tokens,
-        allowed: &SectionSet,
-    ) -> SummedNode
-        requires { HasPrices menu.now prices.now }
-        ensures summed { IsSummed menu.now (price_in prices.now) result }
-        ensures takable { IsTakable (offer_of menu.now prices.now budget.0 allowed.now)
+    pub fn first_champion(&self, offer: &Offer) -> SummedNode
+        ensures summed { IsSummedOf (data_of offer.now) result }
+        ensures takable { IsTakable (data_of offer.now)
             (chosen_of result) }
     {
-        let draft = Draft::of(menu, prices, budget, allowed, self.multipliers);
+        let draft = Draft::of(offer, self.multipliers);
         let mut summed = SummedNode::root();
-        for place in 0..menu.len() {
+        for place in 0..offer.menu.len() {
             let is_wanted = draft.has(place);
-            summed = followed(menu, prices, budget, allowed, is_wanted, place, summed);
+            summed = followed(offer, is_wanted, place, summed);
         }
         summed
     }
@@ -233,7 +212,7 @@ impl Reach {
     #[inline(always)]
     pub(crate) fn added(&self, column: &Column, place: u8) -> i64
         requires { place ≤ MAX_RATINGS }
-        ensures value { (offer : Offer) (chosen : List ℕ) → IsMenu offer.menu
+        ensures value { (offer : OfferData) (chosen : List ℕ) → IsMenu offer.menu
             → place ≤ length offer.menu.places → IsReach offer self.now
             → IsColumnAt offer self.now chosen column.now → IsNode offer place chosen
             → IsAdded offer place chosen result }
@@ -247,22 +226,15 @@ impl Reach {
 
 /// A node that has of a bundle what may be taken, place by place. A search that begins with it as
 /// its champion is short where the bundle is nearly the best.
-pub fn begun_with(
-    menu: &Menu,
-    prices: &[Tokens],
-    budget: Tokens,
-    allowed: &SectionSet,
-    bundle: &Bundle,
-) -> SummedNode
-    requires { HasPrices menu.now prices.now }
-    ensures summed { IsSummed menu.now (price_in prices.now) result }
-    ensures takable { IsTakable (offer_of menu.now prices.now budget.0 allowed.now)
+pub fn begun_with(offer: &Offer, bundle: &Bundle) -> SummedNode
+    ensures summed { IsSummedOf (data_of offer.now) result }
+    ensures takable { IsTakable (data_of offer.now)
         (chosen_of result) }
 {
     let mut summed = SummedNode::root();
-    for place in 0..menu.len() {
-        let is_wanted = bundle.has(menu.rated(place).section);
-        summed = followed(menu, prices, budget, allowed, is_wanted, place, summed);
+    for place in 0..offer.menu.len() {
+        let is_wanted = bundle.has(offer.menu.rated(place).section);
+        summed = followed(offer, is_wanted, place, summed);
     }
     summed
 }
@@ -270,34 +242,25 @@ pub fn begun_with(
 // The node with the section of an undecided place, where it is wanted and may be taken, and else the
 // node itself.
 #[inline(always)]
-fn followed(
-    menu: &Menu,
-    prices: &[Tokens],
-    budget: Tokens,
-    allowed: &SectionSet,
-    is_wanted: bool,
-    place: u8,
-    summed: SummedNode,
-) -> SummedNode
-    requires prices { HasPrices menu.now prices.now }
-    requires summed { IsSummed menu.now (price_in prices.now) summed }
-    requires node { IsNode (offer_of menu.now prices.now budget.0 allowed.now) summed.node.place
+fn followed(offer: &Offer, is_wanted: bool, place: u8, summed: SummedNode) -> SummedNode
+    requires summed { IsSummedOf (data_of offer.now) summed }
+    requires node { IsNode (data_of offer.now) summed.node.place
         (chosen_of summed) }
     requires undecided { summed.node.place ≤ place }
-    requires on_menu { place < length menu.now.places }
-    ensures summed { IsSummed menu.now (price_in prices.now) result }
-    ensures node { IsNode (offer_of menu.now prices.now budget.0 allowed.now) result.node.place
+    requires on_menu { place < length offer.now.menu.now.places }
+    ensures summed { IsSummedOf (data_of offer.now) result }
+    ensures node { IsNode (data_of offer.now) result.node.place
         (chosen_of result) }
     ensures place { result.node.place ≤ place + 1 }
 {
-    prove!(place < menu.len());
+    prove!(place < offer.menu.len());
     if !is_wanted {
         return summed;
     }
-    if !summed.may_take(menu, prices, budget, allowed, place) {
+    if !summed.may_take(offer, place) {
         return summed;
     }
-    summed.with_place(menu, prices, place)
+    summed.with_place(offer, place)
 }
 
 /// What a champion's worth has more than a utility and what is hoped for.

@@ -3,16 +3,17 @@ ghost use Rattle.std.specs.Prelude.{◌≡◌, ◌↔◌, ◌<◌, ◌≤◌, �
 ghost use Rattle.std.specs.Ordering.{nat_cmp};
 ghost use Rattle.std.specs.FinSet as set;
 ghost use Rattle.market_units.specs.declared.units.Tokens.{Tokens};
-ghost use Rattle.bundle_rules.specs.Demand.{price_in, HasPrices};
+ghost use Rattle.bundle_rules.specs.Demand.{price_in};
 ghost use Rattle.bundle_rules.specs.Menus.{MenuData, IsMenu, section_at, wishes_of};
 ghost use Rattle.bundle_rules.specs.Wishes.{utility};
 ghost use Rattle.bundle_bounds.specs.Offers.{offer_of, places_of};
 ghost use Rattle.bundle_bounds.specs.Laws.{IsTakable, IsNode};
 ghost use Rattle.bundle_bounds.specs.Prunings.{ComesFirst};
+ghost use Rattle.bundle_bounds.specs.Views.{data_of};
 
-use bundle_bounds::{Node, adjustments_with, is_apart, price_of_place};
+use bundle_bounds::{Node, Offer, adjustments_with, is_apart, price_of_place};
 use bundle_rules::{Bundle, Menu, is_ahead};
-use market_units::{MAX_COURSES, MAX_RATINGS, SectionSet, Tokens};
+use market_units::{MAX_COURSES, Tokens};
 
 const ROOM: usize = MAX_COURSES as usize;
 
@@ -28,7 +29,7 @@ pub struct SummedNode {
 }
 
 impl SummedNode {
-    ghost use Rattle.demand_oracle.specs.SummedNodes.{chosen_of, with_place_of, IsSummed};
+    ghost use Rattle.demand_oracle.specs.SummedNodes.{chosen_of, with_place_of, IsSummed, IsSummedOf};
 
     /// The node of which nothing is decided.
     pub fn root() -> SummedNode
@@ -49,13 +50,12 @@ impl SummedNode {
     }
 
     /// The node that has the section of this place alone, and has decided no later one.
-    pub fn alone(menu: &Menu, prices: &[Tokens], place: u8) -> SummedNode
-        requires prices { HasPrices menu.now prices.now }
-        requires on_menu { place < length menu.now.places }
-        ensures summed { IsSummed menu.now (price_in prices.now) result }
-        ensures chosen { chosen_of result ≡ section_at menu.now.places place ∷ [] }
+    pub fn alone(offer: &Offer, place: u8) -> SummedNode
+        requires on_menu { place < length offer.now.menu.now.places }
+        ensures summed { IsSummedOf (data_of offer.now) result }
+        ensures chosen { chosen_of result ≡ section_at offer.now.menu.now.places place ∷ [] }
     {
-        SummedNode::root().with_place(menu, prices, place)
+        SummedNode::root().with_place(offer, place)
     }
 
     /// The utility of the chosen sections.
@@ -87,31 +87,24 @@ impl SummedNode {
     /// Whether the section of an undecided place may be taken with the chosen ones: it is allowed
     /// and clashes with none of them, and all together are within the budget, the credit cap and
     /// the course cap.
-    pub fn may_take(
-        &self,
-        menu: &Menu,
-        prices: &[Tokens],
-        budget: Tokens,
-        allowed: &SectionSet,
-        place: u8,
-    ) -> bool
-        requires prices { HasPrices menu.now prices.now }
-        requires summed { IsSummed menu.now (price_in prices.now) self.now }
-        requires node { IsNode (offer_of menu.now prices.now budget.0 allowed.now)
+    pub fn may_take(&self, offer: &Offer, place: u8) -> bool
+        requires summed { IsSummedOf (data_of offer.now) self.now }
+        requires node { IsNode (data_of offer.now)
             self.now.node.place (chosen_of self.now) }
         requires undecided { self.now.node.place ≤ place }
-        requires on_menu { place < length menu.now.places }
+        requires on_menu { place < length offer.now.menu.now.places }
         ensures takable { IsTrue result
-            ↔ IsTakable (offer_of menu.now prices.now budget.0 allowed.now)
-            (chosen_of self.now ++ section_at menu.now.places place ∷ []) }
+            ↔ IsTakable (data_of offer.now)
+            (chosen_of self.now ++ section_at offer.now.menu.now.places place ∷ []) }
         ensures room { IsTrue result → length (chosen_of self.now) < MAX_COURSES }
     {
+        let menu = offer.menu;
         prove!(place < menu.len());
         let rated = menu.rated(place);
-        if !allowed.has(rated.section) {
+        if !offer.allowed.has(rated.section) {
             return false;
         }
-        if price_of_place(menu, prices, place) > self.budget_left(budget) {
+        if price_of_place(menu, offer.prices, place) > self.budget_left(offer.budget) {
             return false;
         }
         if u32::from(rated.credits) > self.credits_left(menu) {
@@ -126,16 +119,16 @@ impl SummedNode {
     /// The node with the section of an undecided place, which has decided no later one.
     #[must_use]
     #[inline(always)]
-    pub fn with_place(&self, menu: &Menu, prices: &[Tokens], place: u8) -> SummedNode
-        requires prices { HasPrices menu.now prices.now }
-        requires summed { IsSummed menu.now (price_in prices.now) self.now }
+    pub fn with_place(&self, offer: &Offer, place: u8) -> SummedNode
+        requires summed { IsSummedOf (data_of offer.now) self.now }
         requires undecided { self.now.node.place ≤ place }
-        requires on_menu { place < length menu.now.places }
+        requires on_menu { place < length offer.now.menu.now.places }
         requires room { length (chosen_of self.now) < MAX_COURSES }
-        ensures summed { IsSummed menu.now (price_in prices.now) result }
+        ensures summed { IsSummedOf (data_of offer.now) result }
         ensures place { result.node.place ≡ place + 1 }
-        ensures chosen { chosen_of result ≡ with_place_of menu.now self.now place }
+        ensures chosen { chosen_of result ≡ with_place_of offer.now.menu.now self.now place }
     {
+        let menu = offer.menu;
         prove!(place < menu.len());
         let rated = menu.rated(place);
         let mut places = self.places;
@@ -146,7 +139,7 @@ impl SummedNode {
                 chosen: self.node.chosen.with(rated.section),
             },
             places,
-            paid: self.paid + price_of_place(menu, prices, place),
+            paid: self.paid + price_of_place(menu, offer.prices, place),
             credits: self.credits + u32::from(rated.credits),
             utility: self.utility_with(menu, place),
         }

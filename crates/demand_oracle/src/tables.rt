@@ -1,21 +1,17 @@
 // How the tables of what can be reached are filled, from the last place to the first.
-ghost use Rattle.std.specs.Ordering.{nat_cmp};
-ghost use Rattle.std.specs.FinSet as set;
-ghost use Rattle.std.specs.Prelude.{◌≡◌, ◌≢◌, ◌<◌, ◌≤◌, ◌*◌, ◌+◌, ◌-◌, ◌/◌, ◌^◌, ℕ, List, true, max, unsigned_abs, length, slice_index};
+ghost use Rattle.std.specs.Prelude.{◌≡◌, ◌≢◌, ◌<◌, ◌≤◌, ◌*◌, ◌+◌, ◌-◌, ◌/◌, ◌^◌, ℕ, true, max, unsigned_abs, length, slice_index};
 ghost use Rattle.market_units.specs.declared.units.Tokens.{Tokens};
-ghost use Rattle.bundle_rules.specs.Demand.{HasPrices};
 ghost use Rattle.bundle_rules.specs.Menus.{adjustment_in, clash_in, credits_at, IsMenu};
-ghost use Rattle.bundle_bounds.specs.Offers.{offer_of, allowed_at};
+ghost use Rattle.bundle_bounds.specs.Offers.{allowed_at};
 ghost use Rattle.bundle_bounds.specs.Opens.{above_zero};
+ghost use Rattle.bundle_bounds.specs.Views.{data_of};
 ghost use Rattle.demand_oracle.specs.Values.{hopes_from, value};
 ghost use Rattle.demand_oracle.specs.Reaches.{HoldsHopes, HoldsCovers, IsLightest, AreSmall, IsPlaced, number_at, within_at};
 
 use crate::multipliers::Multipliers;
-use bundle_bounds::price_of_place;
+use bundle_bounds::{Offer, price_of_place};
 use bundle_rules::Menu;
-use market_units::{
-    MAX_ADJUSTMENT, MAX_COURSES, MAX_RATINGS, MAX_SECTION_CREDITS, SectionSet, Tokens,
-};
+use market_units::{MAX_ADJUSTMENT, MAX_COURSES, MAX_RATINGS, MAX_SECTION_CREDITS, Tokens};
 
 pub(crate) const ROWS: usize = MAX_RATINGS + 1;
 
@@ -58,28 +54,26 @@ pub(crate) fn shift_for(budget: Tokens) -> u32
 
 /// The least credits of an allowed place of the menu; the most that any section may have, where
 /// none is allowed.
-pub(crate) fn lightest(menu: &Menu, allowed: &SectionSet) -> u32
-    ensures lightest { (prices : List Tokens) (budget : ℕ)
-        → IsLightest (offer_of menu.now prices budget allowed.now) result }
+pub(crate) fn lightest(offer: &Offer) -> u32
+    ensures lightest { IsLightest (data_of offer.now) result }
     ensures high { result ≤ MAX_SECTION_CREDITS }
 {
     let mut lightest = MAX_SECTION_CREDITS;
-    for place in 0..menu.len() {
-        lightest = lighter(menu, allowed, place, lightest);
+    for place in 0..offer.menu.len() {
+        lightest = lighter(offer, place, lightest);
     }
     u32::from(lightest)
 }
 
 // The credits of a place, where it is allowed and these are fewer than so many, and else so many.
-fn lighter(menu: &Menu, allowed: &SectionSet, place: u8, lightest: u16) -> u16
-    requires { place < length menu.now.places }
+fn lighter(offer: &Offer, place: u8, lightest: u16) -> u16
+    requires { place < length offer.now.menu.now.places }
     ensures within { result ≤ lightest }
-    ensures lightest { (prices : List Tokens) (budget : ℕ)
-        → allowed_at (offer_of menu.now prices budget allowed.now) place ≡ true
-        → result ≤ credits_at menu.now.places place }
+    ensures lightest { allowed_at (data_of offer.now) place ≡ true
+        → result ≤ credits_at offer.now.menu.now.places place }
 {
-    let rated = menu.rated(place);
-    if !allowed.has(rated.section) {
+    let rated = offer.menu.rated(place);
+    if !offer.allowed.has(rated.section) {
         return lightest;
     }
     lightest.min(rated.credits)
@@ -87,31 +81,31 @@ fn lighter(menu: &Menu, allowed: &SectionSet, place: u8, lightest: u16) -> u16
 
 /// Fills the table of hopes: what a place's positive adjustments with the allowed places from
 /// another one on can add to the utility.
-pub(crate) fn put_hopes(menu: &Menu, allowed: &SectionSet, hopes: &mut [[u16; PLACES]; ROWS])
-    ensures { (prices : List Tokens) (budget : ℕ)
-        → HoldsHopes (offer_of menu.now prices budget allowed.now) hopes.new 0 }
+pub(crate) fn put_hopes(offer: &Offer, hopes: &mut [[u16; PLACES]; ROWS])
+    ensures { HoldsHopes (data_of offer.now) hopes.new 0 }
 {
-    let count = menu.len();
+    let count = offer.menu.len();
     hopes[usize::from(count)] = [0; PLACES];
     for place in (0..count).rev() {
         hopes[usize::from(place)] = hopes[usize::from(place) + 1];
-        add_hopes(menu, allowed, place, &mut hopes[usize::from(place)]);
+        add_hopes(offer, place, &mut hopes[usize::from(place)]);
     }
 }
 
 // Adds to what the adjustments of earlier places with the places behind this one can add what they
 // can add with this one.
-fn add_hopes(menu: &Menu, allowed: &SectionSet, place: u8, hopes: &mut [u16; PLACES])
-    requires place { place < length menu.now.places }
-    requires menu { IsMenu menu.now }
-    requires later { (prices : List Tokens) (budget earlier : ℕ) → earlier < place + 1
+fn add_hopes(offer: &Offer, place: u8, hopes: &mut [u16; PLACES])
+    requires place { place < length offer.now.menu.now.places }
+    requires menu { IsMenu offer.now.menu.now }
+    requires later { (earlier : ℕ) → earlier < place + 1
         → slice_index hopes.old earlier
-        ≡ hopes_from (offer_of menu.now prices budget allowed.now) (place + 1) earlier }
-    ensures { (prices : List Tokens) (budget earlier : ℕ) → earlier < place
+        ≡ hopes_from (data_of offer.now) (place + 1) earlier }
+    ensures { (earlier : ℕ) → earlier < place
         → slice_index hopes.new earlier
-        ≡ hopes_from (offer_of menu.now prices budget allowed.now) place earlier }
+        ≡ hopes_from (data_of offer.now) place earlier }
 {
-    if !allowed.has(menu.rated(place).section) {
+    let menu = offer.menu;
+    if !offer.allowed.has(menu.rated(place).section) {
         return;
     }
     for earlier in 0..place {
@@ -135,36 +129,22 @@ fn hope_of(menu: &Menu, earlier: u8, place: u8) -> u16
 /// Fills the table of the most that the places from each one on can add, so many of them at most,
 /// which cost so many units at most.
 pub(crate) fn put_most(
-    menu: &Menu,
-    prices: &[Tokens],
-    allowed: &SectionSet,
+    offer: &Offer,
     multipliers: Multipliers,
     shift: u32,
     hopes: &[[u16; PLACES]; ROWS],
     most: &mut Table,
 )
-    requires prices { HasPrices menu.now prices.now }
     requires shift { shift < 32 }
-    requires hopes { (budget : ℕ)
-        → HoldsHopes (offer_of menu.now prices.now budget allowed.now) hopes.now 0 }
-    ensures { (budget : ℕ)
-        → HoldsCovers (offer_of menu.now prices.now budget allowed.now) multipliers shift most.new
+    requires hopes { HoldsHopes (data_of offer.now) hopes.now 0 }
+    ensures { HoldsCovers (data_of offer.now) multipliers shift most.new
         0 }
 {
-    let count = menu.len();
+    let count = offer.menu.len();
     put_nothing(count, most);
     for place in (0..count).rev() {
         let hoped = hopes[usize::from(place) + 1][usize::from(place)];
-        put_place(
-            menu,
-            prices,
-            allowed,
-            multipliers,
-            shift,
-            place,
-            hoped,
-            most,
-        );
+        put_place(offer, multipliers, shift, place, hoped, most);
     }
 }
 
@@ -181,32 +161,32 @@ fn put_nothing(place: u8, most: &mut Table)
 // Writes the most that so many places from this one on can add, where its adjustments with later
 // ones can add so much.
 fn put_place(
-    menu: &Menu,
-    prices: &[Tokens],
-    allowed: &SectionSet,
+    offer: &Offer,
     multipliers: Multipliers,
     shift: u32,
     place: u8,
     hoped: u16,
     most: &mut Table,
 )
-    requires prices { HasPrices menu.now prices.now }
     requires shift { shift < 32 }
-    requires place { place < length menu.now.places }
-    requires menu { IsMenu menu.now }
-    requires small { AreSmall menu.now.courses most.old (place + 1) (length menu.now.places) }
-    ensures covers { (budget : ℕ) → hoped ≡ hopes_from (offer_of menu.now prices.now budget allowed.now) (place + 1) place
-        → HoldsCovers (offer_of menu.now prices.now budget allowed.now) multipliers shift most.old (place + 1)
-        → HoldsCovers (offer_of menu.now prices.now budget allowed.now) multipliers shift most.new place }
-    ensures small { AreSmall menu.now.courses most.new place (length menu.now.places) }
+    requires place { place < length offer.now.menu.now.places }
+    requires menu { IsMenu offer.now.menu.now }
+    requires small { AreSmall offer.now.menu.now.courses most.old (place + 1)
+        (length offer.now.menu.now.places) }
+    ensures covers { hoped ≡ hopes_from (data_of offer.now) (place + 1) place
+        → HoldsCovers (data_of offer.now) multipliers shift most.old (place + 1)
+        → HoldsCovers (data_of offer.now) multipliers shift most.new place }
+    ensures small { AreSmall offer.now.menu.now.courses most.new place
+        (length offer.now.menu.now.places) }
 {
+    let menu = offer.menu;
     let courses = menu.courses();
-    if !allowed.has(menu.rated(place).section) {
+    if !offer.allowed.has(menu.rated(place).section) {
         put_counts(courses, place, place + 1, 0, UNITS, most);
         return;
     }
-    let value = thousandths(value_at(menu, prices, multipliers, place, hoped));
-    let cost = in_units(price_of_place(menu, prices, place), shift);
+    let value = thousandths(value_at(offer, multipliers, place, hoped));
+    let cost = in_units(price_of_place(menu, offer.prices, place), shift);
     let next = next_apart(menu, place, place + 1);
     put_counts(courses, place, next, value, cost as usize, most);
 }
@@ -214,17 +194,16 @@ fn put_place(
 // What is left of a million times the most that a place can add, where its adjustments with later
 // places can add so much. Adjustments count at the lower place alone: with twenty pairs that opens
 // half the nodes of counting them at both.
-fn value_at(menu: &Menu, prices: &[Tokens], multipliers: Multipliers, place: u8, hoped: u16) -> u64
-    requires prices { HasPrices menu.now prices.now }
-    requires place { place < length menu.now.places }
-    ensures value { (budget : ℕ) (allowed : set.FinSet nat_cmp)
-        → hoped ≡ hopes_from (offer_of menu.now prices.now budget allowed) (place + 1) place
-        → result ≡ value (offer_of menu.now prices.now budget allowed) multipliers place }
+fn value_at(offer: &Offer, multipliers: Multipliers, place: u8, hoped: u16) -> u64
+    requires place { place < length offer.now.menu.now.places }
+    ensures value { hoped ≡ hopes_from (data_of offer.now) (place + 1) place
+        → result ≡ value (data_of offer.now) multipliers place }
     ensures high { result ≤ 65635000000 }
 {
+    let menu = offer.menu;
     let rated = menu.rated(place);
     let most_added = u64::from(rated.rating) + u64::from(hoped);
-    let price = multipliers.money * u64::from(price_of_place(menu, prices, place));
+    let price = multipliers.money * u64::from(price_of_place(menu, offer.prices, place));
     let credits = multipliers.credits * u64::from(rated.credits);
     (MILLION * most_added).saturating_sub(price + credits)
 }

@@ -5,7 +5,7 @@ use Rattle.bundle_rules.specs.declared.menu.Rated.{Rated}
 use Rattle.bundle_rules.specs.Bundles.{sections_of}
 use Rattle.bundle_rules.specs.Menus.{MenuData, wishes_of}
 use Rattle.bundle_rules.specs.Wishes.{AllRated}
-use Rattle.bundle_bounds.specs.Offers.{Offer}
+use Rattle.bundle_bounds.specs.Offers.{OfferData}
 use Rattle.explain_desk.specs.declared.explanation.Proved as own
 use Rattle.explain_desk.specs.declared.reasons.Reason.{Reason}
 use Rattle.explain_desk.specs.declared.reasons.Reason.TheVariants.{Held, Unrated, Alone, Clash, Beside, Less}
@@ -27,7 +27,7 @@ names_below menu price budget n bundle section (Beside limit) each rated is = tt
 names_below menu price budget n bundle section Less each rated is = tt
 
 -- the bundle that is told has rated sections alone
-pub rated_told : (offer : Offer) (section : ℕ) (best : Option own.Proved) → IfSome (option_map proved_of best) (IsProvedWith offer section)
+pub rated_told : (offer : OfferData) (section : ℕ) (best : Option own.Proved) → IfSome (option_map proved_of best) (IsProvedWith offer section)
     → IfSome best (λ proved. AllRated (wishes_of offer.menu) (sections_of proved.bundle))
 rated_told offer section (Some proved) is = is.best.choice.feasible.rated
 rated_told offer section None is = tt

@@ -6,7 +6,7 @@ use Rattle.bundle_rules.specs.declared.menu.Rated.{Rated}
 use Rattle.bundle_rules.specs.Bundles.{sections_of}
 use Rattle.bundle_rules.specs.Demand.{HasPrices, IsBest, price_in}
 use Rattle.bundle_rules.specs.Menus.{MenuData, wishes_of}
-use Rattle.bundle_bounds.specs.Offers.{Offer}
+use Rattle.bundle_bounds.specs.Offers.{OfferData}
 use Rattle.course_catalog.specs.Catalog.{CatalogData}
 use Rattle.course_catalog.specs.Sections.{Section, section_names}
 use Rattle.student_roll.specs.Students.{RollData, Student as Enrolled, names_of}
@@ -107,7 +107,7 @@ module _ (crowd : Crowd) (k : ℕ) (publication : declared.Publication) (m : Men
       }
 
   -- a fact of what is offered and printed is one of what stands there
-  pub stands_so : (P : Offer → Proved → Type 0)
+  pub stands_so : (P : OfferData → Proved → Type 0)
       → P (offer_in (data_of crowd) (publication_of publication) k) (proved_in (publication_of publication) k)
       → P (offer_of_all m publication.prices.items b.0 crowd.sections) (proved_of item)
   stands_so P is =
@@ -115,7 +115,7 @@ module _ (crowd : Crowd) (k : ℕ) (publication : declared.Publication) (m : Men
       (subst (λ proved. P (offer_in (data_of crowd) (publication_of publication) k) proved) this_bundle is)
 
   -- and the other way round
-  pub printed_so : (P : Offer → Proved → Type 0) → P (offer_of_all m publication.prices.items b.0 crowd.sections) (proved_of item)
+  pub printed_so : (P : OfferData → Proved → Type 0) → P (offer_of_all m publication.prices.items b.0 crowd.sections) (proved_of item)
       → P (offer_in (data_of crowd) (publication_of publication) k) (proved_in (publication_of publication) k)
   printed_so P is =
       subst (λ offer. P offer (proved_in (publication_of publication) k)) (sym this_offer)

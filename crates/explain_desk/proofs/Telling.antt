@@ -11,7 +11,7 @@ use Rattle.bundle_rules.specs.Menus.{place_in, section_at, wishes_of}
 use Rattle.market_units.specs.Members.{has}
 use Rattle.bundle_rules.specs.Existence.Places.{section_at-place_in}
 use Rattle.bundle_rules.proofs.GivenBest.{best_with_a_section}
-use Rattle.bundle_bounds.specs.Offers.{Offer, places_of}
+use Rattle.bundle_bounds.specs.Offers.{OfferData, places_of}
 use Rattle.bundle_bounds.proofs.ByPlace.{on_menu}
 use Rattle.proof_tree.specs.Laws.{HasTree}
 use Rattle.proof_tree.specs.Texts.{IsTreeText, spelled}
@@ -24,13 +24,13 @@ use Rattle.explain_desk.specs.Laws.{ForcedTreesProveTheBest, NothingIsGained, On
 use Rattle.explain_desk.proofs.OneReasons.{one_reason}
 
 -- a champion has one text of a tree
-one_text : (offer : Offer) (required : Option ℕ) (champion one other : List ℕ) → IsTreeText offer required champion one
+one_text : (offer : OfferData) (required : Option ℕ) (champion one other : List ℕ) → IsTreeText offer required champion one
     → IsTreeText offer required champion other → one ≡ other
 one_text offer required champion one other (tree, is, written) (alike, so, spelt) =
     written ∙ ap spelled ((one_tree offer required (places_of offer.menu champion) 0 []).tree tree alike is so) ∙ sym spelt
 
 -- there is one best bundle with the section, with one tree
-one_proved : (offer : Offer) (section : ℕ) (a b : Proved) → IsProvedWith offer section a → IsProvedWith offer section b → a ≡ b
+one_proved : (offer : OfferData) (section : ℕ) (a b : Proved) → IsProvedWith offer section a → IsProvedWith offer section b → a ≡ b
 one_proved offer section a b one other =
     let bundle : a.bundle ≡ b.bundle =
     (best_with_a_section offer.menu offer.price offer.budget offer.allowed section).only a.bundle b.bundle one.best other.best in
@@ -39,7 +39,7 @@ one_proved offer section a b one other =
     one_text offer required b.bundle a.tree b.tree (subst (λ (champion : List ℕ). IsTreeText offer required champion a.tree) bundle one.tree) other.tree in
     λ i. record { bundle = bundle i; tree = tree i }
 
-one_best : (offer : Offer) (section : ℕ) (a b : Option Proved) → IfSome a (IsProvedWith offer section) → IfSome b (IsProvedWith offer section)
+one_best : (offer : OfferData) (section : ℕ) (a b : Option Proved) → IfSome a (IsProvedWith offer section) → IfSome b (IsProvedWith offer section)
     → is_some a ≡ is_some b → a ≡ b
 one_best offer section (Some a) (Some b) one other both = ap (λ p. Some p) (one_proved offer section a b one other)
 one_best offer section (Some a) None one other both = absurd (true≢false both)

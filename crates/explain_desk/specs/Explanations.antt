@@ -4,14 +4,14 @@ use Rattle.market_units.specs.declared.units.Tokens.{Tokens}
 use Rattle.bundle_rules.specs.Demand.{price_in}
 use Rattle.bundle_rules.specs.Given.{IsBestWith}
 use Rattle.bundle_rules.specs.Menus.{MenuData, place_in, wishes_of}
-use Rattle.bundle_bounds.specs.Offers.{Offer}
+use Rattle.bundle_bounds.specs.Offers.{OfferData}
 use Rattle.proof_tree.specs.Texts.{IsTreeText}
 use Rattle.market_certificate.specs.Publications.{Proved}
 use Rattle.explain_desk.specs.declared.reasons.Reason.{Reason}
 use Rattle.explain_desk.specs.Reasons.{IsReason, tells_best}
 
 -- all of so many sections, offered to a student with this menu and budget at these prices
-abbrev pub offer_of_all : MenuData → List Tokens → ℕ → ℕ → Offer
+abbrev pub offer_of_all : MenuData → List Tokens → ℕ → ℕ → OfferData
 offer_of_all menu prices budget sections =
     record {
       menu = menu;
@@ -22,7 +22,7 @@ offer_of_all menu prices budget sections =
     }
 
 -- the best bundle with the section, and the text of its forced tree
-pub record IsProvedWith (offer : Offer) (section : ℕ) (proved : Proved) : Type 0 where
+pub record IsProvedWith (offer : OfferData) (section : ℕ) (proved : Proved) : Type 0 where
   pub best : IsBestWith (wishes_of offer.menu) offer.price offer.budget offer.allowed section
       proved.bundle
   pub tree : IsTreeText offer (Some (place_in offer.menu.places section)) proved.bundle proved.tree
@@ -34,7 +34,7 @@ pub record ExplainedData : Type 0 where
 
 -- the reason is the first that applies; a bundle is told exactly where the reason leaves one with
 -- the section, and it is the best with it, with its forced tree
-pub record IsExplained (offer : Offer) (bundle : List ℕ) (section : ℕ)
+pub record IsExplained (offer : OfferData) (bundle : List ℕ) (section : ℕ)
     (explained : ExplainedData) : Type 0 where
   pub is_reason : IsReason (wishes_of offer.menu) offer.price offer.budget bundle section
       explained.reason

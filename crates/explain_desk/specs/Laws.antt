@@ -6,7 +6,7 @@ use Rattle.bundle_rules.specs.Menus.{IsMenu, MenuData, place_in, wishes_of, wort
 use Rattle.market_units.specs.Members.{has}
 use Rattle.bundle_rules.specs.Wishes.{Wishes}
 use Rattle.bundle_bounds.specs.Laws.{IsTakable}
-use Rattle.bundle_bounds.specs.Offers.{Offer}
+use Rattle.bundle_bounds.specs.Offers.{OfferData}
 use Rattle.proof_tree.specs.Texts.{IsTreeText}
 use Rattle.explain_desk.specs.declared.reasons.Reason.{Reason}
 use Rattle.explain_desk.specs.Reasons.{IsReason, tells_best}
@@ -35,7 +35,8 @@ ReasonsLeaveABundle =
 -- the section
 abbrev pub ForcedTreesProveTheBest : Type 0
 ForcedTreesProveTheBest =
-    (offer : Offer) (champion : List ℕ) (section : ℕ) → IsMenu offer.menu → IsTakable offer champion
+    (offer : OfferData) (champion : List ℕ) (section : ℕ) → IsMenu offer.menu
+    → IsTakable offer champion
     → has champion section ≡ true
     → ((text : List ℕ) × IsTreeText offer (Some (place_in offer.menu.places section)) champion text)
     ↔ IsBestWith (wishes_of offer.menu) offer.price offer.budget offer.allowed section champion
@@ -43,14 +44,15 @@ ForcedTreesProveTheBest =
 -- a student is told one thing of a section
 abbrev pub OneExplanation : Type 0
 OneExplanation =
-    (offer : Offer) (bundle : List ℕ) (section : ℕ) (one other : ExplainedData) → IsMenu offer.menu
+    (offer : OfferData) (bundle : List ℕ) (section : ℕ) (one other : ExplainedData)
+    → IsMenu offer.menu
     → IsExplained offer bundle section one → IsExplained offer bundle section other → one ≡ other
 
 -- a student gains nothing of utility by the best bundle with a section: what is told as lost is at
 -- least 0
 abbrev pub NothingIsGained : Type 0
 NothingIsGained =
-    (offer : Offer) (bundle : List ℕ) (section : ℕ) (proved : Proved)
+    (offer : OfferData) (bundle : List ℕ) (section : ℕ) (proved : Proved)
     → IsBest (wishes_of offer.menu) offer.price offer.budget offer.allowed bundle
     → IsProvedWith offer section proved
     → worth offer.menu proved.bundle ≤ℤ worth offer.menu bundle

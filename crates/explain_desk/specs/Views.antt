@@ -4,12 +4,12 @@ use Rattle.bundle_rules.specs.Bundles.{sections_of}
 use Rattle.market_certificate.specs.Publications.{Proved}
 use Rattle.explain_desk.specs.declared.explanation.Proved as own
 use Rattle.explain_desk.specs.declared.explanation.Explained as own_explained
-use Rattle.bundle_bounds.specs.Offers.{Offer}
+use Rattle.bundle_bounds.specs.Offers.{OfferData}
 use Rattle.explain_desk.specs.declared.offered.Offered.{Offered}
 use Rattle.explain_desk.specs.Explanations.{ExplainedData, offer_of_all}
 
 -- what is offered to a student
-abbrev pub offer_in : Offered → Offer
+abbrev pub offer_in : Offered → OfferData
 offer_in offered =
     offer_of_all offered.menu.now offered.prices.now offered.budget.0 offered.sections
 

@@ -4,7 +4,7 @@ use Rattle.std.specs.Prelude.{◌↔◌, IfNone, IfSome, None, Option, Some, is_
 use Rattle.std.specs.List.{position}
 use Rattle.std.specs.Str.{bytes_eq}
 use Rattle.std.proofs.lemmas.Bool.{cases_Bool, lt-ltb}
-use Rattle.bundle_bounds.specs.Offers.{Offer}
+use Rattle.bundle_bounds.specs.Offers.{OfferData}
 use Rattle.bundle_rules.specs.Given.{SomeHas}
 use Rattle.bundle_rules.specs.Menus.{wishes_of}
 use Rattle.market_units.specs.Members.{has}
@@ -41,7 +41,7 @@ not_held (Beside limit) e = omega arith
 not_held Less e = omega arith
 
 -- the best bundle with an offered section is told exactly where the student does not have it and some bundle with it can be had
-told_where_had : (offer : Offer) (bundle : List ℕ) (section : ℕ) (explained : ExplainedData) → offer.allowed section ≡ true
+told_where_had : (offer : OfferData) (bundle : List ℕ) (section : ℕ) (explained : ExplainedData) → offer.allowed section ≡ true
     → IsExplained offer bundle section explained
     → (is_some explained.best ≡ true) ↔ ((has bundle section ≡ false) × SomeHas (wishes_of offer.menu) offer.price offer.budget offer.allowed section)
 told_where_had offer bundle section explained offered is = (

@@ -11,7 +11,7 @@ use Rattle.std.proofs.lemmas.Str.Parse.{digit_at}
 use Rattle.bundle_rules.specs.Menus.{IsMenu}
 use Rattle.bundle_bounds.specs.declared.nodes.Leaf.{Leaf}
 use Rattle.bundle_bounds.specs.declared.nodes.Leaf.TheVariants.{Plain, Budget, Credits, Number}
-use Rattle.bundle_bounds.specs.Offers.{Offer, places_of}
+use Rattle.bundle_bounds.specs.Offers.{OfferData, places_of}
 use Rattle.proof_tree.specs.declared.signs.Sign.TheVariants.{Pruned}
 use Rattle.proof_tree.specs.Trees.{Tree, Wins, Bars, Cuts, Takes, Splits, Passes, IsTree}
 use Rattle.proof_tree.specs.Texts.{IsShort, spelled, symbol}
@@ -47,7 +47,7 @@ leaf_bytes (Budget place) short = behind (98 ∷ []) (decimal place) (one_byte 9
 leaf_bytes (Credits place) short = behind (99 ∷ []) (decimal place) (one_byte 99 refl) (number_bytes place (short place refl))
 leaf_bytes (Number place) short = behind (109 ∷ []) (decimal place) (one_byte 109 refl) (number_bytes place (short place refl))
 
-module _ (offer : Offer) (menu : IsMenu offer.menu) (champion : List ℕ) where
+module _ (offer : OfferData) (menu : IsMenu offer.menu) (champion : List ℕ) where
   tree_bytes : (tree : Tree) (k : ℕ) (chosen : List ℕ) → k ≤ length offer.menu.places → IsTree offer None champion k chosen tree → AreTreeBytes (spelled tree)
   tree_bytes Wins k chosen within is = one_byte 42 refl
   tree_bytes Bars k chosen within is = absurd (cc is.1.1)

@@ -13,7 +13,7 @@ use Rattle.bundle_rules.specs.Existence.Places.{section_at-place_in}
 use Rattle.bundle_rules.proofs.Feasibility.{utility_by_place}
 use Rattle.bundle_rules.proofs.PlacesFirst.{section_at-rises}
 use Rattle.bundle_bounds.specs.declared.nodes.Leaf.{Leaf}
-use Rattle.bundle_bounds.specs.Offers.{Offer, places_of}
+use Rattle.bundle_bounds.specs.Offers.{OfferData, places_of}
 use Rattle.bundle_bounds.specs.Opens.{budget_left, credits_left, courses_left, is_open, open_places, opens_from, prospects}
 use Rattle.bundle_bounds.specs.Bounds.{base_of, bounds, bounds_over, IsFirstPruning, NonePrunes}
 use Rattle.bundle_bounds.specs.Limits.{NoneBelow, IsFirstBelow}
@@ -30,7 +30,7 @@ use Rattle.proof_tree.proofs.Nodes.{places_with, places_low, last_here, last_oth
 use Rattle.proof_tree.proofs.Sound.{HasRequired, IsOnMenu, node_where_open, tree_is_sound}
 
 -- the takable bundle with the required place that is preferred to every other one
-record IsBestRequired (offer : Offer) (required : Option ℕ) (bundle : List ℕ) : Type 0 where
+record IsBestRequired (offer : OfferData) (required : Option ℕ) (bundle : List ℕ) : Type 0 where
   takable : IsTakable offer bundle
   has_required : HasRequired offer required bundle
   preferred : (other : List ℕ) → IsTakable offer other → HasRequired offer required other → other ≢ bundle → IsPreferred (wishes_of offer.menu) bundle other
@@ -49,7 +49,7 @@ same_or_not (x ∷ xs) (y ∷ ys) = elim (cases_order x y) [
   | inr (inr above) ↦ inr (λ e. let h : x ≡ y = cc e in absurd (omega arith))
 ]
 
-shut_or_not : (offer : Offer) (required : Option ℕ) (k : ℕ) (cs : List ℕ) → IsShut offer required k cs ⊎ (IsShut offer required k cs → ⊥)
+shut_or_not : (offer : OfferData) (required : Option ℕ) (k : ℕ) (cs : List ℕ) → IsShut offer required k cs ⊎ (IsShut offer required k cs → ⊥)
 shut_or_not offer None k cs = inr (λ s. absurd (cc s.1))
 shut_or_not offer (Some place) k cs = elim (cases_lt place k) [
   | inl before ↦ inr (λ s. let e : place ≡ s.0 = cc s.1 in let h : k ≤ s.0 = s.2 in absurd (omega arith))
@@ -79,7 +79,7 @@ first_or_none limit (b ∷ bs) = elim (int_order b.1 limit) [
       ]
 ]
 
-module _ (offer : Offer) (menu : IsMenu offer.menu) (required : Option ℕ) (on : IsOnMenu offer required) (champion : List ℕ)
+module _ (offer : OfferData) (menu : IsMenu offer.menu) (required : Option ℕ) (on : IsOnMenu offer required) (champion : List ℕ)
     (takable : IsTakable offer champion) where
   -- a bound prunes a node, or none does
   pruned_or_not : (k : ℕ) (chosen : List ℕ) → IsNode offer k chosen

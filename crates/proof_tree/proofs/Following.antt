@@ -4,7 +4,7 @@ use Rattle.std.specs.Prelude.{IfErr, IsErrAnd, IsOk, OnOk}
 use Rattle.std.specs.declared.result.Result.{Result}
 use Rattle.std.specs.declared.result.Result.TheVariants.{Ok, Err}
 use Rattle.std.proofs.lemmas.Bool.{false≢true}
-use Rattle.bundle_bounds.specs.Offers.{Offer, places_of}
+use Rattle.bundle_bounds.specs.Offers.{OfferData, places_of}
 use Rattle.proof_tree.specs.declared.signs.Sign.{Sign}
 use Rattle.proof_tree.specs.declared.walk.Step.TheVariants.{Signed, Unsigned}
 use Rattle.proof_tree.specs.declared.defects.TreeDefect.{TreeDefect}
@@ -42,7 +42,7 @@ other_stuck read sign text rest stands other later stands' = other (one_symbol r
 pub none_reads : (read : Sign) (text rest : List ℕ) → Stands read text rest → (other : Sign) → Reads text other → read ≡ other
 none_reads read text rest stands other reads = one_symbol read other text rest reads.1.0 stands reads.1.1
 
-module _ (offer : Offer) (required : Option ℕ) (champion text : List ℕ) where
+module _ (offer : OfferData) (required : Option ℕ) (champion text : List ℕ) where
   -- the walk begins at the root
   pub come_first : HasCome offer required champion text ((0, []) ∷ []) text
   come_first = ([], (refl, refl))
@@ -97,7 +97,7 @@ module _ (offer : Offer) (required : Option ℕ) (champion text : List ℕ) wher
       ),
     )
 
-module _ (offer : Offer) (champion text : List ℕ) (nodes : List (ℕ × List ℕ)) (rest : List ℕ) (come : HasCome offer None champion text nodes rest) where
+module _ (offer : OfferData) (champion text : List ℕ) (nodes : List (ℕ × List ℕ)) (rest : List ℕ) (come : HasCome offer None champion text nodes rest) where
   -- the defect by what is wrong at the node
   pub defect_unsigned : (defect : TreeDefect) (others : List (ℕ × List ℕ)) → IsStep offer None (places_of offer.menu champion) nodes Unsigned others
       → IsUnsigned rest defect → offset_in defect ≡ offset text rest → IsDefect offer champion text defect

@@ -3,7 +3,7 @@ use Rattle.std.proofs.Common.{◌≡◌, ◌<◌, ◌≤◌, ℕ, Option, List, 
 use Rattle.bundle_rules.specs.Menus.{IsMenu}
 use Rattle.bundle_bounds.specs.declared.nodes.Leaf.{Leaf}
 use Rattle.bundle_bounds.specs.declared.nodes.Leaf.TheVariants.{Plain, Budget, Credits, Number}
-use Rattle.bundle_bounds.specs.Offers.{Offer}
+use Rattle.bundle_bounds.specs.Offers.{OfferData}
 use Rattle.bundle_bounds.proofs.LeafPlaces.{IsLow, pruning_low}
 use Rattle.proof_tree.specs.declared.signs.Sign.{Sign}
 use Rattle.proof_tree.specs.declared.signs.Sign.TheVariants.{Champion, Shut, Pruned, Forced, Open, Passed}
@@ -17,7 +17,7 @@ low_number n (Credits other) few low place some = let same : other ≡ place = c
 low_number n (Number other) few low place some = let same : other ≡ place = cc some in let below : other < n = low in omega arith
 
 -- so a canonical symbol has a number of one or two digits at most
-pub short_sign : (offer : Offer) (required : Option ℕ) (champion : List ℕ) (k : ℕ) (cs : List ℕ) (sign : Sign) → IsMenu offer.menu
+pub short_sign : (offer : OfferData) (required : Option ℕ) (champion : List ℕ) (k : ℕ) (cs : List ℕ) (sign : Sign) → IsMenu offer.menu
     → k ≤ length offer.menu.places → IsSign offer required champion k cs sign → IsShort sign
 short_sign offer required champion k cs Champion menu within is place some = absurd (cc some)
 short_sign offer required champion k cs Shut menu within is place some = absurd (cc some)

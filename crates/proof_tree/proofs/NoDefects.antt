@@ -2,7 +2,7 @@
 use Rattle.std.proofs.Common.{◌≡◌, ◌<◌, ◌≤◌, ◌+◌, ◌++◌, ℕ, Option, None, List, [], ◌∷◌, length, sym, ◌∙◌, subst, inl, inr, arith}
 use Rattle.std.specs.Prelude.{⊤}
 use Rattle.bundle_rules.specs.Menus.{IsMenu}
-use Rattle.bundle_bounds.specs.Offers.{Offer, places_of}
+use Rattle.bundle_bounds.specs.Offers.{OfferData, places_of}
 use Rattle.proof_tree.specs.declared.signs.Sign.{Sign}
 use Rattle.proof_tree.specs.declared.signs.Sign.TheVariants.{Champion, Shut, Pruned, Forced, Open, Passed}
 use Rattle.proof_tree.specs.declared.defects.TreeDefect.TheVariants.{Syntax, NotClosed, Redundant, WrongLeaf, WrongBranch, Rest}
@@ -19,7 +19,7 @@ use Rattle.proof_tree.proofs.Spelling.{AreSpelled, split_node, no_tree, walk_lea
 low_next : (k n : ℕ) → k < n → k + 1 ≤ n
 low_next k n low = omega arith
 
-module _ (offer : Offer) (menu : IsMenu offer.menu) (required : Option ℕ) (champion : List ℕ) where
+module _ (offer : OfferData) (menu : IsMenu offer.menu) (required : Option ℕ) (champion : List ℕ) where
   -- each of these nodes has decided places of the menu alone
   abbrev AreWithin : List (ℕ × List ℕ) → Type 0
   AreWithin [] = ⊤
@@ -63,7 +63,7 @@ module _ (offer : Offer) (menu : IsMenu offer.menu) (required : Option ℕ) (cha
       )
 
 -- the signs of canonical trees
-canonical_sign : (offer : Offer) (champion : List ℕ) (k : ℕ) (cs : List ℕ) (sign : Sign) → IsSign offer None champion k cs sign → IsCanonical sign
+canonical_sign : (offer : OfferData) (champion : List ℕ) (k : ℕ) (cs : List ℕ) (sign : Sign) → IsSign offer None champion k cs sign → IsCanonical sign
 canonical_sign offer champion k cs Champion is = tt
 canonical_sign offer champion k cs Shut is = absurd (cc is.1.1)
 canonical_sign offer champion k cs (Pruned leaf) is = tt
@@ -71,7 +71,7 @@ canonical_sign offer champion k cs Forced is = absurd (cc is.1)
 canonical_sign offer champion k cs Open is = tt
 canonical_sign offer champion k cs Passed is = tt
 
-module _ (offer : Offer) (menu : IsMenu offer.menu) (champion text : List ℕ) (is_text : IsTreeText offer None champion text) where
+module _ (offer : OfferData) (menu : IsMenu offer.menu) (champion text : List ℕ) (is_text : IsTreeText offer None champion text) where
   ch : List ℕ
   ch = places_of offer.menu champion
 

@@ -7,7 +7,7 @@ use Rattle.market_units.specs.Members.{has}
 use Rattle.bundle_rules.specs.Menus.{IsMenu, section_at, place_in}
 use Rattle.bundle_rules.specs.Existence.Members.{has-here, has-there, has-cases}
 use Rattle.bundle_rules.specs.Existence.Places.{section_at-place_in}
-use Rattle.bundle_bounds.specs.Offers.{Offer, places_of}
+use Rattle.bundle_bounds.specs.Offers.{OfferData, places_of}
 use Rattle.bundle_bounds.specs.Opens.{is_open}
 use Rattle.bundle_bounds.specs.Laws.{IsTakable, IsNode, Completes}
 use Rattle.bundle_rules.proofs.PlacesFirst.{AllOnMenu, section_at-rises}
@@ -36,7 +36,7 @@ sections_back places [] all = refl
 sections_back places (s ∷ ss) all =
     rw (section_at-place_in places s (all s (has-here s ss)), sections_back places ss (λ t is. all t (has-there s ss t is))) refl
 
-module _ (offer : Offer) (menu : IsMenu offer.menu) where
+module _ (offer : OfferData) (menu : IsMenu offer.menu) where
   -- bundles of the same places are the same
   pub same_bundle : (a b : List ℕ) → IsTakable offer a → IsTakable offer b → places_of offer.menu a ≡ places_of offer.menu b → a ≡ b
   same_bundle a b may may' same =

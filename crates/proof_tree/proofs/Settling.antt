@@ -3,12 +3,12 @@ use Rattle.std.proofs.Common.{◌≡◌, ◌↔◌, ℕ, Bool, false, Option, Li
 use Rattle.std.specs.Prelude.{IsTrue}
 use Rattle.std.proofs.lemmas.Bool.{true≢false}
 use Rattle.bundle_rules.specs.Menus.{IsMenu}
-use Rattle.bundle_bounds.specs.Offers.{Offer, places_of}
+use Rattle.bundle_bounds.specs.Offers.{OfferData, places_of}
 use Rattle.bundle_bounds.specs.Laws.{IsTakable}
 use Rattle.proof_tree.specs.Trees.{IsChampionsEnd, IsShut, IsUnsettled}
 use Rattle.proof_tree.proofs.Nodes.{same_bundle}
 
-module _ (offer : Offer) (menu : IsMenu offer.menu) (required : Option ℕ) (k : ℕ) (chosen champion : List ℕ) (may : IsTakable offer chosen)
+module _ (offer : OfferData) (menu : IsMenu offer.menu) (required : Option ℕ) (k : ℕ) (chosen champion : List ℕ) (may : IsTakable offer chosen)
     (may' : IsTakable offer champion) where
   pub not_end : (r : Bool) → (IsTrue r ↔ ((k ≡ length offer.menu.places) × (chosen ≡ champion))) → r ≡ false
       → IsChampionsEnd offer (places_of offer.menu champion) k (places_of offer.menu chosen) → ⊥

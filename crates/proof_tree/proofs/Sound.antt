@@ -3,7 +3,7 @@ use Rattle.std.proofs.Common.{◌≡◌, ◌<◌, ◌≤◌, ◌+◌, ◌++◌, 
 use Rattle.std.proofs.lemmas.Bool.{cases_Bool, false≢true}
 use Rattle.market_units.specs.Members.{has}
 use Rattle.bundle_rules.specs.Menus.{IsMenu, section_at}
-use Rattle.bundle_bounds.specs.Offers.{Offer, places_of}
+use Rattle.bundle_bounds.specs.Offers.{OfferData, places_of}
 use Rattle.bundle_bounds.specs.Opens.{is_open}
 use Rattle.bundle_bounds.specs.Laws.{IsTakable, IsNode, Completes}
 use Rattle.bundle_bounds.specs.Prunings.{IsAsGood}
@@ -13,14 +13,14 @@ use Rattle.proof_tree.specs.Trees.{Tree, Wins, Bars, Cuts, Takes, Splits, Passes
 use Rattle.proof_tree.proofs.Nodes.{same_bundle, places_with, open_where_more, chosen_where_none_left, completes_with, completes_without}
 
 -- the bundle has the section of the required place, where there is one
-abbrev pub HasRequired : Offer → Option ℕ → List ℕ → Type 0
+abbrev pub HasRequired : OfferData → Option ℕ → List ℕ → Type 0
 HasRequired offer required bundle = (place : ℕ) → required ≡ Some place → has bundle (section_at offer.menu.places place) ≡ true
 
 -- a required place is on the menu
-abbrev pub IsOnMenu : Offer → Option ℕ → Type 0
+abbrev pub IsOnMenu : OfferData → Option ℕ → Type 0
 IsOnMenu offer required = (place : ℕ) → required ≡ Some place → place < length offer.menu.places
 
-module _ (offer : Offer) (menu : IsMenu offer.menu) (required : Option ℕ) (on : IsOnMenu offer required) (champion : List ℕ)
+module _ (offer : OfferData) (menu : IsMenu offer.menu) (required : Option ℕ) (on : IsOnMenu offer required) (champion : List ℕ)
     (takable : IsTakable offer champion) where
   -- the node with the next place, where that is open
   pub node_where_open : (k : ℕ) (chosen : List ℕ) → IsNode offer k chosen → k < length offer.menu.places → is_open offer (places_of offer.menu chosen) k ≡ true

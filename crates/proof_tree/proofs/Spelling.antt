@@ -1,7 +1,7 @@
 -- The texts of the trees of several nodes, one after another.
 use Rattle.std.proofs.Common.{◌≡◌, ◌++◌, ℕ, Option, List, [], ◌∷◌, refl, sym, ◌∙◌, ap, subst, append_assoc, arith}
 use Rattle.std.proofs.lemmas.List.{append-nil}
-use Rattle.bundle_bounds.specs.Offers.{Offer, places_of}
+use Rattle.bundle_bounds.specs.Offers.{OfferData, places_of}
 use Rattle.bundle_bounds.specs.Bounds.{bounds}
 use Rattle.proof_tree.specs.declared.signs.Sign.{Sign}
 use Rattle.proof_tree.specs.declared.signs.Sign.TheVariants.{Champion, Shut, Pruned, Forced, Open, Passed}
@@ -15,20 +15,20 @@ cancel [] ys zs e = e
 cancel (x ∷ xs) ys zs e = cancel xs ys zs (let f : xs ++ ys ≡ xs ++ zs = cc e in f)
 
 -- the text is that of trees of these nodes, one after another
-abbrev pub AreSpelled : Offer → Option ℕ → List ℕ → List (ℕ × List ℕ) → List ℕ → Type 0
+abbrev pub AreSpelled : OfferData → Option ℕ → List ℕ → List (ℕ × List ℕ) → List ℕ → Type 0
 AreSpelled offer required champion [] text = text ≡ []
 AreSpelled offer required champion (node ∷ nodes) text =
     (tree : Tree) × IsTree offer required champion node.0 node.1 tree
     × ((rest : List ℕ) × (text ≡ spelled tree ++ rest) × AreSpelled offer required champion nodes rest)
 
 -- the text after the symbol of a node is that of the nodes below it, and those after them
-pub record IsSplit (offer : Offer) (required : Option ℕ) (champion : List ℕ) (sign : Sign) (k : ℕ) (chosen : List ℕ) (nodes : List (ℕ × List ℕ)) (text : List ℕ)
+pub record IsSplit (offer : OfferData) (required : Option ℕ) (champion : List ℕ) (sign : Sign) (k : ℕ) (chosen : List ℕ) (nodes : List (ℕ × List ℕ)) (text : List ℕ)
     : Type 0 where
   pub rest : List ℕ
   pub front : text ≡ symbol sign ++ rest
   pub are : AreSpelled offer required champion (below sign k chosen ++ nodes) rest
 
-module _ (offer : Offer) (required : Option ℕ) (champion : List ℕ) (k : ℕ) (chosen : List ℕ) (nodes : List (ℕ × List ℕ)) where
+module _ (offer : OfferData) (required : Option ℕ) (champion : List ℕ) (k : ℕ) (chosen : List ℕ) (nodes : List (ℕ × List ℕ)) where
   split_tree : (tree : Tree) (text rest : List ℕ) → IsTree offer required champion k chosen tree → text ≡ spelled tree ++ rest
       → AreSpelled offer required champion nodes rest → IsSplit offer required champion (sign_of tree) k chosen nodes text
   split_tree Wins text rest is whole are = record { rest = rest; front = whole; are = are }
@@ -81,7 +81,7 @@ module _ (offer : Offer) (required : Option ℕ) (champion : List ℕ) (k : ℕ)
   pub no_tree : (tree : Tree) → HasNoSign offer required champion k chosen → IsTree offer required champion k chosen tree → ⊥
   no_tree tree none is = no_sign (sign_of tree) none (sign_is offer required champion k chosen tree is)
 
-module _ (offer : Offer) (required : Option ℕ) (champion : List ℕ) where
+module _ (offer : OfferData) (required : Option ℕ) (champion : List ℕ) where
   -- the walk goes on by one node
   pub comes_more : (signs : List Sign) (nodes : List (ℕ × List ℕ)) (text : List ℕ) (node : ℕ × List ℕ) (later : List (ℕ × List ℕ)) (rest : List ℕ) (sign : Sign)
       (after : List ℕ)
@@ -118,10 +118,10 @@ module _ (offer : Offer) (required : Option ℕ) (champion : List ℕ) where
       (subst (AreSpelled offer required champion (below sign node.0 node.1 ++ nodes)) same split.are)
 
 -- the text of one tree
-pub text_spelled : (offer : Offer) (required : Option ℕ) (champion text : List ℕ) → IsTreeText offer required champion text
+pub text_spelled : (offer : OfferData) (required : Option ℕ) (champion text : List ℕ) → IsTreeText offer required champion text
     → AreSpelled offer required (places_of offer.menu champion) ((0, []) ∷ []) text
 text_spelled offer required champion text is = (is.0, is.1, ([], is.2 ∙ sym (append-nil (spelled is.0)), refl))
 
-pub spelled_text : (offer : Offer) (required : Option ℕ) (champion text : List ℕ)
+pub spelled_text : (offer : OfferData) (required : Option ℕ) (champion text : List ℕ)
     → AreSpelled offer required (places_of offer.menu champion) ((0, []) ∷ []) text → IsTreeText offer required champion text
 spelled_text offer required champion text are = (are.0, are.1, are.2.1 ∙ ap (λ r. spelled are.0 ++ r) are.2.2 ∙ append-nil (spelled are.0))

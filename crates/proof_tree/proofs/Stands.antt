@@ -6,7 +6,7 @@ use Rattle.bundle_rules.specs.Menus.{IsMenu, section_at, wishes_of}
 use Rattle.bundle_bounds.specs.declared.nodes.Node.{Node}
 use Rattle.bundle_bounds.specs.declared.stems.Stem.{Stem}
 use Rattle.bundle_bounds.specs.Laws.{IsNode}
-use Rattle.bundle_bounds.specs.Offers.{Offer, places_of}
+use Rattle.bundle_bounds.specs.Offers.{OfferData, places_of}
 use Rattle.bundle_bounds.specs.Opens.{is_open}
 use Rattle.bundle_bounds.specs.Stems.{IsStem}
 use Rattle.bundle_bounds.proofs.Openings.{open_facts, takable_where_open}
@@ -14,7 +14,7 @@ use Rattle.proof_tree.specs.declared.walk.Walk.{Walk}
 use Rattle.proof_tree.specs.Standing.{IsStemAt, HaveStems}
 
 -- other stems are behind the waiting ones
-pub stems_behind : (offer : Offer) (champion : List ℕ) (walk : Walk) (stems : List Stem) → HaveStems offer champion walk → length stems ≡ length walk.stems
+pub stems_behind : (offer : OfferData) (champion : List ℕ) (walk : Walk) (stems : List Stem) → HaveStems offer champion walk → length stems ≡ length walk.stems
     → ((i : ℕ) (d : Stem) → i < walk.count → get_or stems i d ≡ get_or walk.stems i d)
     → HaveStems offer champion (record walk { stems = stems })
 stems_behind offer champion walk stems have size same = record {
@@ -25,7 +25,7 @@ stems_behind offer champion walk stems have size same = record {
 }
 
 -- the last of the waiting nodes is taken
-pub stems_less : (offer : Offer) (champion : List ℕ) (walk less : Walk) → HaveStems offer champion walk → less.stems ≡ walk.stems → less.waiting ≡ walk.waiting
+pub stems_less : (offer : OfferData) (champion : List ℕ) (walk less : Walk) → HaveStems offer champion walk → less.stems ≡ walk.stems → less.waiting ≡ walk.waiting
     → walk.count ≡ less.count + 1 → HaveStems offer champion less
 stems_less offer champion walk less have stems waiting count = record {
   whole = ap length stems ∙ have.whole;
@@ -35,7 +35,7 @@ stems_less offer champion walk less have stems waiting count = record {
       (sym stems) (have.each i d (omega arith) e));
 }
 
-pub stem_taken : (offer : Offer) (champion : List ℕ) (walk less : Walk) (node : Node) → HaveStems offer champion walk → less.stems ≡ walk.stems
+pub stem_taken : (offer : OfferData) (champion : List ℕ) (walk less : Walk) (node : Node) → HaveStems offer champion walk → less.stems ≡ walk.stems
     → walk.count ≡ less.count + 1 → node ≡ get_or walk.waiting less.count node
     → IsStemAt offer champion less.stems less.count node.place (sections_of node.chosen)
 stem_taken offer champion walk less node have stems count is = λ e.
@@ -46,7 +46,7 @@ stem_taken offer champion walk less node have stems count is = λ e.
     (sym stems) (have.each less.count node (omega arith) e))
 
 -- one more node waits, whose stem stands there
-pub stems_more : (offer : Offer) (champion : List ℕ) (walk more : Walk) (node : Node) → HaveStems offer champion walk → more.stems ≡ walk.stems
+pub stems_more : (offer : OfferData) (champion : List ℕ) (walk more : Walk) (node : Node) → HaveStems offer champion walk → more.stems ≡ walk.stems
     → more.count ≡ walk.count + 1
     → ((i : ℕ) (d : Node) → i ≢ walk.count → get_or more.waiting i d ≡ get_or walk.waiting i d) → ((d : Node) → get_or more.waiting walk.count d ≡ node)
     → IsStemAt offer champion walk.stems walk.count node.place (sections_of node.chosen) → HaveStems offer champion more
@@ -64,14 +64,14 @@ stems_more offer champion walk more node have stems count others here stem = rec
 }
 
 -- the stem of a node under another name
-pub stem_same : (offer : Offer) (champion : List ℕ) (stems others : List Stem) (at k j : ℕ) (chosen sections : List ℕ) → stems ≡ others → k ≡ j
+pub stem_same : (offer : OfferData) (champion : List ℕ) (stems others : List Stem) (at k j : ℕ) (chosen sections : List ℕ) → stems ≡ others → k ≡ j
     → chosen ≡ sections → IsStemAt offer champion stems at k chosen → IsStemAt offer champion others at j sections
 stem_same offer champion stems others at k j chosen sections same places bundles is = λ e.
     subst (λ (ss : List Stem). IsStem offer champion j sections (get_or ss at e)) same
     (subst (λ n. IsStem offer champion n sections (get_or stems at e)) places (subst (λ l. IsStem offer champion k l (get_or stems at e)) bundles (is e)))
 
 -- where a place is open fewer than 8 sections are chosen
-pub few_where_open : (offer : Offer) (k : ℕ) (chosen : List ℕ) → IsMenu offer.menu → IsNode offer k chosen → k < length offer.menu.places
+pub few_where_open : (offer : OfferData) (k : ℕ) (chosen : List ℕ) → IsMenu offer.menu → IsNode offer k chosen → k < length offer.menu.places
     → is_open offer (places_of offer.menu chosen) k ≡ true → length chosen < 8
 unfolding wishes_of
 few_where_open offer k chosen menu node low opened =

@@ -5,7 +5,7 @@ use Rattle.std.proofs.lemmas.List.{take_more, reverse-append, length-reverse, le
 use Rattle.bundle_rules.specs.Bundles.{sections_of}
 use Rattle.bundle_rules.specs.Menus.{IsMenu, section_at}
 use Rattle.bundle_bounds.specs.declared.nodes.Node.{Node}
-use Rattle.bundle_bounds.specs.Offers.{Offer, places_of}
+use Rattle.bundle_bounds.specs.Offers.{OfferData, places_of}
 use Rattle.bundle_bounds.specs.Opens.{is_open}
 use Rattle.bundle_bounds.proofs.Openings.{open_facts, takable_where_open, node_with, node_without, node_same}
 use Rattle.proof_tree.specs.declared.signs.Sign.TheVariants.{Forced}
@@ -35,7 +35,7 @@ next_waits nodes n node some low is =
     let one_less : n ≡ (n - 1) + 1 = omega arith in
     ap (λ m. reverse (take m nodes)) one_less ∙ next_of nodes (n - 1) node (omega arith) ∙ ap (λ x. x ∷ reverse (take (n - 1) nodes)) (sym is)
 
-module _ (offer : Offer) (required : Option ℕ) (champion : List ℕ) (k : ℕ) (cs : List ℕ) where
+module _ (offer : OfferData) (required : Option ℕ) (champion : List ℕ) (k : ℕ) (cs : List ℕ) where
   -- a node with a sign that goes on is open where it is taken
   pub open_where_forced : IsSign offer required champion k cs Forced → is_open offer cs k ≡ true
   open_where_forced is =
@@ -44,7 +44,7 @@ module _ (offer : Offer) (required : Option ℕ) (champion : List ℕ) (k : ℕ)
         | inr shut ↦ absurd (is.0.unsettled.not_shut (k, is.1, (let h : k ≤ k = omega arith in h), shut))
       ]
 
-module _ (offer : Offer) (node : Node) (under : List Node) (waits : MayWait offer (node ∷ under)) (low : node.place < length offer.menu.places) where
+module _ (offer : OfferData) (node : Node) (under : List Node) (waits : MayWait offer (node ∷ under)) (low : node.place < length offer.menu.places) where
   -- the node with the next place, and the one without it, may wait
   pub wait_with : IsMenu offer.menu → (next : Node) (others : List Node) → next.place ≡ node.place + 1
       → sections_of next.chosen ≡ sections_of node.chosen ++ section_at offer.menu.places node.place ∷ []

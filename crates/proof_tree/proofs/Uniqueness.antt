@@ -3,14 +3,14 @@ use Rattle.std.proofs.Common.{◌≡◌, ◌+◌, ◌++◌, ℕ, Option, List, [
 use Rattle.std.specs.Prelude.{ℤ}
 use Rattle.std.proofs.lemmas.Bool.{true≢false}
 use Rattle.bundle_bounds.specs.declared.nodes.Leaf.{Leaf}
-use Rattle.bundle_bounds.specs.Offers.{Offer}
+use Rattle.bundle_bounds.specs.Offers.{OfferData}
 use Rattle.bundle_bounds.specs.Bounds.{bounds, IsFirstPruning, NonePrunes}
 use Rattle.proof_tree.specs.declared.signs.Sign.{Sign}
 use Rattle.proof_tree.specs.declared.signs.Sign.TheVariants.{Champion, Shut, Pruned, Forced, Open, Passed}
 use Rattle.proof_tree.specs.Trees.{Tree, Wins, Bars, Cuts, Takes, Splits, Passes, sign_of, IsChampionsEnd, IsSign, IsTree}
 use Rattle.proof_tree.specs.Laws.{OneTree}
 
-module _ (offer : Offer) (required : Option ℕ) (champion : List ℕ) where
+module _ (offer : OfferData) (required : Option ℕ) (champion : List ℕ) where
   pub one_first : (k : ℕ) (cs : List ℕ) (bs : List (Leaf × ℤ)) (a b : Leaf) → IsFirstPruning offer k cs champion bs a → IsFirstPruning offer k cs champion bs b
       → a ≡ b
   one_first k cs [] a b first second = absurd first

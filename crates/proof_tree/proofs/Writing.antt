@@ -2,7 +2,7 @@
 use Rattle.std.proofs.Common.{◌≡◌, ◌<◌, ◌≤◌, ◌+◌, ◌-◌, ◌++◌, ℕ, zero, suc, Option, None, Some, List, [], ◌∷◌, length, drop, length-append, append_assoc, refl, sym, ◌∙◌, ap, subst, arith}
 use Rattle.std.proofs.lemmas.List.{append-nil, drop-drop}
 use Rattle.std.specs.Prelude.{IfNone}
-use Rattle.bundle_bounds.specs.Offers.{Offer, places_of}
+use Rattle.bundle_bounds.specs.Offers.{OfferData, places_of}
 use Rattle.proof_tree.specs.declared.signs.Sign.{Sign}
 use Rattle.proof_tree.specs.declared.signs.Sign.TheVariants.{Champion, Shut, Pruned, Forced, Open, Passed}
 use Rattle.proof_tree.specs.declared.walk.Step.TheVariants.{Signed, Unsigned}
@@ -26,14 +26,14 @@ drop_later xs ys m n low same =
     ap (λ k. drop k xs) more ∙ sym (drop-drop (n - m) m xs) ∙ ap (drop (n - m)) same ∙ drop-drop (n - m) m ys ∙ ap (λ k. drop k ys) (sym more)
 
 -- the champion's tree is what is written, and then the trees of the nodes that are left
-pub record IsWritten (offer : Offer) (required : Option ℕ) (champion written : List ℕ) (nodes : List (ℕ × List ℕ)) : Type 0 where
+pub record IsWritten (offer : OfferData) (required : Option ℕ) (champion written : List ℕ) (nodes : List (ℕ × List ℕ)) : Type 0 where
   pub tree : Tree
   pub is : IsTree offer required (places_of offer.menu champion) 0 [] tree
   pub left : List ℕ
   pub are : AreSpelled offer required (places_of offer.menu champion) nodes left
   pub whole : spelled tree ≡ written ++ left
 
-module _ (offer : Offer) (required : Option ℕ) (champion : List ℕ) where
+module _ (offer : OfferData) (required : Option ℕ) (champion : List ℕ) where
   pub nothing_written : HasTree offer required champion → IsWritten offer required champion [] ((0, []) ∷ [])
   nothing_written has = record {
     tree = has.0;
@@ -91,7 +91,7 @@ one_at_least zero = omega arith
 one_at_least (suc n) = omega arith
 
 -- a step leaves fewer nodes
-pub fewer_below : (offer : Offer) (required : Option ℕ) (ch : List ℕ) (k : ℕ) (cs : List ℕ) (sign : Sign) (later : List (ℕ × List ℕ))
+pub fewer_below : (offer : OfferData) (required : Option ℕ) (ch : List ℕ) (k : ℕ) (cs : List ℕ) (sign : Sign) (later : List (ℕ × List ℕ))
     → IsSign offer required ch k cs sign → nodes_left offer (below sign k cs ++ later) < nodes_left offer ((k, cs) ∷ later)
 fewer_below offer required ch k cs Champion later is =
     let some : 0 < nodes_below (length offer.menu.places - k) = one_at_least (length offer.menu.places - k) in omega arith
@@ -103,6 +103,6 @@ fewer_below offer required ch k cs Forced later is = rw (left_less k (length off
 fewer_below offer required ch k cs Open later is = rw (left_less k (length offer.menu.places) is.0.left) (omega arith)
 fewer_below offer required ch k cs Passed later is = rw (left_less k (length offer.menu.places) is.0.left) (omega arith)
 
-pub fewer : (offer : Offer) (required : Option ℕ) (ch : List ℕ) (nodes others : List (ℕ × List ℕ)) (sign : Sign)
+pub fewer : (offer : OfferData) (required : Option ℕ) (ch : List ℕ) (nodes others : List (ℕ × List ℕ)) (sign : Sign)
     → IsStep offer required ch nodes (Signed sign) others → nodes_left offer others < nodes_left offer nodes
 fewer offer required ch nodes others sign step = rw (step.1.3, step.1.1) (fewer_below offer required ch step.0.0 step.0.1 sign step.1.0 step.1.2)

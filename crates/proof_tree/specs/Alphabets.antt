@@ -2,7 +2,7 @@
 use Rattle.std.specs.Prelude.{ℕ, ◌<◌, ◌||◌, ◌==◌, Bool, IsTrue, None, List, length, All}
 use Rattle.std.specs.Char.{is_ascii_digit}
 use Rattle.bundle_rules.specs.Menus.{IsMenu}
-use Rattle.bundle_bounds.specs.Offers.{Offer}
+use Rattle.bundle_bounds.specs.Offers.{OfferData}
 use Rattle.proof_tree.specs.Texts.{IsTreeText}
 
 -- `*`, `n`, `b`, `c`, `m`, `+`, `-`, or a digit
@@ -19,5 +19,5 @@ pub record AreTreeBytes (text : List ℕ) : Type 0 where
 -- the text of a canonical tree has one such byte or more, and no other ones
 abbrev pub TreesHaveTreeBytes : Type 0
 TreesHaveTreeBytes =
-    (offer : Offer) (champion text : List ℕ) → IsMenu offer.menu
+    (offer : OfferData) (champion text : List ℕ) → IsMenu offer.menu
     → IsTreeText offer None champion text → AreTreeBytes text

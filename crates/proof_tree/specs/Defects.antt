@@ -1,6 +1,6 @@
 -- Where a text is not the tree of a champion: the first place at which the walk with it fails.
 use Rattle.std.specs.Prelude.{ℕ, ◌-◌, ◌≡◌, ◌≢◌, ◌⊎◌, ◌^◌, min, ⊤, Option, None, List, [], ◌∷◌, length}
-use Rattle.bundle_bounds.specs.Offers.{Offer, places_of}
+use Rattle.bundle_bounds.specs.Offers.{OfferData, places_of}
 use Rattle.proof_tree.specs.declared.signs.Sign.{Sign}
 use Rattle.proof_tree.specs.declared.signs.Sign.TheVariants.{Shut, Pruned, Forced}
 use Rattle.proof_tree.specs.declared.defects.TreeDefect.{TreeDefect}
@@ -30,7 +30,7 @@ Reads rest sign = IsCanonical sign × ((later : List ℕ) × Stands sign rest la
 
 -- the walk of the canonical tree comes to a node, and what is left of the text there is not as it
 -- should be
-abbrev pub FailsAt : Offer → List ℕ → List ℕ → ℕ → (ℕ → List ℕ → List ℕ → Type 0) → Type 0
+abbrev pub FailsAt : OfferData → List ℕ → List ℕ → ℕ → (ℕ → List ℕ → List ℕ → Type 0) → Type 0
 FailsAt offer champion text at fault =
     (k : ℕ)
     × ((chosen : List ℕ)
@@ -39,7 +39,7 @@ FailsAt offer champion text at fault =
     × (at ≡ offset text rest) × fault k chosen rest)))
 
 -- the sign whose symbol stands first is not the canonical one, and this relation holds of the two
-abbrev pub Differs : Offer → List ℕ → (Sign → Sign → Type 0) → ℕ → List ℕ → List ℕ → Type 0
+abbrev pub Differs : OfferData → List ℕ → (Sign → Sign → Type 0) → ℕ → List ℕ → List ℕ → Type 0
 Differs offer champion are k chosen rest =
     (read : Sign) × Reads rest read
     × ((canonical : Sign) × IsSign offer None (places_of offer.menu champion) k chosen canonical
@@ -50,7 +50,7 @@ Differs offer champion are k chosen rest =
 -- sign is no leaf. `Redundant`: the canonical sign is a leaf and what stands is none. `WrongLeaf`,
 -- `WrongBranch`: another leaf, another of *, +, -. `Rest`: the walk is at its end, and bytes are
 -- left.
-abbrev pub IsDefect : Offer → List ℕ → List ℕ → TreeDefect → Type 0
+abbrev pub IsDefect : OfferData → List ℕ → List ℕ → TreeDefect → Type 0
 IsDefect offer champion text (Syntax at) =
     FailsAt offer champion text at (λ k chosen rest. (read : Sign) → ¬ Reads rest read)
 IsDefect offer champion text (NotClosed at) = FailsAt offer champion text at (λ k chosen rest.
@@ -72,14 +72,14 @@ IsDefect offer champion text (Rest at) =
 
 -- the walk can't go on: no node is left but bytes are, or the symbol of the next node's canonical
 -- sign does not stand first, or it has no such sign
-abbrev pub IsStuck : Offer → Option ℕ → List ℕ → List (ℕ × List ℕ) → List ℕ → Type 0
+abbrev pub IsStuck : OfferData → Option ℕ → List ℕ → List (ℕ × List ℕ) → List ℕ → Type 0
 IsStuck offer required champion [] rest = rest ≢ []
 IsStuck offer required champion (node ∷ nodes) rest =
     (sign : Sign) (later : List ℕ) → IsSign offer required champion node.0 node.1 sign
     → ¬ Stands sign rest later
 
 -- the walk of the tree with this text first fails at this offset
-abbrev pub FirstFailsAt : Offer → Option ℕ → List ℕ → List ℕ → ℕ → Type 0
+abbrev pub FirstFailsAt : OfferData → Option ℕ → List ℕ → List ℕ → ℕ → Type 0
 FirstFailsAt offer required champion text at =
     (nodes : List (ℕ × List ℕ))
     × ((rest : List ℕ) × HasCome offer required champion text nodes rest

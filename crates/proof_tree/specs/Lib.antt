@@ -8,3 +8,5 @@ pub mod Spellings
 pub mod Laws
 pub mod Alphabets
 pub mod Standing
+pub mod Claims
+pub mod Visits

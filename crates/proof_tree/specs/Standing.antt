@@ -5,19 +5,19 @@ use Rattle.bundle_rules.specs.Bundles.{sections_of}
 use Rattle.bundle_rules.specs.Menus.{section_at}
 use Rattle.bundle_bounds.specs.declared.nodes.Node.{Node}
 use Rattle.bundle_bounds.specs.declared.stems.Stem.{Stem}
-use Rattle.bundle_bounds.specs.Offers.{Offer}
+use Rattle.bundle_bounds.specs.Offers.{OfferData}
 use Rattle.bundle_bounds.specs.Stems.{IsStem}
 use Rattle.proof_tree.specs.declared.signs.Sign.{Sign}
 use Rattle.proof_tree.specs.declared.signs.Sign.TheVariants.{Forced, Open, Passed}
 use Rattle.proof_tree.specs.declared.walk.Walk.{Walk}
 
 -- the stem at this index is at this node, for the champion
-abbrev pub IsStemAt : Offer → List ℕ → List Stem → ℕ → ℕ → List ℕ → Type 0
+abbrev pub IsStemAt : OfferData → List ℕ → List Stem → ℕ → ℕ → List ℕ → Type 0
 IsStemAt offer champion stems at k chosen =
     (d : Stem) → IsStem offer champion k chosen (slice_index_or stems at d)
 
 -- each waiting node has its stem
-pub record HaveStems (offer : Offer) (champion : List ℕ) (walk : Walk) : Type 0 where
+pub record HaveStems (offer : OfferData) (champion : List ℕ) (walk : Walk) : Type 0 where
   pub whole : length walk.stems ≡ MAX_COURSES + 1
   pub each : (i : ℕ) (d : Node) → i < walk.count
       → IsStemAt offer champion walk.stems i (slice_index_or walk.waiting i d).place
@@ -25,7 +25,7 @@ pub record HaveStems (offer : Offer) (champion : List ℕ) (walk : Walk) : Type 
 
 -- the stems of the nodes below a node of this sign, from this index on: without the next place, and
 -- behind that with it, or one of them alone
-abbrev pub AreStanding : Offer → List ℕ → Node → Sign → List Stem → ℕ → Type 0
+abbrev pub AreStanding : OfferData → List ℕ → Node → Sign → List Stem → ℕ → Type 0
 AreStanding offer champion node Forced stems at =
     IsStemAt offer champion stems at (node.place + 1)
     (sections_of node.chosen ++ section_at offer.menu.places node.place ∷ [])

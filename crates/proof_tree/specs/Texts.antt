@@ -2,7 +2,7 @@
 use Rattle.std.specs.Prelude.{ℕ, ◌<◌, ◌≤◌, ◌≡◌, ⊤, Option, Some, None, List, [], ◌∷◌, ◌++◌}
 use Rattle.std.specs.Fmt.{decimal}
 use Rattle.bundle_bounds.specs.declared.nodes.Leaf.{Leaf}
-use Rattle.bundle_bounds.specs.Offers.{Offer, places_of}
+use Rattle.bundle_bounds.specs.Offers.{OfferData, places_of}
 use Rattle.bundle_bounds.specs.declared.nodes.Leaf.TheVariants.{Plain, Budget, Credits, Number}
 use Rattle.proof_tree.specs.declared.signs.Sign.{Sign}
 use Rattle.proof_tree.specs.declared.signs.Sign.TheVariants.{Champion, Shut, Pruned, Forced, Open, Passed}
@@ -36,7 +36,7 @@ spelled (Passes without) = symbol Passed ++ spelled without
 
 -- the text is that of the champion's tree: the canonical one, or with a required place the forced
 -- one
-abbrev pub IsTreeText : Offer → Option ℕ → List ℕ → List ℕ → Type 0
+abbrev pub IsTreeText : OfferData → Option ℕ → List ℕ → List ℕ → Type 0
 IsTreeText offer required champion text =
     (tree : Tree) × IsTree offer required (places_of offer.menu champion) 0 [] tree
     × (text ≡ spelled tree)

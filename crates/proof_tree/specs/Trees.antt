@@ -2,7 +2,7 @@
 -- taken, the forced tree.
 use Rattle.std.specs.Prelude.{ℕ, ◌+◌, ◌≤◌, ◌<◌, ◌≡◌, ◌≢◌, true, false, Option, Some, List, [], ◌∷◌, ◌++◌, length}
 use Rattle.bundle_bounds.specs.declared.nodes.Leaf.{Leaf}
-use Rattle.bundle_bounds.specs.Offers.{Offer}
+use Rattle.bundle_bounds.specs.Offers.{OfferData}
 use Rattle.proof_tree.specs.declared.signs.Sign.{Sign}
 use Rattle.proof_tree.specs.declared.signs.Sign.TheVariants.{Champion, Shut, Pruned, Forced, Open, Passed}
 use Rattle.bundle_bounds.specs.Opens.{is_open}
@@ -27,29 +27,29 @@ sign_of (Splits with_it without) = Open
 sign_of (Passes without) = Passed
 
 -- all places are decided, and the chosen ones are the champion's
-abbrev pub IsChampionsEnd : Offer → List ℕ → ℕ → List ℕ → Type 0
+abbrev pub IsChampionsEnd : OfferData → List ℕ → ℕ → List ℕ → Type 0
 IsChampionsEnd offer champion k chosen = (k ≡ length offer.menu.places) × (chosen ≡ champion)
 
 -- the required place is undecided and not open
-abbrev pub IsShut : Offer → Option ℕ → ℕ → List ℕ → Type 0
+abbrev pub IsShut : OfferData → Option ℕ → ℕ → List ℕ → Type 0
 IsShut offer required k chosen =
     (place : ℕ) × (required ≡ Some place) × (k ≤ place) × (is_open offer chosen place ≡ false)
 
 -- neither of these: the bounds are asked
-pub record IsUnsettled (offer : Offer) (required : Option ℕ) (champion : List ℕ) (k : ℕ)
+pub record IsUnsettled (offer : OfferData) (required : Option ℕ) (champion : List ℕ) (k : ℕ)
     (chosen : List ℕ) : Type 0 where
   pub no_end : ¬ IsChampionsEnd offer champion k chosen
   pub not_shut : ¬ IsShut offer required k chosen
 
 -- nor does a bound prune the node, and a place is left
-pub record GoesOn (offer : Offer) (required : Option ℕ) (champion : List ℕ) (k : ℕ)
+pub record GoesOn (offer : OfferData) (required : Option ℕ) (champion : List ℕ) (k : ℕ)
     (chosen : List ℕ) : Type 0 where
   pub unsettled : IsUnsettled offer required champion k chosen
   pub none_prunes : NonePrunes offer k chosen champion (bounds offer k chosen)
   pub left : k < length offer.menu.places
 
 -- the canonical sign of a node: the first that fits, also where a node below it has no tree
-abbrev pub IsSign : Offer → Option ℕ → List ℕ → ℕ → List ℕ → Sign → Type 0
+abbrev pub IsSign : OfferData → Option ℕ → List ℕ → ℕ → List ℕ → Sign → Type 0
 IsSign offer required champion k chosen Champion = IsChampionsEnd offer champion k chosen
 IsSign offer required champion k chosen Shut =
     (¬ IsChampionsEnd offer champion k chosen) × IsShut offer required k chosen
@@ -65,7 +65,7 @@ IsSign offer required champion k chosen Passed =
 
 -- the tree of a champion at a node, where these places are chosen: the canonical sign, and below it
 -- the trees of the nodes below
-abbrev pub IsTree : Offer → Option ℕ → List ℕ → ℕ → List ℕ → Tree → Type 0
+abbrev pub IsTree : OfferData → Option ℕ → List ℕ → ℕ → List ℕ → Tree → Type 0
 IsTree offer required champion k chosen Wins = IsSign offer required champion k chosen Champion
 IsTree offer required champion k chosen Bars = IsSign offer required champion k chosen Shut
 IsTree offer required champion k chosen (Cuts leaf) =
@@ -83,7 +83,7 @@ IsTree offer required champion k chosen (Passes without) =
 
 -- a node without a sign: all places are decided, the chosen ones are not the champion's, and no
 -- bound prunes it
-pub record HasNoSign (offer : Offer) (required : Option ℕ) (champion : List ℕ) (k : ℕ)
+pub record HasNoSign (offer : OfferData) (required : Option ℕ) (champion : List ℕ) (k : ℕ)
     (chosen : List ℕ) : Type 0 where
   pub unsettled : IsUnsettled offer required champion k chosen
   pub none_prunes : NonePrunes offer k chosen champion (bounds offer k chosen)

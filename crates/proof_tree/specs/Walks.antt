@@ -1,6 +1,6 @@
 -- The walk of a tree together with a text: a node first, then the nodes below it, in their order.
 use Rattle.std.specs.Prelude.{ℕ, ◌+◌, ◌≡◌, Option, List, [], ◌∷◌, ◌++◌}
-use Rattle.bundle_bounds.specs.Offers.{Offer, places_of}
+use Rattle.bundle_bounds.specs.Offers.{OfferData, places_of}
 use Rattle.proof_tree.specs.declared.signs.Sign.{Sign}
 use Rattle.proof_tree.specs.declared.signs.Sign.TheVariants.{Champion, Shut, Pruned, Forced, Open, Passed}
 use Rattle.proof_tree.specs.Trees.{IsSign}
@@ -18,7 +18,7 @@ below Passed k chosen = (k + 1, chosen) ∷ []
 
 -- the walk of these nodes with this text comes to those nodes with that text: on the way, the
 -- symbol of each node's canonical sign stands first
-abbrev pub ComesTo : Offer → Option ℕ → List ℕ → List Sign → List (ℕ × List ℕ) → List ℕ
+abbrev pub ComesTo : OfferData → Option ℕ → List ℕ → List Sign → List (ℕ × List ℕ) → List ℕ
     → List (ℕ × List ℕ) → List ℕ → Type 0
 ComesTo offer required champion [] nodes text others rest = (nodes ≡ others) × (text ≡ rest)
 ComesTo offer required champion (sign ∷ signs) [] text others rest = ⊥
@@ -29,7 +29,7 @@ ComesTo offer required champion (sign ∷ signs) (node ∷ nodes) text others re
     others rest)
 
 -- the walk of the champion's tree from the root on comes to these nodes, and this rest of the text
-abbrev pub HasCome : Offer → Option ℕ → List ℕ → List ℕ → List (ℕ × List ℕ) → List ℕ → Type 0
+abbrev pub HasCome : OfferData → Option ℕ → List ℕ → List ℕ → List (ℕ × List ℕ) → List ℕ → Type 0
 HasCome offer required champion text nodes rest =
     (signs : List Sign)
     × ComesTo offer required (places_of offer.menu champion) signs ((0, []) ∷ []) text nodes rest

@@ -6,12 +6,14 @@ ghost use Rattle.bundle_rules.specs.Demand.{HasPrices, IsBest, price_in};
 ghost use Rattle.bundle_rules.specs.Given.{IsBestWith};
 ghost use Rattle.bundle_rules.specs.Menus.{wishes_of, place_in};
 ghost use Rattle.bundle_bounds.specs.Offers.{offer_of};
-ghost use Rattle.bundle_bounds.specs.Laws.{IsTakable};
+ghost use Rattle.proof_tree.specs.Claims.{offer_in, champion_in};
 ghost use Rattle.proof_tree.specs.Texts.{IsTreeText};
 ghost use Rattle.proof_tree.specs.Laws.{HasTree};
 
+use crate::claim::Claim;
 use crate::symbols::spell;
 use crate::walk::{PLACES, Step, Walk};
+use bundle_bounds::Offer;
 use bundle_rules::{Bundle, Menu};
 use market_units::{NoMemory, SectionNo, SectionSet, Tokens};
 use std::alloc::Global;
@@ -34,7 +36,18 @@ pub fn build(
         (sections_of champion.now) text.items) }
 {
     prove!(menu.len() <= PLACES);
-    written(alloc, menu, prices, budget, allowed, None, champion)
+    let offer = Offer {
+        menu,
+        prices,
+        budget,
+        allowed,
+    };
+    let claim = Claim {
+        offer: &offer,
+        required: None,
+        champion,
+    };
+    written(alloc, &claim)
 }
 
 /// The text of the forced tree of a champion that is the best bundle with the section, or
@@ -58,33 +71,31 @@ pub fn build_forced(
 {
     prove!(menu.len() <= PLACES);
     let place = menu.place(section);
-    written(alloc, menu, prices, budget, allowed, Some(place), champion)
+    let offer = Offer {
+        menu,
+        prices,
+        budget,
+        allowed,
+    };
+    let claim = Claim {
+        offer: &offer,
+        required: Some(place),
+        champion,
+    };
+    written(alloc, &claim)
 }
 
-// The text of the champion's tree, where there is one.
-fn written(
-    alloc: Global,
-    menu: &Menu,
-    prices: &[Tokens],
-    budget: Tokens,
-    allowed: &SectionSet,
-    required: Option<u8>,
-    champion: &Bundle,
-) -> Result<Vec<u8>, NoMemory>
-    requires prices { HasPrices menu.now prices.now }
-    requires required { IfSome required (λ place. place < length menu.now.places) }
-    requires champion { IsTakable (offer_of menu.now prices.now budget.0 allowed.now)
-        (sections_of champion.now) }
-    requires tree { HasTree (offer_of menu.now prices.now budget.0 allowed.now) required
-        (sections_of champion.now) }
+// The text of the claim's tree, where there is one.
+fn written(alloc: Global, claim: &Claim) -> Result<Vec<u8>, NoMemory>
+    requires { HasTree (offer_in claim.now) claim.now.required (champion_in claim.now) }
     ensures { IfOk result
-        (λ text. IsTreeText (offer_of menu.now prices.now budget.0 allowed.now) required
-        (sections_of champion.now) text.items) }
+        (λ text. IsTreeText (offer_in claim.now) claim.now.required (champion_in claim.now)
+        text.items) }
 {
     let mut text = Vec::new(alloc);
-    let mut walk = Walk::start(menu, prices, budget, allowed, champion);
+    let mut walk = Walk::start(claim);
     'nodes: loop {
-        match walk.step(menu, prices, budget, allowed, required, champion) {
+        match walk.step(claim) {
             Step::Signed(sign) => {
                 let symbol = spell(sign);
                 put_behind(&mut text, symbol.as_slice())?;
@@ -135,10 +146,21 @@ pub fn build_into(
         → length room.old < length text) }
 {
     prove!(menu.len() <= PLACES);
+    let offer = Offer {
+        menu,
+        prices,
+        budget,
+        allowed,
+    };
+    let claim = Claim {
+        offer: &offer,
+        required: None,
+        champion,
+    };
     let mut count = 0;
-    let mut walk = Walk::start(menu, prices, budget, allowed, champion);
+    let mut walk = Walk::start(&claim);
     'nodes: loop {
-        match walk.step(menu, prices, budget, allowed, None, champion) {
+        match walk.step(&claim) {
             Step::Signed(sign) => {
                 let symbol = spell(sign);
                 count = put_at(room, count, symbol.as_slice())?;

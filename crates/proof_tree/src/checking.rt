@@ -9,14 +9,17 @@ ghost use Rattle.bundle_rules.specs.Given.{IsBestWith};
 ghost use Rattle.bundle_rules.specs.Menus.{wishes_of, place_in};
 ghost use Rattle.bundle_bounds.specs.Offers.{offer_of};
 ghost use Rattle.bundle_bounds.specs.Laws.{IsTakable};
+ghost use Rattle.proof_tree.specs.Claims.{offer_in, champion_in};
 ghost use Rattle.proof_tree.specs.Texts.{IsTreeText, Stands};
 ghost use Rattle.proof_tree.specs.Defects.{IsCanonical, IsDefect, IsLeaf, FirstFailsAt, offset};
 ghost use Rattle.proof_tree.specs.Mismatches.{IsOther, IsMismatch, IsUnsigned, offset_in};
 
+use crate::claim::Claim;
 use crate::defects::TreeDefect;
 use crate::signs::Sign;
 use crate::symbols::read_symbol;
 use crate::walk::{PLACES, Step, Walk};
+use bundle_bounds::Offer;
 use bundle_rules::{Bundle, Menu};
 use market_units::{SectionNo, SectionSet, Tokens};
 
@@ -123,37 +126,23 @@ fn ended(rest: &[u8], at: u32) -> Result<(), TreeDefect>
     }
 }
 
-// Walks the tree of a champion along a text: the symbol of each node's canonical sign has to stand
+// Walks the tree of a claim along a text: the symbol of each node's canonical sign has to stand
 // first.
-fn follow(
-    menu: &Menu,
-    prices: &[Tokens],
-    budget: Tokens,
-    allowed: &SectionSet,
-    required: Option<u8>,
-    champion: &Bundle,
-    text: &[u8],
-) -> Result<(), TreeDefect>
-    requires prices { HasPrices menu.now prices.now }
-    requires required { IfSome required (λ place. place < length menu.now.places) }
-    requires champion { IsTakable (offer_of menu.now prices.now budget.0 allowed.now)
-        (sections_of champion.now) }
+fn follow(claim: &Claim, text: &[u8]) -> Result<(), TreeDefect>
     ensures ok { OnOk result
-        (IsTreeText (offer_of menu.now prices.now budget.0 allowed.now) required
-        (sections_of champion.now) text.now) }
+        (IsTreeText (offer_in claim.now) claim.now.required (champion_in claim.now) text.now) }
     ensures fails { IfErr result
-        (λ defect. FirstFailsAt (offer_of menu.now prices.now budget.0 allowed.now) required
-        (sections_of champion.now) text.now (offset_in defect)) }
+        (λ defect. FirstFailsAt (offer_in claim.now) claim.now.required (champion_in claim.now)
+        text.now (offset_in defect)) }
     ensures defect { IfErr result
-        (λ defect. required ≡ None
-        → IsDefect (offer_of menu.now prices.now budget.0 allowed.now)
-        (sections_of champion.now) text.now defect) }
+        (λ defect. claim.now.required ≡ None
+        → IsDefect (offer_in claim.now) (champion_in claim.now) text.now defect) }
 {
-    let mut walk = Walk::start(menu, prices, budget, allowed, champion);
+    let mut walk = Walk::start(claim);
     let mut rest = text;
     'nodes: loop {
         let at = offset_of(text, rest);
-        match walk.step(menu, prices, budget, allowed, required, champion) {
+        match walk.step(claim) {
             Step::Ended => return ended(rest, at),
             Step::Unsigned => return Err(without_sign(rest, at)),
             Step::Signed(sign) => rest = after_symbol(rest, sign, at)?,
@@ -186,7 +175,18 @@ pub fn check_tree(
         text.now) }
 {
     prove!(menu.len() <= PLACES);
-    follow(menu, prices, budget, allowed, None, champion, text)
+    let offer = Offer {
+        menu,
+        prices,
+        budget,
+        allowed,
+    };
+    let claim = Claim {
+        offer: &offer,
+        required: None,
+        champion,
+    };
+    follow(&claim, text)
 }
 
 /// Whether the text is the forced tree of a champion that is the best bundle with the section: `Ok`
@@ -218,7 +218,18 @@ pub fn check_forced(
 {
     prove!(menu.len() <= PLACES);
     let place = menu.place(section);
-    match follow(menu, prices, budget, allowed, Some(place), champion, text) {
+    let offer = Offer {
+        menu,
+        prices,
+        budget,
+        allowed,
+    };
+    let claim = Claim {
+        offer: &offer,
+        required: Some(place),
+        champion,
+    };
+    match follow(&claim, text) {
         Ok(()) => Ok(()),
         Err(defect) => Err(defect.offset()),
     }

@@ -4,11 +4,14 @@
 
 mod building;
 mod checking;
+mod claim;
 mod defects;
 pub mod laws;
 mod signs;
 mod standing;
+mod symbol_bytes;
 mod symbols;
+mod visit;
 mod walk;
 
 pub use building::{build, build_forced, build_into};

@@ -8,6 +8,7 @@ ghost use Rattle.proof_tree.specs.Spellings.{bytes_of};
 ghost use Rattle.proof_tree.specs.Texts.{IsDigit, NoDigitFirst, IsShort, Stands, leaf_text, number_of, symbol};
 
 use crate::signs::Sign;
+use crate::symbol_bytes::Symbol;
 use bundle_bounds::Leaf;
 
 // Whether the byte is a decimal digit.
@@ -130,81 +131,30 @@ pub(crate) fn read_symbol(text: &[u8]) -> Option<(Sign, &[u8])>
     }
 }
 
-/// The symbol of a sign, as bytes.
-#[derive(Clone, Copy)]
-pub(crate) struct Symbol {
-    bytes: [u8; 3],
-    len: usize,
-}
-
-impl Symbol {
-    ghost use Rattle.std.specs.Prelude.{◌≡◌, ◌≤◌};
-    ghost use Rattle.proof_tree.specs.Spellings.{bytes_of};
-
-    /// The bytes of the symbol, 1 to 3.
-    pub(crate) fn as_slice(&self) -> &[u8]
-        requires { self.now.len ≤ 3 }
-        ensures { result.now ≡ bytes_of self.now }
-    {
-        &self.bytes[..self.len]
-    }
-}
-
-// A byte alone.
-fn single(byte: u8) -> Symbol
-    ensures len { result.len ≤ 3 }
-    ensures bytes { bytes_of result ≡ byte ∷ [] }
-{
-    Symbol {
-        bytes: [byte, 0, 0],
-        len: 1,
-    }
-}
-
-// A letter with a number of one or two digits.
-fn numbered(letter: u8, place: u8) -> Symbol
-    requires { place < 100 }
-    ensures len { result.len ≤ 3 }
-    ensures bytes { bytes_of result ≡ letter ∷ decimal place }
-{
-    if place < 10 {
-        return Symbol {
-            bytes: [letter, b'0' + place, 0],
-            len: 2,
-        };
-    }
-    Symbol {
-        bytes: [letter, b'0' + place / 10, b'0' + place % 10],
-        len: 3,
-    }
-}
-
 // The symbol of a leaf.
 fn spell_leaf(leaf: Leaf) -> Symbol
     requires { IsShort (Pruned leaf) }
-    ensures len { result.len ≤ 3 }
-    ensures bytes { bytes_of result ≡ leaf_text leaf }
+    ensures { bytes_of result ≡ leaf_text leaf }
 {
     match leaf {
-        Leaf::Plain => single(b'n'),
-        Leaf::Budget(place) => numbered(b'b', place),
-        Leaf::Credits(place) => numbered(b'c', place),
-        Leaf::Number(place) => numbered(b'm', place),
+        Leaf::Plain => Symbol::single(b'n'),
+        Leaf::Budget(place) => Symbol::numbered(b'b', place),
+        Leaf::Credits(place) => Symbol::numbered(b'c', place),
+        Leaf::Number(place) => Symbol::numbered(b'm', place),
     }
 }
 
 /// The symbol of a sign, as it stands in the text of a tree.
 pub(crate) fn spell(sign: Sign) -> Symbol
     requires { IsShort sign }
-    ensures len { result.len ≤ 3 }
-    ensures bytes { bytes_of result ≡ symbol sign }
+    ensures { bytes_of result ≡ symbol sign }
 {
     match sign {
-        Sign::Champion => single(b'*'),
-        Sign::Shut => single(b'x'),
+        Sign::Champion => Symbol::single(b'*'),
+        Sign::Shut => Symbol::single(b'x'),
         Sign::Pruned(leaf) => spell_leaf(leaf),
-        Sign::Forced => single(b'!'),
-        Sign::Open => single(b'+'),
-        Sign::Passed => single(b'-'),
+        Sign::Forced => Symbol::single(b'!'),
+        Sign::Open => Symbol::single(b'+'),
+        Sign::Passed => Symbol::single(b'-'),
     }
 }

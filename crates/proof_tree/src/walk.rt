@@ -1,28 +1,26 @@
 // The walk of a tree: its nodes one after another, each with its canonical sign.
-ghost use Rattle.std.specs.Prelude.{◌≡◌, ◌≢◌, ◌<◌, ◌≤◌, ◌+◌, ◌++◌, ◌∷◌, [], ℕ, List, Option, true, IfSome, IfNone, OnSome, length, slice_index_or};
+ghost use Rattle.std.specs.Prelude.{◌≡◌, ◌≢◌, ◌<◌, ◌≤◌, ◌+◌, ◌++◌, ◌∷◌, [], ℕ, List, true, IfSome, IfNone, OnSome, length, slice_index_or};
 ghost use Rattle.bundle_bounds.specs.declared.nodes.Node.{Node};
-ghost use Rattle.std.specs.Ordering.{nat_cmp};
-ghost use Rattle.std.specs.FinSet as set;
-ghost use Rattle.market_units.specs.declared.units.Tokens.{Tokens};
-ghost use Rattle.bundle_rules.specs.Demand.{HasPrices};
 ghost use Rattle.bundle_rules.specs.Menus.{MenuData, IsMenu, section_at};
 ghost use Rattle.bundle_rules.specs.Bundles.{sections_of};
-ghost use Rattle.bundle_bounds.specs.Offers.{Offer, offer_of, places_of};
+ghost use Rattle.bundle_bounds.specs.Offers.{OfferData};
 ghost use Rattle.bundle_bounds.specs.Opens.{is_open};
-ghost use Rattle.bundle_bounds.specs.Laws.{IsTakable, IsNode};
+ghost use Rattle.proof_tree.specs.Claims.{offer_in, champion_in, champions_places};
 ghost use Rattle.proof_tree.specs.Steps.{AreWaiting, MayWait, IsStep};
-ghost use Rattle.proof_tree.specs.Trees.{IsSign, HasNoSign};
-ghost use Rattle.proof_tree.specs.Standing.{IsStemAt, HaveStems, AreStanding};
+ghost use Rattle.proof_tree.specs.Standing.{HaveStems, AreStanding};
 ghost use Rattle.proof_tree.specs.Texts.{IsShort};
+ghost use Rattle.proof_tree.specs.Visits.{chosen_at, HasStemAt, IsSignAt};
 ghost use Rattle.proof_tree.specs.declared.signs.Sign.{Sign};
 ghost use Rattle.proof_tree.specs.declared.walk.Step.TheVariants.{Signed};
 ghost use Rattle.proof_tree.specs.Walks.{below};
 
+use crate::claim::Claim;
 use crate::signs::{Sign, sign_at};
 use crate::standing::{pass_at, put_back, take_at};
+use crate::visit::Visit;
 use bundle_bounds::{Node, Stem};
-use bundle_rules::{Bundle, Menu};
-use market_units::{MAX_COURSES, MAX_RATINGS, SectionSet, Tokens};
+use bundle_rules::Bundle;
+use market_units::{MAX_COURSES, MAX_RATINGS};
 
 // Under a node at most as many nodes wait as it has chosen sections, and these are at most 8.
 const ROOM: usize = MAX_COURSES as usize + 1;
@@ -50,20 +48,10 @@ impl Walk {
     ghost use Rattle.proof_tree.specs.Steps.{waiting_of, spots_of};
 
     /// The walk that begins at the root: no place is decided, and no section is chosen.
-    pub(crate) fn start(
-        menu: &Menu,
-        prices: &[Tokens],
-        budget: Tokens,
-        allowed: &SectionSet,
-        champion: &Bundle,
-    ) -> Walk
-        requires prices { HasPrices menu.now prices.now }
-        requires champion { IsTakable (offer_of menu.now prices.now budget.0 allowed.now)
-            (sections_of champion.now) }
+    pub(crate) fn start(claim: &Claim) -> Walk
         ensures waiting { (menu : MenuData) → spots_of menu (waiting_of result) ≡ (0, []) ∷ [] }
-        ensures may_wait { (offer : Offer) → AreWaiting offer result }
-        ensures stems { HaveStems (offer_of menu.now prices.now budget.0 allowed.now)
-            (sections_of champion.now) result }
+        ensures may_wait { (offer : OfferData) → AreWaiting offer result }
+        ensures stems { HaveStems (offer_in claim.now) (champion_in claim.now) result }
     {
         let root = Node {
             place: 0,
@@ -71,7 +59,7 @@ impl Walk {
         };
         Walk {
             waiting: [root; ROOM],
-            stems: [Stem::root(menu, prices, budget, allowed, champion); ROOM],
+            stems: [Stem::root(claim.offer, claim.champion); ROOM],
             count: 1,
         }
     }
@@ -79,146 +67,62 @@ impl Walk {
     /// Visits the next node: `Signed` with its canonical sign, and then the nodes below it wait;
     /// `Unsigned` where it has no such sign; `Ended` where no node is left.
     #[inline(always)]
-    pub(crate) fn step(
-        &mut self,
-        menu: &Menu,
-        prices: &[Tokens],
-        budget: Tokens,
-        allowed: &SectionSet,
-        required: Option<u8>,
-        champion: &Bundle,
-    ) -> Step
-        requires prices { HasPrices menu.now prices.now }
-        requires required { IfSome required (λ place. place < length menu.now.places) }
-        requires champion { IsTakable (offer_of menu.now prices.now budget.0 allowed.now)
-            (sections_of champion.now) }
-        requires waiting { AreWaiting (offer_of menu.now prices.now budget.0 allowed.now) self.old }
-        requires stems { HaveStems (offer_of menu.now prices.now budget.0 allowed.now)
-            (sections_of champion.now) self.old }
-        ensures stems { HaveStems (offer_of menu.now prices.now budget.0 allowed.now)
-            (sections_of champion.now) self.new }
-        ensures waiting { AreWaiting (offer_of menu.now prices.now budget.0 allowed.now) self.new }
+    pub(crate) fn step(&mut self, claim: &Claim) -> Step
+        requires waiting { AreWaiting (offer_in claim.now) self.old }
+        requires stems { HaveStems (offer_in claim.now) (champion_in claim.now) self.old }
+        ensures stems { HaveStems (offer_in claim.now) (champion_in claim.now) self.new }
+        ensures waiting { AreWaiting (offer_in claim.now) self.new }
         ensures short { (sign : Sign) → result ≡ Signed sign → IsShort sign }
-        ensures step { IsStep (offer_of menu.now prices.now budget.0 allowed.now) required
-            (places_of menu.now (sections_of champion.now))
-            (spots_of menu.now (waiting_of self.old)) result
-            (spots_of menu.now (waiting_of self.new)) }
+        ensures step { IsStep (offer_in claim.now) claim.now.required (champions_places claim.now)
+            (spots_of (offer_in claim.now).menu (waiting_of self.old)) result
+            (spots_of (offer_in claim.now).menu (waiting_of self.new)) }
     {
         let Some(node) = self.take() else {
             return Step::Ended;
         };
-        let Some(sign) = self.sign_of(menu, prices, budget, allowed, required, champion, &node)
-        else {
+        let visit = Visit {
+            claim: *claim,
+            node,
+        };
+        let at = self.count;
+        let Some(sign) = sign_at(&visit, &mut self.stems, at) else {
             return Step::Unsigned;
         };
-        self.stand_below(menu, prices, budget, allowed, champion, &node, sign);
-        self.put_below(menu, &node, sign);
+        self.stand_below(&visit, sign);
+        self.put_below(&visit, sign);
         Step::Signed(sign)
-    }
-
-    // The canonical sign of a node that was taken, whose stem stands behind those of the nodes that
-    // wait.
-    #[inline(always)]
-    fn sign_of(
-        &mut self,
-        menu: &Menu,
-        prices: &[Tokens],
-        budget: Tokens,
-        allowed: &SectionSet,
-        required: Option<u8>,
-        champion: &Bundle,
-        node: &Node,
-    ) -> Option<Sign>
-        requires prices { HasPrices menu.now prices.now }
-        requires node { IsNode (offer_of menu.now prices.now budget.0 allowed.now) node.now.place
-            (sections_of node.now.chosen) }
-        requires within { node.now.place ≤ length menu.now.places }
-        requires required { IfSome required (λ place. place < length menu.now.places) }
-        requires champion { IsTakable (offer_of menu.now prices.now budget.0 allowed.now)
-            (sections_of champion.now) }
-        requires count { self.old.count < MAX_COURSES + 1 }
-        requires stems { HaveStems (offer_of menu.now prices.now budget.0 allowed.now)
-            (sections_of champion.now) self.old }
-        requires stem { IsStemAt (offer_of menu.now prices.now budget.0 allowed.now)
-            (sections_of champion.now) self.old.stems self.old.count node.now.place
-            (sections_of node.now.chosen) }
-        ensures menu { IsMenu menu.now }
-        ensures some { IfSome result
-            (IsSign (offer_of menu.now prices.now budget.0 allowed.now) required
-            (places_of menu.now (sections_of champion.now)) node.now.place
-            (places_of menu.now (sections_of node.now.chosen))) }
-        ensures none { IfNone result
-            (HasNoSign (offer_of menu.now prices.now budget.0 allowed.now) required
-            (places_of menu.now (sections_of champion.now)) node.now.place
-            (places_of menu.now (sections_of node.now.chosen))) }
-        ensures count { self.new.count ≡ self.old.count }
-        ensures same { self.new.waiting ≡ self.old.waiting }
-        ensures stems { HaveStems (offer_of menu.now prices.now budget.0 allowed.now)
-            (sections_of champion.now) self.new }
-        ensures stem { IsStemAt (offer_of menu.now prices.now budget.0 allowed.now)
-            (sections_of champion.now) self.new.stems self.new.count node.now.place
-            (sections_of node.now.chosen) }
-    {
-        let at = self.count;
-        sign_at(
-            menu,
-            prices,
-            budget,
-            allowed,
-            required,
-            champion,
-            node,
-            &mut self.stems,
-            at,
-        )
     }
 
     // The stems of the nodes below a node stand behind those of the nodes that wait.
     #[inline(always)]
-    fn stand_below(
-        &mut self,
-        menu: &Menu,
-        prices: &[Tokens],
-        budget: Tokens,
-        allowed: &SectionSet,
-        champion: &Bundle,
-        node: &Node,
-        sign: Sign,
-    )
-        requires node { IsNode (offer_of menu.now prices.now budget.0 allowed.now) node.now.place
-            (sections_of node.now.chosen) }
+    fn stand_below(&mut self, visit: &Visit, sign: Sign)
         requires few { self.old.count ≤ MAX_COURSES }
-        requires count { self.old.count ≤ length (sections_of node.now.chosen) }
-        requires sign { (required : Option ℕ)
-            × IsSign (offer_of menu.now prices.now budget.0 allowed.now) required
-            (places_of menu.now (sections_of champion.now)) node.now.place
-            (places_of menu.now (sections_of node.now.chosen)) sign }
-        requires stems { HaveStems (offer_of menu.now prices.now budget.0 allowed.now)
-            (sections_of champion.now) self.old }
-        requires stem { IsStemAt (offer_of menu.now prices.now budget.0 allowed.now)
-            (sections_of champion.now) self.old.stems self.old.count node.now.place
-            (sections_of node.now.chosen) }
+        requires count { self.old.count ≤ length (sections_of visit.now.node.chosen) }
+        requires sign { IsSignAt visit.now sign }
+        requires stems { HaveStems (offer_in visit.now.claim) (champion_in visit.now.claim)
+            self.old }
+        requires stem { HasStemAt visit.now self.old.stems self.old.count }
         ensures count { self.new.count ≡ self.old.count }
         ensures same { self.new.waiting ≡ self.old.waiting }
-        ensures stems { HaveStems (offer_of menu.now prices.now budget.0 allowed.now)
-            (sections_of champion.now) self.new }
-        ensures below { AreStanding (offer_of menu.now prices.now budget.0 allowed.now)
-            (sections_of champion.now) node.now sign self.new.stems self.new.count }
+        ensures stems { HaveStems (offer_in visit.now.claim) (champion_in visit.now.claim)
+            self.new }
+        ensures below { AreStanding (offer_in visit.now.claim) (champion_in visit.now.claim)
+            visit.now.node sign self.new.stems self.new.count }
     {
-        prove!(menu.len() <= PLACES);
+        prove!(visit.claim.offer.menu.len() <= PLACES);
         let at = self.count;
         let stems = &mut self.stems;
         match sign {
             Sign::Champion | Sign::Shut | Sign::Pruned(_) => {}
             Sign::Forced => {
-                take_at(stems, at, menu, prices, budget, allowed, champion, node);
+                take_at(stems, at, visit);
                 put_back(stems, at);
             }
             Sign::Open => {
-                take_at(stems, at, menu, prices, budget, allowed, champion, node);
-                pass_at(stems, at, menu, prices, budget, allowed, champion, node);
+                take_at(stems, at, visit);
+                pass_at(stems, at, visit);
             }
-            Sign::Passed => pass_at(stems, at, menu, prices, budget, allowed, champion, node),
+            Sign::Passed => pass_at(stems, at, visit),
         }
     }
 
@@ -257,50 +161,51 @@ impl Walk {
         self.count += 1;
     }
 
-    // Lets the nodes below a node wait.
+    // Lets the nodes below a node wait, whose stems stand behind those of the nodes that wait.
     #[inline(always)]
-    fn put_below(&mut self, menu: &Menu, node: &Node, sign: Sign)
+    fn put_below(&mut self, visit: &Visit, sign: Sign)
         requires few { self.old.count ≤ MAX_COURSES }
-        requires sign { (prices : List Tokens) × (budget : ℕ) × (allowed : set.FinSet nat_cmp) × (required : Option ℕ) × (champion : List ℕ)
-            × MayWait (offer_of menu.now prices budget allowed) (node.now ∷ waiting_of self.old) × IsSign (offer_of menu.now prices budget allowed) required champion node.now.place (places_of menu.now (sections_of node.now.chosen)) sign }
-        ensures may_wait { (prices : List Tokens) (budget : ℕ) (allowed : set.FinSet nat_cmp) (required : Option ℕ) (champion : List ℕ)
-            → MayWait (offer_of menu.now prices budget allowed) (node.now ∷ waiting_of self.old) → IsSign (offer_of menu.now prices budget allowed) required champion node.now.place (places_of menu.now (sections_of node.now.chosen)) sign
-            → AreWaiting (offer_of menu.now prices budget allowed) self.new }
-        ensures stems { (prices : List Tokens) (budget : ℕ) (allowed : set.FinSet nat_cmp) (champion : List ℕ) → HaveStems (offer_of menu.now prices budget allowed) champion self.old
-            → AreStanding (offer_of menu.now prices budget allowed) champion node.now sign self.old.stems self.old.count → HaveStems (offer_of menu.now prices budget allowed) champion self.new }
-        ensures below { spots_of menu.now (waiting_of self.new)
-            ≡ below sign node.now.place (places_of menu.now (sections_of node.now.chosen))
-            ++ spots_of menu.now (waiting_of self.old) }
+        requires waits { MayWait (offer_in visit.now.claim) (visit.now.node ∷ waiting_of self.old) }
+        requires sign { IsSignAt visit.now sign }
+        requires stems { HaveStems (offer_in visit.now.claim) (champion_in visit.now.claim)
+            self.old }
+        requires standing { AreStanding (offer_in visit.now.claim) (champion_in visit.now.claim)
+            visit.now.node sign self.old.stems self.old.count }
+        ensures may_wait { AreWaiting (offer_in visit.now.claim) self.new }
+        ensures stems { HaveStems (offer_in visit.now.claim) (champion_in visit.now.claim)
+            self.new }
+        ensures below { spots_of (offer_in visit.now.claim).menu (waiting_of self.new)
+            ≡ below sign visit.now.node.place (chosen_at visit.now)
+            ++ spots_of (offer_in visit.now.claim).menu (waiting_of self.old) }
     {
         match sign {
             Sign::Champion => {}
             Sign::Shut => {}
             Sign::Pruned(_) => {}
-            Sign::Forced => self.put(with_next(menu, node)),
+            Sign::Forced => self.put(with_next(visit)),
             Sign::Open => {
-                self.put(without_next(menu, node));
-                self.put(with_next(menu, node));
+                self.put(without_next(visit));
+                self.put(with_next(visit));
             }
-            Sign::Passed => self.put(without_next(menu, node)),
+            Sign::Passed => self.put(without_next(visit)),
         }
     }
 }
 
-/// The node with the section of the next place, which is open.
-pub(crate) fn with_next(menu: &Menu, node: &Node) -> Node
-    requires left { node.now.place < length menu.now.places }
-    requires open { (prices : List Tokens) × (budget : ℕ) × (allowed : set.FinSet nat_cmp)
-        × IsNode (offer_of menu.now prices budget allowed) node.now.place
-        (sections_of node.now.chosen)
-        × (is_open (offer_of menu.now prices budget allowed)
-        (places_of menu.now (sections_of node.now.chosen)) node.now.place
-        ≡ true) }
-    ensures menu { IsMenu menu.now }
-    ensures room { length (sections_of node.now.chosen) < MAX_COURSES }
-    ensures place { result.place ≡ node.now.place + 1 }
+// The node with the section of the next place, which is open.
+fn with_next(visit: &Visit) -> Node
+    requires left { visit.now.node.place < length (offer_in visit.now.claim).menu.places }
+    requires open { is_open (offer_in visit.now.claim) (chosen_at visit.now) visit.now.node.place
+        ≡ true }
+    ensures menu { IsMenu (offer_in visit.now.claim).menu }
+    ensures room { length (sections_of visit.now.node.chosen) < MAX_COURSES }
+    ensures place { result.place ≡ visit.now.node.place + 1 }
     ensures chosen { sections_of result.chosen
-        ≡ sections_of node.now.chosen ++ section_at menu.now.places node.now.place ∷ [] }
+        ≡ sections_of visit.now.node.chosen
+        ++ section_at (offer_in visit.now.claim).menu.places visit.now.node.place ∷ [] }
 {
+    let node = visit.node;
+    let menu = visit.claim.offer.menu;
     prove!(node.place < menu.len());
     let rated = menu.rated(node.place);
     Node {
@@ -310,12 +215,13 @@ pub(crate) fn with_next(menu: &Menu, node: &Node) -> Node
 }
 
 // The node without it.
-fn without_next(menu: &Menu, node: &Node) -> Node
-    requires { node.now.place < length menu.now.places }
-    ensures place { result.place ≡ node.now.place + 1 }
-    ensures chosen { sections_of result.chosen ≡ sections_of node.now.chosen }
+fn without_next(visit: &Visit) -> Node
+    requires { visit.now.node.place < length (offer_in visit.now.claim).menu.places }
+    ensures place { result.place ≡ visit.now.node.place + 1 }
+    ensures chosen { sections_of result.chosen ≡ sections_of visit.now.node.chosen }
 {
-    prove!(node.place < menu.len());
+    let node = visit.node;
+    prove!(node.place < visit.claim.offer.menu.len());
     Node {
         place: node.place + 1,
         chosen: node.chosen,

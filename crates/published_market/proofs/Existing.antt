@@ -5,7 +5,7 @@ use Rattle.std.specs.List.{AllZip}
 use Rattle.std.proofs.lemmas.List.Elements.{All-cons, All-head, All-nil, All-tail}
 use Rattle.std.proofs.lemmas.Option.{get_or_from_slice_get, slice_get_within}
 use Rattle.market_units.specs.declared.units.Tokens.{Tokens}
-use Rattle.bundle_bounds.specs.Offers.{Offer}
+use Rattle.bundle_bounds.specs.Offers.{OfferData}
 use Rattle.bundle_rules.specs.Demand.{IsBest, price_in}
 use Rattle.bundle_rules.specs.Menus.{IsMenu, wishes_of}
 use Rattle.bundle_rules.proofs.BestValue.{best-is}
@@ -49,7 +49,7 @@ use Rattle.published_market.proofs.Sentences.{demands_published}
 use Rattle.published_market.proofs.Turning.{made_each}
 
 -- the best bundle of an offer has a tree
-tree_for : TreesProveTheBest → (offer : Offer) (bundle : List ℕ) → IsMenu offer.menu
+tree_for : TreesProveTheBest → (offer : OfferData) (bundle : List ℕ) → IsMenu offer.menu
     → IsBest (wishes_of offer.menu) offer.price offer.budget offer.allowed bundle → (tree : List ℕ) × IsProvedBest offer bundle tree
 tree_for law offer bundle menu best =
     let has : HasTree offer None bundle = (law offer bundle menu best.choice).1 best in

@@ -14,7 +14,7 @@ use Rattle.seed_words.specs.Streams.{stream_words}
 use Rattle.bundle_rules.specs.Demand.{price_in}
 use Rattle.bundle_rules.specs.Menus.{IsMenu, MenuData, wishes_of}
 use Rattle.bundle_rules.specs.Places.{places_from}
-use Rattle.bundle_bounds.specs.Offers.{Offer}
+use Rattle.bundle_bounds.specs.Offers.{OfferData}
 use Rattle.budget_draw.specs.AfterOrder.{after_order_of}
 use Rattle.budget_draw.specs.Budgets.{amounts, budgets_of}
 use Rattle.budget_draw.specs.Ranks.{rank_among}
@@ -137,7 +137,7 @@ menus_limited catalog (s ∷ roll) [] asked are = absurd are
 menus_limited catalog (s ∷ roll) (w ∷ wanted) [] are = absurd are
 
 -- a best bundle with its tree has the form of one
-form_of : (offer : Offer) (bundle tree : List ℕ) → IsMenu offer.menu → IsProvedBest offer bundle tree → HasForm bundle tree
+form_of : (offer : OfferData) (bundle tree : List ℕ) → IsMenu offer.menu → IsProvedBest offer bundle tree → HasForm bundle tree
 unfolding wishes_of
 form_of offer bundle tree menu is =
     let feasible = is.best.choice.feasible in

@@ -7,7 +7,7 @@ use Rattle.market_units.specs.declared.units.Tokens.{Tokens}
 use Rattle.bundle_rules.specs.Bundles.{sections_of}
 use Rattle.bundle_rules.specs.Demand.{price_in}
 use Rattle.bundle_rules.specs.Menus.{MenuData}
-use Rattle.bundle_bounds.specs.Offers.{Offer}
+use Rattle.bundle_bounds.specs.Offers.{OfferData}
 use Rattle.budget_draw.specs.Budgets.{raised_by}
 use Rattle.demand_api.specs.declared.crowd.Crowd.{Crowd}
 use Rattle.demand_api.specs.Crowds.{Student}
@@ -32,10 +32,10 @@ use Rattle.published_market.specs.Turns.{IsPublishedTurn, offer_at, offer_for}
 use Rattle.published_market.proofs.Showing.{all_more, asked, asked_at, taken_count, zip_more}
 
 -- a room of the same bundle in the same offer
-pub room_for : {offer other : Offer} {bundle same : List ℕ} (room : Room) → offer ≡ other → bundle ≡ same → IsRoomOf offer bundle room
+pub room_for : {offer other : OfferData} {bundle same : List ℕ} (room : Room) → offer ≡ other → bundle ≡ same → IsRoomOf offer bundle room
     → IsRoomOf other same room
 room_for {offer} {other} {bundle} {same} room is too holds =
-    subst (λ (o : Offer). IsRoomOf o same room) is (subst (λ (b : List ℕ). IsRoomOf offer b room) too holds)
+    subst (λ (o : OfferData). IsRoomOf o same room) is (subst (λ (b : List ℕ). IsRoomOf offer b room) too holds)
 
 -- what the room at a place holds
 pub room_at : (IsRoom : ℕ → Room → Type 0) (first k place : ℕ) (rooms : List Room) (room : Room)
@@ -94,7 +94,7 @@ offer_turned chosen n turn menu budget more at low is has_it raised =
     ∙ ap (λ (k : ℕ). offer_at chosen.prices.now chosen.raise (get_or (data_of crowd).students k nobody) turn) at
 
 -- a turn with the tree of its bundle is as it is published
-pub turn_shown : (chosen : Chosen) (i : ℕ) (turn : Turn) (offer : Offer) (one : proved.Proved) (published : ProvedTurn)
+pub turn_shown : (chosen : Chosen) (i : ℕ) (turn : Turn) (offer : OfferData) (one : proved.Proved) (published : ProvedTurn)
     → i < length chosen.turns.now → turn ≡ get_or chosen.turns.now i turn → offer ≡ offer_chosen chosen i
     → IsProvedBest offer (sections_of one.bundle) one.tree.items → sections_of one.bundle ≡ (turn_chosen chosen i).bundle
     → published ≡ record { pass = turn.pass; student = turn.student.0; bundle = sections_of one.bundle; tree = one.tree.items }
@@ -111,7 +111,7 @@ turn_shown chosen i turn offer one published low is offered proved bundle told =
       bundle = bundle;
       who = get_or crowd.students (turn_chosen chosen i).student nobody;
       listed = slice_get-get_or crowd.students (turn_chosen chosen i).student nobody within;
-      proved = subst (λ (o : Offer). IsProvedBest o (sections_of one.bundle) one.tree.items) offered proved;
+      proved = subst (λ (o : OfferData). IsProvedBest o (sections_of one.bundle) one.tree.items) offered proved;
     } in
     subst (IsPublishedTurn crowd chosen.prices.now chosen.raise (turn_chosen chosen i)) (sym told) made
 

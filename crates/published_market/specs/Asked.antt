@@ -2,7 +2,7 @@
 use Rattle.std.specs.Prelude.{ℕ, false, List, [], map, slice_index_or}
 use Rattle.bundle_rules.specs.Bundles.{sections_of}
 use Rattle.bundle_rules.specs.Demand.{price_in}
-use Rattle.bundle_bounds.specs.Offers.{Offer}
+use Rattle.bundle_bounds.specs.Offers.{OfferData}
 use Rattle.demand_api.specs.Views.{data_of}
 use Rattle.aftermarket_stage.specs.After.{turns_of}
 use Rattle.aftermarket_stage.specs.Turns.{TurnData}
@@ -12,7 +12,7 @@ use Rattle.published_market.specs.declared.taken.Taken.{Taken}
 use Rattle.published_market.specs.Turns.{offer_for}
 
 -- what is offered to the student of a number at the prices of the second stage, and what it takes
-abbrev pub offer_taken : Taken → ℕ → Offer
+abbrev pub offer_taken : Taken → ℕ → OfferData
 offer_taken taken place =
     let crowd = data_of taken.crowd.now in
     let student = student_in crowd place in
@@ -28,6 +28,6 @@ turn_chosen chosen place =
     (record { pass = 0; student = 0; allowed = λ s. false; bundle = [] })
 
 -- what is offered to its student at that turn
-abbrev pub offer_chosen : Chosen → ℕ → Offer
+abbrev pub offer_chosen : Chosen → ℕ → OfferData
 offer_chosen chosen place =
     offer_for (data_of chosen.crowd.now) chosen.prices.now chosen.raise (turn_chosen chosen place)

@@ -1,6 +1,6 @@
 -- Rooms that trees are written to.
 use Rattle.std.specs.Prelude.{ℕ, ◌<◌, ◌≤◌, ◌+◌, None, List, IfSome, length, take, slice_index_or}
-use Rattle.bundle_bounds.specs.Offers.{Offer}
+use Rattle.bundle_bounds.specs.Offers.{OfferData}
 use Rattle.proof_tree.specs.Texts.{IsTreeText}
 use Rattle.published_market.specs.declared.chosen.Chosen.{Chosen}
 use Rattle.published_market.specs.declared.rooms.Room.{Room}
@@ -8,7 +8,7 @@ use Rattle.published_market.specs.declared.taken.Taken.{Taken}
 use Rattle.published_market.specs.Asked.{bundle_taken, offer_chosen, offer_taken, turn_chosen}
 
 -- where something was written to the room, it is the tree of the bundle in the offer
-abbrev pub IsRoomOf : Offer → List ℕ → Room → Type 0
+abbrev pub IsRoomOf : OfferData → List ℕ → Room → Type 0
 IsRoomOf offer bundle room =
     IfSome room.written
     (λ count. (count ≤ length room.bytes.items)

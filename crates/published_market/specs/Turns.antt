@@ -3,7 +3,7 @@ use Rattle.std.specs.Prelude.{ℕ, ◌≡◌, Some, List, slice_get}
 use Rattle.market_units.specs.declared.units.Tokens.{Tokens}
 use Rattle.bundle_rules.specs.Best.{best}
 use Rattle.bundle_rules.specs.Demand.{price_in}
-use Rattle.bundle_bounds.specs.Offers.{Offer}
+use Rattle.bundle_bounds.specs.Offers.{OfferData}
 use Rattle.budget_draw.specs.Budgets.{raised_by}
 use Rattle.demand_api.specs.Crowds.{CrowdData, Student}
 use Rattle.aftermarket_stage.specs.Turns.{TurnData}
@@ -11,17 +11,17 @@ use Rattle.market_certificate.specs.Publications.{ProvedTurn}
 use Rattle.published_parts.specs.Offers.{IsProvedBest, offer_to, student_in}
 
 -- what a student takes of an offer: the best bundle
-abbrev pub best_of : Offer → List ℕ
+abbrev pub best_of : OfferData → List ℕ
 best_of offer = best offer.menu offer.price offer.budget offer.allowed
 
 -- what is offered to a student at a turn: the sections that it may choose, at the same prices, with
 -- its raised budget
-abbrev pub offer_at : List Tokens → ℕ → Student → TurnData → Offer
+abbrev pub offer_at : List Tokens → ℕ → Student → TurnData → OfferData
 offer_at prices raise student turn =
     offer_to student (price_in prices) (raised_by raise student.budget) turn.allowed
 
 -- what is offered at a turn to its student, who is one of a crowd
-abbrev pub offer_for : CrowdData → List Tokens → ℕ → TurnData → Offer
+abbrev pub offer_for : CrowdData → List Tokens → ℕ → TurnData → OfferData
 offer_for crowd prices raise turn = offer_at prices raise (student_in crowd turn.student) turn
 
 -- a turn as it is published: its pass, its student and its bundle, which is the best of what is

@@ -2,7 +2,7 @@
 use Rattle.std.proofs.Common.{ℕ, ◌≡◌, ◌∙◌, List, [], ◌∷◌, refl, ap, sym, subst}
 use Rattle.std.specs.Prelude.{None}
 use Rattle.std.specs.List.{AllZip}
-use Rattle.bundle_bounds.specs.Offers.{Offer, places_of}
+use Rattle.bundle_bounds.specs.Offers.{OfferData, places_of}
 use Rattle.bundle_rules.proofs.BestValue.{best-only}
 use Rattle.demand_api.specs.Crowds.{Student}
 use Rattle.proof_tree.specs.Texts.{IsTreeText, spelled}
@@ -10,15 +10,15 @@ use Rattle.proof_tree.proofs.Uniqueness.{one_tree}
 use Rattle.market_certificate.specs.Publications.{Proved}
 use Rattle.published_parts.specs.Offers.{IsProvedBest, IsProvedDemand, offer_to, all_sections}
 
-one_text : (offer : Offer) (champion one other : List ℕ) → IsTreeText offer None champion one → IsTreeText offer None champion other → one ≡ other
+one_text : (offer : OfferData) (champion one other : List ℕ) → IsTreeText offer None champion one → IsTreeText offer None champion other → one ≡ other
 one_text offer champion one other (tree, is, written) (alike, so, spelt) =
     written ∙ ap spelled ((one_tree offer None (places_of offer.menu champion) 0 []).tree tree alike is so) ∙ sym spelt
 
-pub one_best : (offer : Offer) (one other tree alike : List ℕ) → IsProvedBest offer one tree → IsProvedBest offer other alike → one ≡ other
+pub one_best : (offer : OfferData) (one other tree alike : List ℕ) → IsProvedBest offer one tree → IsProvedBest offer other alike → one ≡ other
 one_best offer one other tree alike is so =
     best-only offer.menu offer.price offer.budget offer.allowed one is.best ∙ sym (best-only offer.menu offer.price offer.budget offer.allowed other so.best)
 
-pub one_proof : (offer : Offer) (one other tree alike : List ℕ) → IsProvedBest offer one tree → IsProvedBest offer other alike → tree ≡ alike
+pub one_proof : (offer : OfferData) (one other tree alike : List ℕ) → IsProvedBest offer one tree → IsProvedBest offer other alike → tree ≡ alike
 one_proof offer one other tree alike is so =
     one_text offer other tree alike (subst (λ bundle. IsTreeText offer None bundle tree) (one_best offer one other tree alike is so) is.proved) so.proved
 

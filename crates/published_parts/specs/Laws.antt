@@ -1,6 +1,6 @@
 -- What there is one of.
 use Rattle.std.specs.Prelude.{ℕ, ◌≡◌, List}
-use Rattle.bundle_bounds.specs.Offers.{Offer}
+use Rattle.bundle_bounds.specs.Offers.{OfferData}
 use Rattle.demand_api.specs.Crowds.{CrowdData}
 use Rattle.preference_desk.specs.DeskNames.{DeskNames}
 use Rattle.preference_desk.specs.declared.entry.Entry.{Entry}
@@ -25,5 +25,5 @@ OneCrowd =
 -- an offer has one best bundle, and that has one tree
 abbrev pub OneProvedBest : Type 0
 OneProvedBest =
-    (offer : Offer) (one other tree alike : List ℕ) → IsProvedBest offer one tree
+    (offer : OfferData) (one other tree alike : List ℕ) → IsProvedBest offer one tree
     → IsProvedBest offer other alike → (one ≡ other) × (tree ≡ alike)

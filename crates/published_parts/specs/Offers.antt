@@ -2,7 +2,7 @@
 use Rattle.std.specs.Prelude.{ℕ, Bool, None, List, [], nat_lt, slice_index_or}
 use Rattle.bundle_rules.specs.Demand.{IsBest}
 use Rattle.bundle_rules.specs.Menus.{wishes_of}
-use Rattle.bundle_bounds.specs.Offers.{Offer}
+use Rattle.bundle_bounds.specs.Offers.{OfferData}
 use Rattle.demand_api.specs.Crowds.{CrowdData, Student}
 use Rattle.proof_tree.specs.Texts.{IsTreeText}
 use Rattle.market_certificate.specs.Publications.{Proved}
@@ -22,12 +22,12 @@ student_in crowd student =
     })
 
 -- what is offered to a student at given prices, with this budget and these sections
-abbrev pub offer_to : Student → (ℕ → ℕ) → ℕ → (ℕ → Bool) → Offer
+abbrev pub offer_to : Student → (ℕ → ℕ) → ℕ → (ℕ → Bool) → OfferData
 offer_to student price budget allowed =
     record { menu = student.menu; price = price; budget = budget; allowed = allowed }
 
 -- the best bundle of an offer, and the text of its canonical tree
-pub record IsProvedBest (offer : Offer) (bundle tree : List ℕ) : Type 0 where
+pub record IsProvedBest (offer : OfferData) (bundle tree : List ℕ) : Type 0 where
   pub best : IsBest (wishes_of offer.menu) offer.price offer.budget offer.allowed bundle
   pub proved : IsTreeText offer None bundle tree
 

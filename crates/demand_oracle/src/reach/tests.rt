@@ -1,11 +1,11 @@
 // Tables of small menus, and which nodes they prune, worked by hand.
 ghost use Rattle.std.specs.Prelude.{◌≤◌, ℕ, length};
-ghost use Rattle.bundle_rules.specs.Demand.{price_in, HasPrices};
-ghost use Rattle.demand_oracle.specs.SummedNodes.{IsSummed};
+ghost use Rattle.demand_oracle.specs.SummedNodes.{IsSummed, IsSummedOf};
+ghost use Rattle.bundle_bounds.specs.Views.{data_of};
 
 use super::*;
 use bundle_rules::{Rated, has_prices};
-use market_units::SectionNo;
+use market_units::{SectionNo, SectionSet};
 use std::alloc::Global;
 use std::process::Abort;
 use std::test::Fail;
@@ -52,16 +52,15 @@ fn menu_of<R: Abort>(rt: &R, alloc: Global, case: &Case) -> Menu {
 }
 
 // A champion of the first two sections, of those that are taken.
-fn champion_of(menu: &Menu, prices: &[Tokens], first: bool, second: bool) -> SummedNode
-    requires prices { HasPrices menu.now prices.now }
-    requires places { 2 ≤ length menu.now.places }
-    ensures { IsSummed menu.now (price_in prices.now) result }
+fn champion_of(offer: &Offer, first: bool, second: bool) -> SummedNode
+    requires places { 2 ≤ length offer.now.menu.now.places }
+    ensures { IsSummedOf (data_of offer.now) result }
 {
     let root = SummedNode::root();
     match (first, second) {
-        (true, true) => root.with_place(menu, prices, 0).with_place(menu, prices, 1),
-        (true, false) => root.with_place(menu, prices, 0),
-        (false, true) => root.with_place(menu, prices, 1),
+        (true, true) => root.with_place(offer, 0).with_place(offer, 1),
+        (true, false) => root.with_place(offer, 0),
+        (false, true) => root.with_place(offer, 1),
         (false, false) => root,
     }
 }
@@ -94,16 +93,22 @@ fn prunings<R: Abort>(
 ) -> [bool; 3] {
     assert!(rt; has_prices(menu, prices));
     assert!(rt; menu.len() >= 2);
-    let champion = champion_of(menu, prices, first, second);
-    let budget = Tokens(budget);
+    let all = SectionSet::full(400);
+    let offer = Offer {
+        menu,
+        prices,
+        budget: Tokens(budget),
+        allowed: &all,
+    };
+    let champion = champion_of(&offer, first, second);
     let mut reach = Reach::empty();
-    reach.measure(menu, prices, budget, &SectionSet::full(400));
+    reach.measure(&offer);
     let root = SummedNode::root();
-    let with_it = root.with_place(menu, prices, 0);
+    let with_it = root.with_place(&offer, 0);
     [
-        is_pruned(&reach, menu, budget, &root, 0, &champion),
-        is_pruned(&reach, menu, budget, &with_it, 1, &champion),
-        is_pruned(&reach, menu, budget, &root, 1, &champion),
+        is_pruned(&reach, menu, offer.budget, &root, 0, &champion),
+        is_pruned(&reach, menu, offer.budget, &with_it, 1, &champion),
+        is_pruned(&reach, menu, offer.budget, &root, 1, &champion),
     ]
 }
 
@@ -124,8 +129,14 @@ fn the_numbers_of_a_table(rt: HostRuntime) -> Result<(), Fail> {
     let prices = [Tokens(0); 4];
     assert!(rt; has_prices(&menu, &prices));
     let all = SectionSet::full(4);
+    let offer = Offer {
+        menu: &menu,
+        prices: &prices,
+        budget: Tokens(0),
+        allowed: &all,
+    };
     let mut reach = Reach::empty();
-    reach.measure(&menu, &prices, Tokens(0), &all);
+    reach.measure(&offer);
     let (hopes, most) = (reach.hopes, reach.most);
     assert_eq!(rt; hopes[3][2], 15);
     assert_eq!(rt; hopes[3][0], 0);
@@ -136,13 +147,20 @@ fn the_numbers_of_a_table(rt: HostRuntime) -> Result<(), Fail> {
     assert_eq!(rt; most[1 * COUNTS + 2][0], 85_002);
     assert_eq!(rt; most[0 * COUNTS + 1][0], 60_001);
     assert_eq!(rt; most[0 * COUNTS + 2][0], 105_002);
-    let champion = reach.first_champion(&menu, &prices, Tokens(0), &all);
+    let champion = reach.first_champion(&offer);
     let first_and_third = [SectionNo(0), SectionNo(2)];
     assert_eq!(rt; champion.node.chosen.sections(), first_and_third.as_slice());
     assert_eq!(rt; champion.utility(), 90);
 
     // Without the third section nothing adds to the last.
-    reach.measure(&menu, &prices, Tokens(0), &all.without(SectionNo(2)));
+    let without = all.without(SectionNo(2));
+    let offer = Offer {
+        menu: &menu,
+        prices: &prices,
+        budget: Tokens(0),
+        allowed: &without,
+    };
+    reach.measure(&offer);
     let most = reach.most;
     assert_eq!(rt; most[2 * COUNTS + 1][0], 20_001);
     assert_eq!(rt; most[0 * COUNTS + 2][0], 80_002);
@@ -164,8 +182,15 @@ fn what_so_many_units_are_enough_for(rt: HostRuntime) -> Result<(), Fail> {
     );
     let prices = [Tokens(10), Tokens(20)];
     assert!(rt; has_prices(&menu, &prices));
+    let all = SectionSet::full(2);
+    let offer = Offer {
+        menu: &menu,
+        prices: &prices,
+        budget: Tokens(30),
+        allowed: &all,
+    };
     let mut reach = Reach::empty();
-    reach.measure(&menu, &prices, Tokens(30), &SectionSet::full(2));
+    reach.measure(&offer);
     let most = reach.most;
     assert_eq!(rt; most[2][9], 0);
     assert_eq!(rt; most[2][10], 50_001);

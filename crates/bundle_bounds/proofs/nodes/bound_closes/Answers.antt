@@ -1,4 +1,4 @@
-use Rattle.std.proofs.Common.{◌≡◌, ℕ, ◌<◌, ◌∙◌, ap, sym, subst, true, arith, to_z, of_z, w32, w64}
+use Rattle.std.proofs.Common.{◌≡◌, ℕ, ◌<◌, ◌∙◌, ap, sym, subst, true, arith, to_z, of_z, w64, rules, length}
 use Rattle.std.specs.Prelude.{All, ℤ, pos, ◌*ℤ◌, IfNone, IfSome}
 use Rattle.std.proofs.lemmas.Int.{ints}
 use Rattle.bundle_rules.specs.Bundles.{sections_of}
@@ -13,24 +13,34 @@ use Rattle.bundle_bounds.specs.Bounds.{bounds, IsFirstPruning, NonePrunes}
 use Rattle.bundle_rules.specs.Ahead.{is_ahead}
 use Rattle.bundle_bounds.specs.Ahead.{limit_of}
 use Rattle.bundle_bounds.specs.Modest.{IsModest}
-use Rattle.bundle_bounds.proofs.BelowLimit.{collected, rest_of_room, some_prunes, none_prunes}
+use Rattle.bundle_bounds.proofs.BelowLimit.{collected, few_of_room, rest_of_room, some_prunes, none_prunes}
 use Rattle.bundle_bounds.proofs.FirstPruning.{first_pruning_is_the_first, found_pruning}
 use Rattle.bundle_bounds.proofs.ByPlace.{ascending_places, has-places}
 use Rattle.bundle_bounds.proofs.nodes.bound_closes.Goals as goal
 
 pub rests_of-rests-requires-clause-on_menu : goal.rests_of-rests-requires-clause-on_menu
 rests_of-rests-requires-clause-on_menu c =
-    rw (c.as_slice-chosen.ensures.value, c.of-chosen.ensures)
+    rw (c.as_slice-places.ensures.value, c.of-places.ensures)
     (places_of_rated c.args.menu.now (sections_of c.args.node.now.chosen) c.requires.node.takable.feasible.rated)
 
-pub collect-start-requires-clause-on_menu : goal.collect-start-requires-clause-on_menu
-collect-start-requires-clause-on_menu c =
-    rw (c.as_slice-chosen.ensures.value, c.of-chosen.ensures)
-    (places_of_rated c.args.menu.now (sections_of c.args.node.now.chosen) c.requires.node.takable.feasible.rated)
+pub invariant_of-chosen : goal.invariant_of-chosen
+invariant_of-chosen c =
+    let same = c.as_slice-places.ensures.value ∙ c.of-places.ensures in
+    record {
+      on_menu =
+          rw same (places_of_rated c.args.menu.now (sections_of c.args.node.now.chosen) c.requires.node.takable.feasible.rated);
+      few = c.as_slice-places.ensures.few;
+      rests_are = c.rests_of-rests.ensures;
+    }
 
-pub first_below-requires-clause-modest : goal.first_below-requires-clause-modest
-first_below-requires-clause-modest c =
-    subst (All IsModest) (sym (rest_of_room c.collect-start.new.room c.collect-start.result c.collect-start.auto.room)) c.collect-start.ensures.modest
+pub invariant_of-all : goal.invariant_of-all
+invariant_of-all c =
+    let room = c.collect-start.new.room in
+    let whole : length c.collect-start.new.room ≡ 60 = search rules in
+    record {
+      modest = subst (All IsModest) (sym (rest_of_room room c.collect-start.result whole)) c.collect-start.ensures.modest;
+      few = few_of_room room c.collect-start.result whole;
+    }
 
 pub returns : goal.returns
 returns c =
@@ -41,34 +51,33 @@ returns c =
     let champion = sections_of c.args.champion.now in
     let cs = places_of menu chosen in
     let ch = places_of menu champion in
-    let slice = c.as_slice-chosen.result.now in
-    let same : slice ≡ cs = c.as_slice-chosen.ensures.value ∙ c.of-chosen.ensures in
+    let slice = c.as_slice-places.result.now in
+    let same : slice ≡ cs = c.as_slice-places.ensures.value ∙ c.of-places.ensures in
     let rises = c.len.ensures.menu.places.ascending in
     let up : IsAscending ch = ascending_places menu.places champion rises (place_of_rated menu champion c.requires.champion.rated) c.requires.champion.set in
     let up' : IsAscending cs =
     ascending_places menu.places chosen rises (place_of_rated menu chosen c.requires.node.takable.feasible.rated) c.requires.node.takable.feasible.set in
     let low : (p : ℕ) → has cs p ≡ true → p < k = λ p is. (let at = has-places menu.places chosen p is in rw (← at.2) (c.requires.node.decided at.0 at.1)) in
     let u : ℤ = c.utility.result in
-    let from_u : c.from-base.result ≡ to_z w32 (of_z w32 u) = c.from-base.ensures in
-    let widened : to_z w64 (of_z w64 (pos 1000 *ℤ to_z w64 (of_z w64 c.from-base.result))) ≡ pos 1000 *ℤ u = omega (arith, ints, from_u) in
-    let base : to_z w64 (of_z w64 (pos 1000 *ℤ to_z w64 (of_z w64 c.from-base.result))) ≡ pos 1000 *ℤ utility (by_place menu) cs =
-    widened ∙ ap (λ z. pos 1000 *ℤ z) (sym (utility_by_place menu chosen ∙ sym c.utility.ensures)) in
+    let told = c.of-base.ensures in
+    let thousandfold : c.of-base.result.number ≡ pos 1000 *ℤ u = omega (arith, ints, told) in
+    let base : c.of-base.result.number ≡ pos 1000 *ℤ utility (by_place menu) cs =
+    thousandfold ∙ ap (λ z. pos 1000 *ℤ z) (sym (utility_by_place menu chosen ∙ sym c.utility.ensures)) in
     let kept : to_z w64 (of_z w64 c.limit_of-limit.result) ≡ c.limit_of-limit.result = omega (arith, ints) in
     let most : to_z w64 (of_z w64 c.limit_of-limit.result) ≡ limit_of (utility (by_place menu) ch) (is_ahead k ch cs) =
     kept ∙ c.limit_of-limit.ensures ∙ ap (λ z. limit_of z (is_ahead k ch slice)) (sym (utility_by_place menu champion))
     ∙ ap (λ l. limit_of (utility (by_place menu) ch) (is_ahead k ch l)) same in
-    let budget = c.rests_of-rests.ensures.budget c.args.allowed.now in
-    let credits = c.rests_of-rests.ensures.credits c.args.allowed.now in
-    let courses = c.rests_of-rests.ensures.courses c.args.allowed.now in
+    let are = c.rests_of-rests.ensures in
+    let whole : length c.collect-start.new.room ≡ 60 = search rules in
     let ps =
-    collected offer k cs slice c.collect-start.new.room c.collect-start.result c.min-from.result c.len.result same c.collect-start.auto.room
-    c.min-from.ensures c.len.ensures.value (c.collect-start.ensures.value c.args.budget.0 budget credits courses) in
+    collected offer k cs slice c.collect-start.new.room c.collect-start.result c.min-from.result c.len.result same whole
+    c.min-from.ensures c.len.ensures.value c.collect-start.ensures.value in
     let some : IfSome c.first_below.result (IsFirstPruning offer k cs ch (bounds offer k cs)) =
-    some_prunes offer k cs ch up up' low _ _ _ _ _ _ base most (budget ∙ ap (budget_left offer) same) (credits ∙ ap (credits_left offer) same)
-    (courses ∙ ap (courses_left offer) same) ps c.first_below.result c.first_below.ensures.first in
+    some_prunes offer k cs ch up up' low _ _ _ _ _ _ base most (are.budget_is ∙ ap (budget_left offer) same) (are.credits_is ∙ ap (credits_left offer) same)
+    (are.courses_is ∙ ap (courses_left offer) same) ps c.first_below.result c.first_below.ensures.first in
     let none : IfNone c.first_below.result (NonePrunes offer k cs ch (bounds offer k cs)) =
-    none_prunes offer k cs ch up up' low _ _ _ _ _ _ base most (budget ∙ ap (budget_left offer) same) (credits ∙ ap (credits_left offer) same)
-    (courses ∙ ap (courses_left offer) same) ps c.first_below.result c.first_below.ensures.none in
+    none_prunes offer k cs ch up up' low _ _ _ _ _ _ base most (are.budget_is ∙ ap (budget_left offer) same) (are.credits_is ∙ ap (credits_left offer) same)
+    (are.courses_is ∙ ap (courses_left offer) same) ps c.first_below.result c.first_below.ensures.none in
     record {
       first = some;
       value =

@@ -10,22 +10,27 @@ use Rattle.bundle_bounds.proofs.nodes.is_open.Goals as goal
 
 pub rests_of-rests-requires-clause-on_menu : goal.rests_of-rests-requires-clause-on_menu
 rests_of-rests-requires-clause-on_menu c =
-    rw (c.as_slice-chosen.ensures.value, c.of-chosen.ensures)
+    rw (c.as_slice-places.ensures.value, c.of-places.ensures)
     (places_of_rated c.args.menu.now (sections_of c.args.node.now.chosen) c.requires.node.takable.feasible.rated)
 
-pub is_open_at-requires-clause-on_menu : goal.is_open_at-requires-clause-on_menu
-is_open_at-requires-clause-on_menu c =
-    rw (c.as_slice-chosen.ensures.value, c.of-chosen.ensures)
-    (places_of_rated c.args.menu.now (sections_of c.args.node.now.chosen) c.requires.node.takable.feasible.rated)
+pub invariant_of-chosen : goal.invariant_of-chosen
+invariant_of-chosen c =
+    let same = c.as_slice-places.ensures.value ∙ c.of-places.ensures in
+    record {
+      on_menu =
+          rw same (places_of_rated c.args.menu.now (sections_of c.args.node.now.chosen) c.requires.node.takable.feasible.rated);
+      few = c.as_slice-places.ensures.few;
+      rests_are = c.rests_of-rests.ensures;
+    }
 
 pub returns : goal.returns
 returns c =
     let offer = offer_of c.args.menu.now c.args.prices.now c.args.budget.0 c.args.allowed.now in
-    let slice = c.as_slice-chosen.result.now in
-    let same : slice ≡ places_of c.args.menu.now (sections_of c.args.node.now.chosen) = c.as_slice-chosen.ensures.value ∙ c.of-chosen.ensures in
+    let slice = c.as_slice-places.result.now in
+    let same : slice ≡ places_of c.args.menu.now (sections_of c.args.node.now.chosen) = c.as_slice-places.ensures.value ∙ c.of-places.ensures in
     let rests = c.rests_of-rests in
     let undecided : nat_le c.args.node.now.place c.args.place ≡ true = le_true _ _ (omega arith) in
     let opened : c.is_open_at.result ≡ is_open offer slice c.args.place =
     open_same offer slice c.args.place rests.result.budget rests.result.credits rests.result.courses c.is_open_at.result c.is_open_at.ensures
-    (rests.ensures.budget c.args.allowed.now) (rests.ensures.credits c.args.allowed.now) (rests.ensures.courses c.args.allowed.now) in
+    rests.ensures.budget_is rests.ensures.credits_is rests.ensures.courses_is in
     opened ∙ ap (λ cs. is_open offer cs c.args.place) same ∙ rw undecided refl

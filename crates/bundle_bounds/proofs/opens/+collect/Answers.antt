@@ -1,50 +1,73 @@
-use Rattle.std.proofs.Common.{◌≡◌, ◌≤◌, ◌<◌, ◌∙◌, true, false, length, drop, map, ap, sym, subst, arith, rules}
+use Rattle.std.proofs.Common.{◌≡◌, ◌≤◌, ◌<◌, ◌∙◌, true, false, length, drop, map, ap, sym, subst, arith, rules, ◌-◌}
 use Rattle.std.specs.Prelude.{All}
+use Rattle.std.proofs.lemmas.List.Elements.{All-nil}
 use Rattle.bundle_bounds.specs.declared.prospects.Prospect.{Prospect}
-use Rattle.bundle_bounds.specs.Offers.{offer_of}
-use Rattle.bundle_bounds.specs.Opens.{is_open, prospect, prospects}
+use Rattle.bundle_bounds.specs.Views.{data_of}
+use Rattle.bundle_bounds.specs.Opens.{is_open, opens_from, prospect, prospects}
 use Rattle.bundle_bounds.specs.Modest.{IsModest}
-use Rattle.bundle_bounds.proofs.Outlook.{open_same, opens_shut, put_front, all_cons, collected, rest_whole}
+use Rattle.bundle_bounds.proofs.BelowLimit.{nothing_behind, rest_of_room}
+use Rattle.bundle_bounds.proofs.Outlook.{open_same, opens_shut, put_front, all_cons, collected}
 use Rattle.bundle_bounds.proofs.opens.+collect.Goals as goal
 
+pub returns-then-place-len-clause-value : goal.returns-then-place-len-clause-value
+returns-then-place-len-clause-value t c =
+    let offer = data_of c.args.chosen.now.offer.now in
+    let whole : length c.args.room.now ≡ 60 = search rules in
+    let none : length c.args.chosen.now.offer.now.menu.now.places - c.args.place ≡ 0 = omega (arith, c.len.ensures.value) in
+    nothing_behind c.args.room.now whole
+    ∙ sym (ap (λ n. prospects offer c.args.chosen.now.places.now (opens_from offer c.args.chosen.now.places.now c.args.place n)) none)
+
+pub returns-then-place-len-clause-modest : goal.returns-then-place-len-clause-modest
+returns-then-place-len-clause-modest t c =
+    let whole : length c.args.room.now ≡ 60 = search rules in
+    subst (All IsModest) (sym (nothing_behind c.args.room.now whole)) (All-nil IsModest)
+
+pub returns-then-place-len-clause-on_menu : goal.returns-then-place-len-clause-on_menu
+returns-then-place-len-clause-on_menu t c =
+    let whole : length c.args.room.now ≡ 60 = search rules in
+    let P : Prospect → Type 0 = λ other. other.place < length c.args.chosen.now.offer.now.menu.now.places in
+    subst (All P) (sym (nothing_behind c.args.room.now whole)) (All-nil P)
+
 pub returns-then-not-is_open_at-clause-value : goal.returns-then-not-is_open_at-clause-value
-returns-then-not-is_open_at-clause-value t c = λ budget first second third.
-    let offer = offer_of c.args.menu.now c.args.prices.now budget c.args.allowed.now in
-    let low : c.args.place < length c.args.menu.now.places = omega (arith, c.len.ensures.value) in
+returns-then-not-is_open_at-clause-value t c =
+    let are = c.args.chosen.now.rests_are in
+    let offer = data_of c.args.chosen.now.offer.now in
+    let low : c.args.place < length c.args.chosen.now.offer.now.menu.now.places = omega (arith, c.len.ensures.value) in
     let no : c.is_open_at.result ≡ false = search rules in
-    let shut : is_open offer c.args.chosen.now c.args.place ≡ false =
+    let shut : is_open offer c.args.chosen.now.places.now c.args.place ≡ false =
     sym
-    (open_same offer c.args.chosen.now c.args.place c.args.rests.budget c.args.rests.credits c.args.rests.courses c.is_open_at.result
-    c.is_open_at.ensures first second third)
+    (open_same offer c.args.chosen.now.places.now c.args.place c.args.chosen.now.rests.budget c.args.chosen.now.rests.credits c.args.chosen.now.rests.courses c.is_open_at.result
+    c.is_open_at.ensures are.budget_is are.credits_is are.courses_is)
     ∙ no in
-    c.collect-start.ensures.value budget first second third
-    ∙ ap (prospects offer c.args.chosen.now) (sym (opens_shut offer c.args.chosen.now c.args.place (length c.args.menu.now.places) low shut))
+    c.collect-start.ensures.value
+    ∙ ap (prospects offer c.args.chosen.now.places.now) (sym (opens_shut offer c.args.chosen.now.places.now c.args.place (length c.args.chosen.now.offer.now.menu.now.places) low shut))
 
 pub returns-clause-value : goal.returns-clause-value
-returns-clause-value t c = λ budget first second third.
-    let offer = offer_of c.args.menu.now c.args.prices.now budget c.args.allowed.now in
-    let low : c.args.place < length c.args.menu.now.places = omega (arith, c.len.ensures.value) in
+returns-clause-value t c =
+    let are = c.args.chosen.now.rests_are in
+    let offer = data_of c.args.chosen.now.offer.now in
+    let low : c.args.place < length c.args.chosen.now.offer.now.menu.now.places = omega (arith, c.len.ensures.value) in
     let yes : c.is_open_at.result ≡ true = search rules in
-    let opened : is_open offer c.args.chosen.now c.args.place ≡ true =
+    let opened : is_open offer c.args.chosen.now.places.now c.args.place ≡ true =
     sym
-    (open_same offer c.args.chosen.now c.args.place c.args.rests.budget c.args.rests.credits c.args.rests.courses c.is_open_at.result
-    c.is_open_at.ensures first second third)
+    (open_same offer c.args.chosen.now.places.now c.args.place c.args.chosen.now.rests.budget c.args.chosen.now.rests.credits c.args.chosen.now.rests.courses c.is_open_at.result
+    c.is_open_at.ensures are.budget_is are.credits_is are.courses_is)
     ∙ yes in
     let some : 1 ≤ c.collect-start.result = omega (arith, c.collect-start.ensures.space, c.len.ensures.menu.places.few) in
-    let within : c.collect-start.result ≤ length c.collect-start.new.room =
-    omega (arith, c.collect-start.ensures.within, c.collect-start.auto.room, c.requires.room) in
-    collected offer c.args.chosen.now c.args.place (length c.args.menu.now.places) c.collect-start.result c.collect-start.new.room c.prospect_at-prospect.result
+    let whole : length c.collect-start.new.room ≡ 60 = search rules in
+    let within : c.collect-start.result ≤ length c.collect-start.new.room = omega (arith, c.collect-start.ensures.within) in
+    collected offer c.args.chosen.now.places.now c.args.place (length c.args.chosen.now.offer.now.menu.now.places) c.collect-start.result c.collect-start.new.room c.prospect_at-prospect.result
     low opened some within
-    (c.collect-start.ensures.value budget first second third)
-    (c.prospect_at-prospect.ensures.value budget c.args.allowed.now
-    ∙ ap (λ l. prospect offer c.args.chosen.now c.args.place (map (λ (p : Prospect). p.place) l))
-    (rest_whole c.collect-start.new.room c.collect-start.result))
+    (c.collect-start.ensures.value)
+    (c.prospect_at-prospect.ensures.value
+    ∙ ap (λ l. prospect offer c.args.chosen.now.places.now c.args.place (map (λ (p : Prospect). p.place) l))
+    (rest_of_room c.collect-start.new.room c.collect-start.result whole))
 
 pub returns-clause-modest : goal.returns-clause-modest
 returns-clause-modest t c =
     let some : 1 ≤ c.collect-start.result = omega (arith, c.collect-start.ensures.space, c.len.ensures.menu.places.few, c.len.ensures.value) in
-    let within : c.collect-start.result ≤ length c.collect-start.new.room =
-    omega (arith, c.collect-start.ensures.within, c.collect-start.auto.room, c.requires.room) in
+    let whole : length c.collect-start.new.room ≡ 60 = search rules in
+    let within : c.collect-start.result ≤ length c.collect-start.new.room = omega (arith, c.collect-start.ensures.within) in
     subst (All IsModest) (sym (put_front c.collect-start.new.room c.collect-start.result c.prospect_at-prospect.result some within))
     (all_cons IsModest c.prospect_at-prospect.result (drop c.collect-start.result c.collect-start.new.room) c.prospect_at-prospect.ensures.modest
     c.collect-start.ensures.modest)
@@ -52,9 +75,9 @@ returns-clause-modest t c =
 pub returns-clause-on_menu : goal.returns-clause-on_menu
 returns-clause-on_menu t c =
     let some : 1 ≤ c.collect-start.result = omega (arith, c.collect-start.ensures.space, c.len.ensures.menu.places.few, c.len.ensures.value) in
-    let within : c.collect-start.result ≤ length c.collect-start.new.room =
-    omega (arith, c.collect-start.ensures.within, c.collect-start.auto.room, c.requires.room) in
-    let P : Prospect → Type 0 = λ other. other.place < length c.args.menu.now.places in
+    let whole : length c.collect-start.new.room ≡ 60 = search rules in
+    let within : c.collect-start.result ≤ length c.collect-start.new.room = omega (arith, c.collect-start.ensures.within) in
+    let P : Prospect → Type 0 = λ other. other.place < length c.args.chosen.now.offer.now.menu.now.places in
     subst (All P) (sym (put_front c.collect-start.new.room c.collect-start.result c.prospect_at-prospect.result some within))
     (all_cons P c.prospect_at-prospect.result (drop c.collect-start.result c.collect-start.new.room) c.prospect_at-prospect.ensures.place
     c.collect-start.ensures.on_menu)

@@ -14,7 +14,7 @@ use Rattle.bundle_bounds.proofs.prospects.add_up_twice.Goals as goal
 
 pub loop-index-init : goal.loop-index-init
 loop-index-init c =
-    let none : drop (length c.args.prospects.now) c.args.prospects.now ≡ [] = drop-length c.args.prospects.now in
+    let none : drop (length c.args.all.now.list.now) c.args.all.now.list.now ≡ [] = drop-length c.args.all.now.list.now in
     record {
       there = λ course. ap (λ n. n == 1) (bit_at-zero course) ∙ sym (ap (λ ps. has_course ps course) none);
       peak = record {
@@ -29,7 +29,7 @@ loop-index-init c =
 
 pub peak_behind-most-requires-clause-none : goal.peak_behind-most-requires-clause-none
 peak_behind-most-requires-clause-none c = λ new.
-    let ps = c.args.prospects.now in
+    let ps = c.args.all.now.list.now in
     let next : c.loop-index.index ≡ (c.loop-index.index - 1) + 1 = omega arith in
     let course = (get_or ps (c.loop-index.index - 1) no_prospect).course in
     let none : not (bit_at c.loop-index.courses course == 1) ≡ true = ap not (sym c.is_in-is_new.ensures) ∙ new in
@@ -38,18 +38,18 @@ peak_behind-most-requires-clause-none c = λ new.
 
 pub peak_behind-most-requires-clause-last : goal.peak_behind-most-requires-clause-last
 peak_behind-most-requires-clause-last c =
-    let ps = c.args.prospects.now in
+    let ps = c.args.all.now.list.now in
     let next : c.loop-index.index ≡ (c.loop-index.index - 1) + 1 = omega arith in
     subst (λ l. IsPeak c.args.resource c.args.price l c.loop-index.last) (sym (rest_whole ps ((c.loop-index.index - 1) + 1)))
     (subst (λ n. IsPeak c.args.resource c.args.price (drop n ps) c.loop-index.last) next c.loop-index.invariant.peak)
 
 pub loop-index-preserved : goal.loop-index-preserved
 loop-index-preserved c =
-    let ps = c.args.prospects.now in
+    let ps = c.args.all.now.list.now in
     let f = over_price c.args.resource c.args.price in
     let g = over_price c.args.resource (c.args.price + 1) in
     let is = c.loop-index.invariant in
-    let low : c.loop-index.index - 1 < length c.args.prospects.now = omega arith in
+    let low : c.loop-index.index - 1 < length c.args.all.now.list.now = omega arith in
     let next : c.loop-index.index ≡ (c.loop-index.index - 1) + 1 = omega arith in
     let whole = rest_whole ps ((c.loop-index.index - 1) + 1) in
     let course = (get_or ps (c.loop-index.index - 1) no_prospect).course in
@@ -64,8 +64,8 @@ loop-index-preserved c =
     let more' : own.after ≤ 20000000 = c.peak_of-own.ensures.after_high in
     let less : c.saturating_sub-sum.result ≡ own.here - most.here = c.saturating_sub-sum.ensures in
     let less' : c.saturating_sub-next.result ≡ own.after - most.after = c.saturating_sub-next.ensures in
-    let so_far' : c.loop-index.next ≤ 20000000 * (length c.args.prospects.now - c.loop-index.index) = is.next_small in
-    let so_far : c.loop-index.sum ≤ 20000000 * (length c.args.prospects.now - c.loop-index.index) = is.small in
+    let so_far' : c.loop-index.next ≤ 20000000 * (length c.args.all.now.list.now - c.loop-index.index) = is.next_small in
+    let so_far : c.loop-index.sum ≤ 20000000 * (length c.args.all.now.list.now - c.loop-index.index) = is.small in
     let named : c.higher-last.result.course ≡ course = c.higher-last.ensures.course ∙ c.peak_of-own.ensures.course in
     record {
       there =

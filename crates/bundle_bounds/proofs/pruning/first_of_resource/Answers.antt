@@ -7,28 +7,25 @@ use Rattle.bundle_bounds.proofs.pruning.first_of_resource.Goals as goal
 
 pub returns-then-is_all-clause-none : goal.returns-then-is_all-clause-none
 returns-then-is_all-clause-none c =
-    let b : to_z w64 (of_z w64 c.args.base) ≡ c.args.base = omega (arith, ints) in
     let l : to_z w64 (of_z w64 c.args.limit) ≡ c.args.limit = omega (arith, ints) in
-    none_where_known c.args.base c.args.limit c.args.rest c.args.resource c.args.all.now c.known_by-known.result
-    ((rw (b, l) at c.known_by-known.ensures) c.args.rest c.args.resource c.args.all.now c.requires.last) (c.is_all.ensures c.if-is_all.true) c.args.all.now c.requires.modest
+    none_where_known c.args.base.number c.args.limit c.args.left.rest c.args.left.resource c.args.all.now.list.now c.known_by-known.result
+    ((rw l at c.known_by-known.ensures) c.args.left.rest c.args.left.resource c.args.all.now.list.now c.requires.last) (c.is_all.ensures c.if-is_all.true) c.args.all.now.list.now c.args.all.now.modest
 
 pub returns-then-is_below-clause-first : goal.returns-then-is_below-clause-first
 returns-then-is_below-clause-first c =
-    let b : to_z w64 (of_z w64 c.args.base) ≡ c.args.base = omega (arith, ints) in
     let l : to_z w64 (of_z w64 c.args.limit) ≡ c.args.limit = omega (arith, ints) in
     rw c.leaf_of.ensures
-    (first_at c.args.base c.args.limit c.args.rest c.args.resource c.args.all.now c.args.all.now c.loop-prospect.prospect-index no_prospect
-    c.loop-prospect-test.true (rw (b, l) at c.loop-prospect.invariant.none_is) ((rw (b, l) at c.is_below.ensures.below).0 c.if-is_below.true))
+    (first_at c.args.base.number c.args.limit c.args.left.rest c.args.left.resource c.args.all.now.list.now c.args.all.now.list.now c.loop-prospect.prospect-index no_prospect
+    c.loop-prospect-test.true (rw l at c.loop-prospect.invariant.none_is) ((rw l at c.is_below.ensures.below).0 c.if-is_below.true))
 
 pub loop-prospect-preserved : goal.loop-prospect-preserved
 loop-prospect-preserved c =
-    let b : to_z w64 (of_z w64 c.args.base) ≡ c.args.base = omega (arith, ints) in
     let l : to_z w64 (of_z w64 c.args.limit) ≡ c.args.limit = omega (arith, ints) in
-    rw (b, l) (record {
-      known_is = rw (b, l) at c.is_below.ensures.known;
+    rw l (record {
+      known_is = rw l at c.is_below.ensures.known;
       last_is = c.is_below.ensures.last;
       none_is =
-          none_more c.args.base c.args.limit c.args.rest c.args.resource c.args.all.now c.args.all.now c.loop-prospect.prospect-index no_prospect
-          c.loop-prospect-test.true (rw (b, l) at c.loop-prospect.invariant.none_is)
-          (λ below. true≢false (sym ((rw (b, l) at c.is_below.ensures.below).1 below) ∙ c.if-is_below.false));
+          none_more c.args.base.number c.args.limit c.args.left.rest c.args.left.resource c.args.all.now.list.now c.args.all.now.list.now c.loop-prospect.prospect-index no_prospect
+          c.loop-prospect-test.true (rw l at c.loop-prospect.invariant.none_is)
+          (λ below. true≢false (sym ((rw l at c.is_below.ensures.below).1 below) ∙ c.if-is_below.false));
     })

@@ -9,7 +9,7 @@ use Rattle.bundle_bounds.proofs.pruning.first_of_resource.Given as goal
 -- none so far has a bound below the limit
 abbrev pub invariant-loop-prospect : goal.invariant-loop-prospect
 invariant-loop-prospect l = record {
-  known_is : IsKnown l.base l.limit l.rest l.resource l.all l.known;
-  last_is : IfSome l.last (IsTangent l.rest l.resource l.all);
-  none_is : NoneBelow l.limit (resource_bounds l.base l.rest l.resource l.all (take l.prospect-index l.all));
+  known_is : IsKnown l.base.number l.limit l.left.rest l.left.resource l.all.list.now l.known;
+  last_is : IfSome l.last (IsTangent l.left.rest l.left.resource l.all.list.now);
+  none_is : NoneBelow l.limit (resource_bounds l.base.number l.left.rest l.left.resource l.all.list.now (take l.prospect-index l.all.list.now));
 }

@@ -14,29 +14,27 @@ not_below base limit plain sum told same tells not = λ low. true≢false (sym (
 
 pub returns-in-Some-clause-first : goal.returns-in-Some-clause-first
 returns-in-Some-clause-first c =
-    let b : to_z w64 (of_z w64 c.args.base) ≡ c.args.base = omega (arith, ints) in
     let l : to_z w64 (of_z w64 c.args.limit) ≡ c.args.limit = omega (arith, ints) in
     inr (
-      not_below c.args.base c.args.limit c.args.plain _ c.is_plain_below.result c.requires.plain (rw (b, l) at c.is_plain_below.ensures.1)
+      not_below c.args.base.number c.args.limit c.args.plain _ c.is_plain_below.result c.requires.plain (rw l at c.is_plain_below.ensures.1)
           c.if-is_plain_below.false,
-      first-append_left c.args.limit _ _ c.in-Some.leaf (rw (b, l) at c.in-Some.ensures.first),
+      first-append_left c.args.limit _ _ c.in-Some.leaf (rw l at c.in-Some.ensures.first),
     )
 
 pub returns-in-None : goal.returns-in-None
 returns-in-None c =
-    let b : to_z w64 (of_z w64 c.args.base) ≡ c.args.base = omega (arith, ints) in
     let l : to_z w64 (of_z w64 c.args.limit) ≡ c.args.limit = omega (arith, ints) in
-    let plain : Leaf × ℤ = (Plain, c.args.base +ℤ pos (by_course (λ p. 1000 * p.worth) c.args.all.now)) in
+    let plain : Leaf × ℤ = (Plain, c.args.base.number +ℤ pos (by_course (λ p. 1000 * p.worth) c.args.all.now.list.now)) in
     let not =
-    not_below c.args.base c.args.limit c.args.plain _ c.is_plain_below.result c.requires.plain (rw (b, l) at c.is_plain_below.ensures.1)
+    not_below c.args.base.number c.args.limit c.args.plain _ c.is_plain_below.result c.requires.plain (rw l at c.is_plain_below.ensures.1)
     c.if-is_plain_below.false in
-    let none = rw (b, l) at c.in-None.ensures.none in
+    let none = rw l at c.in-None.ensures.none in
     record {
       first =
           if_first-next c.args.limit plain _ c.first_after_money.result not
-          (if_first-append_right c.args.limit _ _ c.first_after_money.result none (rw (b, l) at c.first_after_money.ensures.first));
+          (if_first-append_right c.args.limit _ _ c.first_after_money.result none (rw l at c.first_after_money.ensures.first));
       none =
           if_none-next c.args.limit plain _ c.first_after_money.result not
-          (if_none-append c.args.limit _ _ c.first_after_money.result none (rw (b, l) at c.first_after_money.ensures.none));
+          (if_none-append c.args.limit _ _ c.first_after_money.result none (rw l at c.first_after_money.ensures.none));
       tangents = search rules;
     }

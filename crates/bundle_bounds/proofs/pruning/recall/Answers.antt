@@ -4,6 +4,5 @@ use Rattle.bundle_bounds.proofs.pruning.recall.Goals as goal
 
 pub returns : goal.returns
 returns c = λ rest resource all tangent known.
-    let b : to_z w64 (of_z w64 c.args.base) ≡ c.args.base = omega (arith, ints) in
     let l : to_z w64 (of_z w64 c.args.limit) ≡ c.args.limit = omega (arith, ints) in
-    c.learn.ensures c.args.base c.args.limit rest resource all known tangent.here tangent.after (rw (b, l) at c.margin-above.ensures.above)
+    c.learn.ensures c.args.base.number c.args.limit rest resource all known tangent.here tangent.after (rw l at c.margin-above.ensures.above)

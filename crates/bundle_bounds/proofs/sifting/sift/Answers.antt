@@ -1,61 +1,62 @@
-use Rattle.std.proofs.Common.{◌≡◌, ◌<◌, ◌≤◌, ◌+◌, ◌-◌, [], length, drop, sym, ap, subst, ◌∙◌, arith}
+use Rattle.std.proofs.Common.{◌≡◌, ◌<◌, ◌≤◌, ◌+◌, ◌-◌, [], length, drop, sym, ap, subst, ◌∙◌, arith, rules}
 use Rattle.std.specs.Prelude.{All, filter}
 use Rattle.std.proofs.Math.Seq.{drop-length}
 use Rattle.std.proofs.lemmas.List.Elements.{All-nil}
 use Rattle.bundle_bounds.specs.declared.prospects.Prospect.{Prospect}
-use Rattle.bundle_bounds.specs.Offers.{offer_of}
+use Rattle.bundle_bounds.specs.Views.{data_of}
 use Rattle.bundle_bounds.specs.Opens.{is_open, prospects}
 use Rattle.bundle_bounds.specs.Modest.{IsModest}
+use Rattle.bundle_bounds.proofs.BelowLimit.{nothing_behind}
 use Rattle.bundle_bounds.proofs.StayingOpen.{length-prospects, split_here}
 use Rattle.bundle_bounds.proofs.sifting.sift.Goals as goal
 
 pub loop-index-init : goal.loop-index-init
 loop-index-init c =
-    let none : drop (length c.args.room.now) c.args.room.now ≡ [] = drop-length c.args.room.now in
-    let room : length c.args.room.now ≡ 60 = c.requires.room in
+    let room : length c.args.room.now ≡ 60 = search rules in
+    let none = nothing_behind c.args.room.now room in
     record {
-      whole = c.requires.room;
+      whole = room;
       within = omega arith;
       space = omega arith;
-      value = λ prices budget allowed before others chosen_is budget_is credits_is courses_is opens all_are.
-          let offer = offer_of c.args.menu.now prices budget allowed in
-          let size : length c.args.all.now ≡ length others = ap length all_are ∙ length-prospects offer before others in
-          let left : drop (length c.args.all.now) others ≡ [] = ap (λ n. drop n others) size ∙ drop-length others in
-          none ∙ sym (ap (λ l. prospects offer c.args.chosen.now (filter (is_open offer c.args.chosen.now) l)) left);
+      value = λ before others chosen_is opens all_are.
+          let offer = data_of c.args.chosen.now.offer.now in
+          let size : length c.args.all.now.list.now ≡ length others = ap length all_are ∙ length-prospects offer before others in
+          let left : drop (length c.args.all.now.list.now) others ≡ [] = ap (λ n. drop n others) size ∙ drop-length others in
+          none ∙ sym (ap (λ l. prospects offer c.args.chosen.now.places.now (filter (is_open offer c.args.chosen.now.places.now) l)) left);
       modest = subst (All IsModest) (sym none) (All-nil IsModest);
       on_menu =
-          subst (All (λ (other : Prospect). other.place < length c.args.menu.now.places)) (sym none)
-          (All-nil (λ (other : Prospect). other.place < length c.args.menu.now.places));
+          subst (All (λ (other : Prospect). other.place < length c.args.chosen.now.offer.now.menu.now.places)) (sym none)
+          (All-nil (λ (other : Prospect). other.place < length c.args.chosen.now.offer.now.menu.now.places));
     }
 
 pub loop-index-preserved : goal.loop-index-preserved
 loop-index-preserved c =
     let is = c.loop-index.invariant in
-    let low : c.loop-index.index - 1 < length c.args.all.now = omega arith in
+    let low : c.loop-index.index - 1 < length c.args.all.now.list.now = omega arith in
     let next : c.loop-index.index ≡ (c.loop-index.index - 1) + 1 = omega arith in
-    let space : 60 + c.loop-index.index ≤ c.loop-index.start + length c.args.all.now = is.space in
+    let space : 60 + c.loop-index.index ≤ c.loop-index.start + length c.args.all.now.list.now = is.space in
     let within : c.loop-index.start ≤ 60 = is.within in
     let less : c.loop-index.start ≤ c.put_open-start.result + 1 = c.put_open-start.ensures.low in
     let more : c.put_open-start.result ≤ c.loop-index.start = c.put_open-start.ensures.high in
     record {
-      whole = c.put_open-start.auto.room ∙ is.whole;
+      whole = (let whole : length c.put_open-start.new.room ≡ 60 = search rules in whole);
       within = omega arith;
       space = omega arith;
-      value = λ prices budget allowed before others chosen_is budget_is credits_is courses_is opens all_are.
-          let offer = offer_of c.args.menu.now prices budget allowed in
-          let split = split_here offer before others c.args.all.now (c.loop-index.index - 1) low all_are opens in
-          let so_far = is.value prices budget allowed before others chosen_is budget_is credits_is courses_is opens all_are in
-          c.put_open-start.ensures.value prices budget allowed before (drop ((c.loop-index.index - 1) + 1) others) (drop ((c.loop-index.index - 1) + 1) others)
-          chosen_is budget_is credits_is courses_is split.opened split.one_is
-          (so_far ∙ ap (λ n. prospects offer c.args.chosen.now (filter (is_open offer c.args.chosen.now) (drop n others))) next)
-          ∙ ap (λ l. prospects offer c.args.chosen.now (filter (is_open offer c.args.chosen.now) l)) split.front;
+      value = λ before others chosen_is opens all_are.
+          let offer = data_of c.args.chosen.now.offer.now in
+          let split = split_here offer before others c.args.all.now.list.now (c.loop-index.index - 1) low all_are opens in
+          let so_far = is.value before others chosen_is opens all_are in
+          c.put_open-start.ensures.value before (drop ((c.loop-index.index - 1) + 1) others) (drop ((c.loop-index.index - 1) + 1) others)
+          chosen_is split.opened split.one_is
+          (so_far ∙ ap (λ n. prospects offer c.args.chosen.now.places.now (filter (is_open offer c.args.chosen.now.places.now) (drop n others))) next)
+          ∙ ap (λ l. prospects offer c.args.chosen.now.places.now (filter (is_open offer c.args.chosen.now.places.now) l)) split.front;
       modest = c.put_open-start.ensures.modest;
       on_menu = c.put_open-start.ensures.on_menu;
     }
 
 pub returns-clause-value : goal.returns-clause-value
-returns-clause-value c = λ prices budget allowed before others chosen_is budget_is credits_is courses_is opens all_are.
-    let offer = offer_of c.args.menu.now prices budget allowed in
+returns-clause-value c = λ before others chosen_is opens all_are.
+    let offer = data_of c.args.chosen.now.offer.now in
     let none : c.loop-index.index ≡ 0 = omega arith in
-    c.loop-index.invariant.value prices budget allowed before others chosen_is budget_is credits_is courses_is opens all_are
-    ∙ ap (λ n. prospects offer c.args.chosen.now (filter (is_open offer c.args.chosen.now) (drop n others))) none
+    c.loop-index.invariant.value before others chosen_is opens all_are
+    ∙ ap (λ n. prospects offer c.args.chosen.now.places.now (filter (is_open offer c.args.chosen.now.places.now) (drop n others))) none

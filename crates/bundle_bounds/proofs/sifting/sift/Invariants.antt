@@ -1,12 +1,9 @@
 use Rattle.std.proofs.Common.{◌≡◌, ◌<◌, ◌≤◌, ◌+◌, ◌++◌, ◌∷◌, [], ℕ, List, true, length, drop}
 use Rattle.std.specs.Prelude.{All, filter}
 use Rattle.std.specs.List.{AllByRecursion}
-use Rattle.std.specs.Ordering.{nat_cmp}
-use Rattle.std.specs.FinSet as set
-use Rattle.market_units.specs.declared.units.Tokens.{Tokens}
 use Rattle.bundle_bounds.specs.declared.prospects.Prospect.{Prospect}
-use Rattle.bundle_bounds.specs.Offers.{offer_of}
-use Rattle.bundle_bounds.specs.Opens.{budget_left, credits_left, courses_left, is_open, prospects}
+use Rattle.bundle_bounds.specs.Views.{data_of}
+use Rattle.bundle_bounds.specs.Opens.{is_open, prospects}
 use Rattle.bundle_bounds.specs.Modest.{IsModest}
 use Rattle.bundle_bounds.proofs.sifting.sift.Given as goal
 
@@ -15,15 +12,12 @@ abbrev pub invariant-loop-index : goal.invariant-loop-index
 invariant-loop-index l = record {
   whole : length l.room ≡ 60;
   within : l.start ≤ 60;
-  space : 60 + l.index ≤ l.start + length l.all;
-  value : (prices : List Tokens) (budget : ℕ) (allowed : set.FinSet nat_cmp) (before others : List ℕ) → l.chosen ≡ before ++ l.place ∷ []
-      → l.rests.budget ≡ budget_left (offer_of l.menu prices budget allowed) l.chosen
-      → l.rests.credits ≡ credits_left (offer_of l.menu prices budget allowed) l.chosen
-      → l.rests.courses ≡ courses_left (offer_of l.menu prices budget allowed) l.chosen
-      → AllByRecursion (λ other. is_open (offer_of l.menu prices budget allowed) before other ≡ true) others
-      → l.all ≡ prospects (offer_of l.menu prices budget allowed) before others
+  space : 60 + l.index ≤ l.start + length l.all.list.now;
+  value : (before others : List ℕ) → l.chosen.places.now ≡ before ++ l.place ∷ []
+      → AllByRecursion (λ other. is_open (data_of l.chosen.offer.now) before other ≡ true) others
+      → l.all.list.now ≡ prospects (data_of l.chosen.offer.now) before others
       → drop l.start l.room
-      ≡ prospects (offer_of l.menu prices budget allowed) l.chosen (filter (is_open (offer_of l.menu prices budget allowed) l.chosen) (drop l.index others));
+      ≡ prospects (data_of l.chosen.offer.now) l.chosen.places.now (filter (is_open (data_of l.chosen.offer.now) l.chosen.places.now) (drop l.index others));
   modest : All IsModest (drop l.start l.room);
-  on_menu : All (λ (other : Prospect). other.place < length l.menu.places) (drop l.start l.room);
+  on_menu : All (λ (other : Prospect). other.place < length l.chosen.offer.now.menu.now.places) (drop l.start l.room);
 }

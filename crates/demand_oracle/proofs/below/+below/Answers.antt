@@ -13,7 +13,7 @@ use Rattle.demand_oracle.proofs.below.+below.Goals as goal
 pub returns-then-courses_left-eq0-clause-searched : goal.returns-then-courses_left-eq0-clause-searched
 returns-then-courses_left-eq0-clause-searched t c =
     whole_searched c.args.question.now c.requires.question c.args.summed.now c.requires.summed c.requires.node _ _
-    (let left : c.courses_left.result ≡ c.args.question.now.menu.now.courses - length (chosen_of c.args.summed.now) = c.courses_left.ensures.value in
+    (let left : c.courses_left.result ≡ c.args.question.now.offer.now.menu.now.courses - length (chosen_of c.args.summed.now) = c.courses_left.ensures.value in
     omega (arith, c.if-courses_left-eq0.true))
     (compared c.args.question.now c.args.summed.now c.args.champion.now c.put_better.new.champion c.put_better.ensures c.args.summed.now.node.place)
 
@@ -32,7 +32,7 @@ pub returns-then-prunes-clause-searched : goal.returns-then-prunes-clause-search
 returns-then-prunes-clause-searched t c =
     prune_searched c.args.question.now c.requires.question c.args.summed.now c.requires.summed c.requires.node c.args.champion.now c.places.left c.places.champion
     c.places.invariant.goes_on (search rules) (omega arith)
-    (c.prunes.ensures (wanted_in c.args.question.now) c.args.question.now.prices.now c.args.question.now.budget.0 c.args.question.now.allowed.now
+    (c.prunes.ensures (wanted_in c.args.question.now) c.args.question.now.offer.now.prices.now c.args.question.now.offer.now.budget.0 c.args.question.now.offer.now.allowed.now
     c.requires.question.reach c.column-column.ensures c.requires.summed
     (node_next c.args.question.now c.requires.question c.args.summed.now c.requires.summed c.requires.node c.args.champion.now c.places.left c.places.champion
     c.places.invariant.goes_on (search rules) (omega arith))
@@ -42,7 +42,7 @@ pub fits-requires : goal.fits-requires
 fits-requires t c =
     let on = next_on_menu c.args.question.now c.requires.question c.args.summed.now c.requires.summed c.requires.node c.args.champion.now c.places.left c.places.champion
     c.places.invariant.goes_on (search rules) (omega arith) in
-    let few : length c.args.question.now.menu.now.places ≤ 60 = c.requires.question.menu.places.few in
+    let few : length c.args.question.now.offer.now.menu.now.places ≤ 60 = c.requires.question.menu.places.few in
     omega arith
 
 pub places-smaller-then-not-fits : goal.places-smaller-then-not-fits
@@ -76,7 +76,7 @@ pub bounds-question-from : goal.bounds-question-from
 bounds-question-from t c =
     let on = next_on_menu c.args.question.now c.requires.question c.args.summed.now c.requires.summed c.requires.node c.args.champion.now c.places.left c.places.champion
     c.places.invariant.goes_on (search rules) (omega arith) in
-    let few : length c.args.question.now.menu.now.places ≤ 60 = c.requires.question.menu.places.few in
+    let few : length c.args.question.now.offer.now.menu.now.places ≤ 60 = c.requires.question.menu.places.few in
     omega arith
 
 pub falls_short-requires-clause-undecided : goal.falls_short-requires-clause-undecided
@@ -97,7 +97,7 @@ falls_short-requires-clause-node t c =
     let takable =
     takable_where_fits c.args.question.now c.requires.question c.args.summed.now c.requires.summed c.requires.node c.args.champion.now c.places.left c.places.champion
     c.places.invariant.goes_on (search rules) (omega arith)
-    (let left : c.courses_left.result ≡ c.args.question.now.menu.now.courses - length (chosen_of c.args.summed.now) = c.courses_left.ensures.value in
+    (let left : c.courses_left.result ≡ c.args.question.now.offer.now.menu.now.courses - length (chosen_of c.args.summed.now) = c.courses_left.ensures.value in
     omega (arith, c.if-courses_left-eq0.false)) within.0 within.1 in
     node_taken c.args.question.now c.requires.question c.args.summed.now c.requires.summed c.requires.node c.args.champion.now c.places.left c.places.champion
     c.places.invariant.goes_on (search rules) (omega arith) takable
@@ -110,7 +110,7 @@ falls_short-requires-clause-word t c =
     let takable =
     takable_where_fits c.args.question.now c.requires.question c.args.summed.now c.requires.summed c.requires.node c.args.champion.now c.places.left c.places.champion
     c.places.invariant.goes_on (search rules) (omega arith)
-    (let left : c.courses_left.result ≡ c.args.question.now.menu.now.courses - length (chosen_of c.args.summed.now) = c.courses_left.ensures.value in
+    (let left : c.courses_left.result ≡ c.args.question.now.offer.now.menu.now.courses - length (chosen_of c.args.summed.now) = c.courses_left.ensures.value in
     omega (arith, c.if-courses_left-eq0.false)) within.0 within.1 in
     word_taken c.args.question.now c.requires.question c.args.summed.now c.requires.summed c.requires.node c.args.champion.now c.places.left c.places.champion
     c.places.invariant.goes_on (search rules) (omega arith) takable
@@ -131,7 +131,7 @@ places-preserved-then-falls_short t c =
     let takable =
     takable_where_fits c.args.question.now c.requires.question c.args.summed.now c.requires.summed c.requires.node c.args.champion.now c.places.left c.places.champion
     c.places.invariant.goes_on (search rules) (omega arith)
-    (let left : c.courses_left.result ≡ c.args.question.now.menu.now.courses - length (chosen_of c.args.summed.now) = c.courses_left.ensures.value in
+    (let left : c.courses_left.result ≡ c.args.question.now.offer.now.menu.now.courses - length (chosen_of c.args.summed.now) = c.courses_left.ensures.value in
     omega (arith, c.if-courses_left-eq0.false)) within.0 within.1 in
     record {
       goes_on =
@@ -164,11 +164,11 @@ below-requires t c =
     let takable =
     takable_where_fits c.args.question.now c.requires.question c.args.summed.now c.requires.summed c.requires.node c.args.champion.now c.places.left c.places.champion
     c.places.invariant.goes_on (search rules) (omega arith)
-    (let left : c.courses_left.result ≡ c.args.question.now.menu.now.courses - length (chosen_of c.args.summed.now) = c.courses_left.ensures.value in
+    (let left : c.courses_left.result ≡ c.args.question.now.offer.now.menu.now.courses - length (chosen_of c.args.summed.now) = c.courses_left.ensures.value in
     omega (arith, c.if-courses_left-eq0.false)) within.0 within.1 in
     let place_is : c.with_place-with_it.result.node.place ≡ trailing_zeros w64 c.places.left + 1 = c.with_place-with_it.ensures.place in
     let chosen_is : chosen_of c.with_place-with_it.result
-    ≡ chosen_of c.args.summed.now ++ section_at c.args.question.now.menu.now.places (trailing_zeros w64 c.places.left) ∷ [] =
+    ≡ chosen_of c.args.summed.now ++ section_at c.args.question.now.offer.now.menu.now.places (trailing_zeros w64 c.places.left) ∷ [] =
     c.with_place-with_it.ensures.chosen in
     let falls =
     word_falls (offer_asked c.args.question.now) c.requires.question.menu c.places.invariant.goes_on.from (chosen_of c.args.summed.now) c.places.left
@@ -206,11 +206,11 @@ returns-then-is_given-clause-searched t c =
     let takable =
     takable_where_fits c.args.question.now c.requires.question c.args.summed.now c.requires.summed c.requires.node c.args.champion.now c.places.left c.places.champion
     c.places.invariant.goes_on (search rules) (omega arith)
-    (let left : c.courses_left.result ≡ c.args.question.now.menu.now.courses - length (chosen_of c.args.summed.now) = c.courses_left.ensures.value in
+    (let left : c.courses_left.result ≡ c.args.question.now.offer.now.menu.now.courses - length (chosen_of c.args.summed.now) = c.courses_left.ensures.value in
     omega (arith, c.if-courses_left-eq0.false)) within.0 within.1 in
     let place_is : c.with_place-with_it.result.node.place ≡ trailing_zeros w64 c.places.left + 1 = c.with_place-with_it.ensures.place in
     let chosen_is : chosen_of c.with_place-with_it.result
-    ≡ chosen_of c.args.summed.now ++ section_at c.args.question.now.menu.now.places (trailing_zeros w64 c.places.left) ∷ [] =
+    ≡ chosen_of c.args.summed.now ++ section_at c.args.question.now.offer.now.menu.now.places (trailing_zeros w64 c.places.left) ∷ [] =
     c.with_place-with_it.ensures.chosen in
     given_searched c.args.question.now c.requires.question c.args.summed.now c.requires.summed c.requires.node c.args.champion.now c.places.left c.places.champion
     c.places.invariant.goes_on (search rules) (omega arith) takable
@@ -229,11 +229,11 @@ places-preserved t c =
     let takable =
     takable_where_fits c.args.question.now c.requires.question c.args.summed.now c.requires.summed c.requires.node c.args.champion.now c.places.left c.places.champion
     c.places.invariant.goes_on (search rules) (omega arith)
-    (let left : c.courses_left.result ≡ c.args.question.now.menu.now.courses - length (chosen_of c.args.summed.now) = c.courses_left.ensures.value in
+    (let left : c.courses_left.result ≡ c.args.question.now.offer.now.menu.now.courses - length (chosen_of c.args.summed.now) = c.courses_left.ensures.value in
     omega (arith, c.if-courses_left-eq0.false)) within.0 within.1 in
     let place_is : c.with_place-with_it.result.node.place ≡ trailing_zeros w64 c.places.left + 1 = c.with_place-with_it.ensures.place in
     let chosen_is : chosen_of c.with_place-with_it.result
-    ≡ chosen_of c.args.summed.now ++ section_at c.args.question.now.menu.now.places (trailing_zeros w64 c.places.left) ∷ [] =
+    ≡ chosen_of c.args.summed.now ++ section_at c.args.question.now.offer.now.menu.now.places (trailing_zeros w64 c.places.left) ∷ [] =
     c.with_place-with_it.ensures.chosen in
     record {
       goes_on =

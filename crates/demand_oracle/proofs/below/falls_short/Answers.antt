@@ -17,8 +17,8 @@ pub added-added-requires : goal.added-added-requires
 added-added-requires c =
     let opened =
     next_open (offer_asked c.args.question.now) c.requires.question.menu (c.args.place + 1)
-    (with_place_of c.args.question.now.menu.now c.args.summed.now c.args.place) c.args.apart (search rules) (omega arith) c.requires.word in
-    let few : length c.args.question.now.menu.now.places ≤ 60 = c.requires.question.menu.places.few in
+    (with_place_of c.args.question.now.offer.now.menu.now c.args.summed.now c.args.place) c.args.apart (search rules) (omega arith) c.requires.word in
+    let few : length c.args.question.now.offer.now.menu.now.places ≤ 60 = c.requires.question.menu.places.few in
     omega (arith, opened.on_menu)
 
 pub utility_with-utility-requires-clause-summed : goal.utility_with-utility-requires-clause-summed
@@ -30,7 +30,7 @@ utility_with-utility-requires-clause-room c =
 
 pub hoped_with-hoped-requires-clause-chosen : goal.hoped_with-hoped-requires-clause-chosen
 hoped_with-hoped-requires-clause-chosen c i d low =
-    let menu = c.args.question.now.menu.now in
+    let menu = c.args.question.now.offer.now.menu.now in
     let few : length menu.places ≤ 60 = c.requires.question.menu.places.few in
     let all =
     rw (← c.places.ensures.value menu (offer_asked c.args.question.now).price c.requires.summed) at
@@ -38,21 +38,21 @@ hoped_with-hoped-requires-clause-chosen c i d low =
     let on = all i d low in omega (arith, on)
 
 pub hoped_with-hoped-requires-clause-place : goal.hoped_with-hoped-requires-clause-place
-hoped_with-hoped-requires-clause-place c = let few : length c.args.question.now.menu.now.places ≤ 60 = c.requires.question.menu.places.few in omega arith
+hoped_with-hoped-requires-clause-place c = let few : length c.args.question.now.offer.now.menu.now.places ≤ 60 = c.requires.question.menu.places.few in omega arith
 
 pub hoped_with-hoped-requires-clause-next : goal.hoped_with-hoped-requires-clause-next
 hoped_with-hoped-requires-clause-next c =
     let opened =
     next_open (offer_asked c.args.question.now) c.requires.question.menu (c.args.place + 1)
-    (with_place_of c.args.question.now.menu.now c.args.summed.now c.args.place) c.args.apart (search rules) (omega arith) c.requires.word in
-    let few : length c.args.question.now.menu.now.places ≤ 60 = c.requires.question.menu.places.few in
+    (with_place_of c.args.question.now.offer.now.menu.now c.args.summed.now c.args.place) c.args.apart (search rules) (omega arith) c.requires.word in
+    let few : length c.args.question.now.offer.now.menu.now.places ≤ 60 = c.requires.question.menu.places.few in
     omega (arith, opened.on_menu)
 
 pub returns : goal.returns
 returns c yes_ =
     let question = c.args.question.now in
     let offer = offer_asked question in
-    let menu = question.menu.now in
+    let menu = question.offer.now.menu.now in
     let summed = c.args.summed.now in
     let place : ℕ = c.args.place in
     let chosen = with_place_of menu summed place in

@@ -16,7 +16,7 @@ returns-then-word-place-eq0-clause-lost c champion is =
     let place : ℕ = c.in-Some.place in
     let k : ℕ = c.args.summed.now.node.place in
     let chosen = chosen_of c.args.summed.now in
-    let on : place < length question.menu.now.places = rw c.in-Some.is at c.requires.question.given in
+    let on : place < length question.offer.now.menu.now.places = rw c.in-Some.is at c.requires.question.given in
     let later : k ≤ place = c.if-place-summed.false in
     let clear = sym (shr_and_one c.args.word place) ∙ c.if-word-place-eq0.true in
     lost_prunes offer c.requires.question.menu place on k chosen c.requires.node later (wanted_in question)
@@ -30,7 +30,7 @@ returns-else-word-place-eq0-clause-lost c champion is =
     let place : ℕ = c.in-Some.place in
     let k : ℕ = c.args.summed.now.node.place in
     let chosen = chosen_of c.args.summed.now in
-    let on : place < length question.menu.now.places = rw c.in-Some.is at c.requires.question.given in
+    let on : place < length question.offer.now.menu.now.places = rw c.in-Some.is at c.requires.question.given in
     let later : k ≤ place = c.if-place-summed.false in
     lost_prunes offer c.requires.question.menu place on k chosen c.requires.node later (wanted_in question)
     (λ bundle is_wanted. rw c.in-Some.is at is_wanted)

@@ -7,5 +7,5 @@ use Rattle.demand_oracle.proofs.goods.prices_of.Given as goal
 abbrev pub invariant-loop-place : goal.invariant-loop-place
 invariant-loop-place l = record {
   whole : length l.row ≡ 60;
-  filled : (p : ℕ) → p < l.place → slice_index l.row p ≡ price_in l.prices (section_at l.menu.places p);
+  filled : (p : ℕ) → p < l.place → slice_index l.row p ≡ price_in l.offer.prices.now (section_at l.offer.menu.now.places p);
 }

@@ -1,39 +1,39 @@
-use Rattle.std.proofs.Common.{◌≡◌, ◌≤◌, ◌+◌, [], ℕ, slice_index, sym, ◌∙◌, arith}
+use Rattle.std.proofs.Common.{◌≡◌, ◌≤◌, ◌+◌, ℕ, slice_index, sym, ◌∙◌, arith}
 use Rattle.bundle_rules.specs.Menus.{adjustment_in}
-use Rattle.bundle_bounds.specs.Offers.{offer_of}
+use Rattle.bundle_bounds.specs.Views.{data_of}
 use Rattle.bundle_bounds.specs.Opens.{above_zero}
 use Rattle.demand_oracle.specs.Values.{hopes_from}
 use Rattle.demand_oracle.proofs.Hoping.{hopes_not_allowed, hopes_allowed, hopes_from-high, allowed_read}
 use Rattle.demand_oracle.proofs.tables.add_hopes.Goals as goal
 
 pub returns-then-not-has : goal.returns-then-not-has
-returns-then-not-has c prices budget earlier low =
-    let offer = offer_of c.args.menu.now prices budget c.args.allowed.now in
+returns-then-not-has c earlier low =
+    let offer = data_of c.args.offer.now in
     let off =
-    allowed_read c.args.menu.now prices budget c.args.allowed.now c.args.place c.rated.result.now c.rated.ensures.value ∙ sym c.has.ensures
+    allowed_read c.args.offer.now.menu.now c.args.offer.now.prices.now c.args.offer.now.budget.0 c.args.offer.now.allowed.now c.args.place c.rated.result.now c.rated.ensures.value ∙ sym c.has.ensures
     ∙ c.if-not-has.true in
-    c.requires.later prices budget earlier (omega arith) ∙ sym (hopes_not_allowed offer c.args.place earlier c.requires.place off)
+    c.requires.later earlier (omega arith) ∙ sym (hopes_not_allowed offer c.args.place earlier c.requires.place off)
 
 pub overflow_add-hopes : goal.overflow_add-hopes
 overflow_add-hopes c =
-    let offer = offer_of c.args.menu.now [] 0 c.args.allowed.now in
+    let offer = data_of c.args.offer.now in
     let at : ℕ = c.from.result in
     let kept : slice_index c.loop-earlier.hopes at ≡ slice_index c.args.hopes.now at = c.loop-earlier.invariant.rest at (omega (arith, c.from.ensures)) in
-    let read : slice_index c.args.hopes.now at ≡ hopes_from offer (c.args.place + 1) at = c.requires.later [] 0 at (omega arith) in
+    let read : slice_index c.args.hopes.now at ≡ hopes_from offer (c.args.place + 1) at = c.requires.later at (omega arith) in
     let high : hopes_from offer (c.args.place + 1) at ≤ 12000 = hopes_from-high offer c.requires.menu (c.args.place + 1) at in
     omega arith
 
 pub returns : goal.returns
-returns c prices budget earlier low =
-    let offer = offer_of c.args.menu.now prices budget c.args.allowed.now in
+returns c earlier low =
+    let offer = data_of c.args.offer.now in
     let on =
-    allowed_read c.args.menu.now prices budget c.args.allowed.now c.args.place c.rated.result.now c.rated.ensures.value ∙ sym c.has.ensures
+    allowed_read c.args.offer.now.menu.now c.args.offer.now.prices.now c.args.offer.now.budget.0 c.args.offer.now.allowed.now c.args.place c.rated.result.now c.rated.ensures.value ∙ sym c.has.ensures
     ∙ c.if-not-has.false in
     let filled : slice_index c.loop-earlier.hopes earlier
-    ≡ slice_index c.args.hopes.now earlier + above_zero (adjustment_in c.args.menu.now.pairs earlier c.args.place) =
+    ≡ slice_index c.args.hopes.now earlier + above_zero (adjustment_in c.args.offer.now.menu.now.pairs earlier c.args.place) =
     c.loop-earlier.invariant.filled earlier (omega arith) in
-    let read : slice_index c.args.hopes.now earlier ≡ hopes_from offer (c.args.place + 1) earlier = c.requires.later prices budget earlier (omega arith) in
+    let read : slice_index c.args.hopes.now earlier ≡ hopes_from offer (c.args.place + 1) earlier = c.requires.later earlier (omega arith) in
     let whole : hopes_from offer c.args.place earlier
-    ≡ above_zero (adjustment_in c.args.menu.now.pairs earlier c.args.place) + hopes_from offer (c.args.place + 1) earlier =
+    ≡ above_zero (adjustment_in c.args.offer.now.menu.now.pairs earlier c.args.place) + hopes_from offer (c.args.place + 1) earlier =
     hopes_allowed offer c.args.place earlier c.requires.place on in
     omega arith

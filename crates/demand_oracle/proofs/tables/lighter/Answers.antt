@@ -6,14 +6,14 @@ use Rattle.demand_oracle.proofs.Hoping.{allowed_read}
 use Rattle.demand_oracle.proofs.tables.lighter.Goals as goal
 
 pub returns-then-not-has-clause-lightest : goal.returns-then-not-has-clause-lightest
-returns-then-not-has-clause-lightest c prices budget on =
+returns-then-not-has-clause-lightest c on =
     absurd
     (true≢false
-    (sym on ∙ allowed_read c.args.menu.now prices budget c.args.allowed.now c.args.place c.rated-rated.result.now c.rated-rated.ensures.value
+    (sym on ∙ allowed_read c.args.offer.now.menu.now c.args.offer.now.prices.now c.args.offer.now.budget.0 c.args.offer.now.allowed.now c.args.place c.rated-rated.result.now c.rated-rated.ensures.value
     ∙ sym c.has.ensures ∙ c.if-not-has.true))
 
 pub returns-clause-lightest : goal.returns-clause-lightest
-returns-clause-lightest c prices budget on =
-    let is : credits_at c.args.menu.now.places c.args.place ≡ c.rated-rated.result.now.credits =
-    credits_at-is c.args.menu.now.places c.args.place c.rated-rated.result.now c.rated-rated.ensures.value in
+returns-clause-lightest c on =
+    let is : credits_at c.args.offer.now.menu.now.places c.args.place ≡ c.rated-rated.result.now.credits =
+    credits_at-is c.args.offer.now.menu.now.places c.args.place c.rated-rated.result.now c.rated-rated.ensures.value in
     omega arith

@@ -6,16 +6,16 @@ use Rattle.demand_oracle.proofs.tables.lightest.Goals as goal
 pub loop-place-preserved : goal.loop-place-preserved
 loop-place-preserved c = record {
   high = omega arith;
-  lightest = λ prices budget one low on. elim (cases_order one c.loop-place.place) [
+  lightest = λ one low on. elim (cases_order one c.loop-place.place) [
     | inl same ↦
-        subst (λ n. c.lighter-lightest.result ≤ credits_at c.args.menu.now.places n) (sym same)
-        (c.lighter-lightest.ensures.lightest prices budget (rw same at on))
+        subst (λ n. c.lighter-lightest.result ≤ credits_at c.args.offer.now.menu.now.places n) (sym same)
+        (c.lighter-lightest.ensures.lightest (rw same at on))
     | inr other ↦
-        let before : c.loop-place.lightest ≤ credits_at c.args.menu.now.places one =
-        c.loop-place.invariant.lightest prices budget one (elim other [ inl a ↦ omega arith | inr b ↦ absurd (omega arith) ]) on in
+        let before : c.loop-place.lightest ≤ credits_at c.args.offer.now.menu.now.places one =
+        c.loop-place.invariant.lightest one (elim other [ inl a ↦ omega arith | inr b ↦ absurd (omega arith) ]) on in
         omega arith
   ];
 }
 
 pub returns-clause-lightest : goal.returns-clause-lightest
-returns-clause-lightest c prices budget place low on = rw c.from.ensures (c.loop-place.invariant.lightest prices budget place (omega arith) on)
+returns-clause-lightest c place low on = rw c.from.ensures (c.loop-place.invariant.lightest place (omega arith) on)

@@ -1,13 +1,14 @@
 use Rattle.std.proofs.Common.{◌≡◌, ◌∙◌, sym, refl}
 use Rattle.bundle_rules.specs.Menus.{rating_at, credits_at}
 use Rattle.bundle_rules.specs.Existence.Places.{rating_at-is, credits_at-is}
-use Rattle.bundle_bounds.specs.Offers.{offer_of, price_at}
+use Rattle.bundle_bounds.specs.Views.{data_of}
+use Rattle.bundle_bounds.specs.Offers.{price_at}
 use Rattle.demand_oracle.proofs.tables.value_at.Goals as goal
 
 pub returns-clause-value : goal.returns-clause-value
-returns-clause-value c budget allowed is =
-    let menu = c.args.menu.now in
-    let offer = offer_of menu c.args.prices.now budget allowed in
+returns-clause-value c is =
+    let menu = c.args.offer.now.menu.now in
+    let offer = data_of c.args.offer.now in
     let rating : c.from.result ≡ rating_at menu.places c.args.place =
     c.from.ensures ∙ sym (rating_at-is menu.places c.args.place c.rated-rated.result.now c.rated-rated.ensures.value) in
     let credits : c.from-4.result ≡ credits_at menu.places c.args.place =

@@ -12,14 +12,18 @@ use Rattle.proof_tree.specs.Laws.{HasTree}
 use Rattle.proof_tree.proofs.Complete.{trees_prove_the_best_with}
 use Rattle.proof_tree.proofs.building.build_forced.Goals as goal
 
-pub written-requires-clause-required : goal.written-requires-clause-required
-written-requires-clause-required c =
+pub invariant_of-claim : goal.invariant_of-claim
+invariant_of-claim c =
     let offer = offer_of c.args.menu.now c.args.prices.now c.args.budget.0 c.args.allowed.now in
-    subst (λ p. p < length c.args.menu.now.places) (sym c.place-place.ensures.value)
-    (on_menu offer (sections_of c.args.champion.now) c.requires.best.choice c.args.section.0 c.requires.best.is_wanted)
+    record {
+      on_menu =
+          subst (λ p. p < length c.args.menu.now.places) (sym c.place-place.ensures.value)
+          (on_menu offer (sections_of c.args.champion.now) c.requires.best.choice c.args.section.0 c.requires.best.is_wanted);
+      takable = c.requires.best.choice;
+    }
 
-pub written-requires-clause-tree : goal.written-requires-clause-tree
-written-requires-clause-tree c =
+pub written-requires : goal.written-requires
+written-requires c =
     let offer = offer_of c.args.menu.now c.args.prices.now c.args.budget.0 c.args.allowed.now in
     let champion = sections_of c.args.champion.now in
     let low = on_menu offer (sections_of c.args.champion.now) c.requires.best.choice c.args.section.0 c.requires.best.is_wanted in

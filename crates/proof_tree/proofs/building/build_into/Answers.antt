@@ -12,6 +12,9 @@ use Rattle.proof_tree.proofs.building.build_into.Goals as goal
 next_above : (count more next : ℕ) → next ≡ count + more → count ≤ next
 next_above count more next is = omega arith
 
+pub invariant_of-claim : goal.invariant_of-claim
+invariant_of-claim c = record { on_menu = tt; takable = c.requires.best.choice }
+
 pub nodes-init : goal.nodes-init
 nodes-init c =
     let offer = offer_of c.args.menu.now c.args.prices.now c.args.budget.0 c.args.allowed.now in
@@ -50,7 +53,7 @@ nodes-preserved c =
     (spots_of c.args.menu.now (waiting_of c.step.new.self)))
     c.in-Signed.is c.step.ensures.step in
     let put = c.in_ok-count-in-Signed.ensures.some in
-    let symbol_is = c.as_slice.ensures ∙ c.spell-symbol.ensures.bytes in
+    let symbol_is = c.as_slice.ensures ∙ c.spell-symbol.ensures in
     let size : length c.put_at.new.room ≡ length c.nodes.room = c.put_at.ensures.size in
     let size' : length c.nodes.room ≡ length c.args.room.now = c.nodes.invariant.size in
     let within : c.in_ok-count-in-Signed.count ≤ length c.nodes.room = put.1 in
@@ -80,7 +83,7 @@ returns-in_err-count-in-Signed-clause-none c =
     c.in-Signed.is c.step.ensures.step in
     let full : length c.nodes.room < c.nodes.count + length c.as_slice.result.now = c.in_err-count-in-Signed.ensures.none in
     let size' : length c.nodes.room ≡ length c.args.room.now = c.nodes.invariant.size in
-    let symbol_is : length c.as_slice.result.now ≡ length (symbol c.in-Signed.sign) = ap length (c.as_slice.ensures ∙ c.spell-symbol.ensures.bytes) in
+    let symbol_is : length c.as_slice.result.now ≡ length (symbol c.in-Signed.sign) = ap length (c.as_slice.ensures ∙ c.spell-symbol.ensures) in
     let taken : length (take c.nodes.count c.nodes.room) ≡ c.nodes.count = length-take-le c.nodes.count c.nodes.room c.nodes.invariant.within in
     if_none_any c.from_residual.result _ (λ text is.
     let longer_text : length (take c.nodes.count c.nodes.room) + length (symbol c.in-Signed.sign) ≤ length text = longer offer None (sections_of c.args.champion.now) (take c.nodes.count c.nodes.room) (spots_of c.args.menu.now (waiting_of c.nodes.walk)) c.nodes.invariant.written c.in-Signed.sign (spots_of c.args.menu.now (waiting_of c.step.new.self)) step text is in omega arith)

@@ -1,6 +1,5 @@
 use Rattle.std.proofs.Common.{◌≡◌, ◌++◌, [], sym, subst, ap, ◌∙◌}
-use Rattle.bundle_rules.specs.Bundles.{sections_of}
-use Rattle.bundle_bounds.specs.Offers.{offer_of, places_of}
+use Rattle.proof_tree.specs.Claims.{offer_in, champion_in, champions_places}
 use Rattle.proof_tree.specs.Texts.{symbol}
 use Rattle.proof_tree.specs.Steps.{IsStep, spots_of, waiting_of}
 use Rattle.proof_tree.proofs.Writing.{IsWritten, nothing_written, written_more, written_whole, never_unsigned, fewer}
@@ -8,15 +7,15 @@ use Rattle.proof_tree.proofs.building.written.Goals as goal
 
 pub nodes-init : goal.nodes-init
 nodes-init c =
-    let offer = offer_of c.args.menu.now c.args.prices.now c.args.budget.0 c.args.allowed.now in
+    let offer = offer_in c.args.claim.now in
     record {
       waiting = c.start-walk.ensures.may_wait offer;
       stems = c.start-walk.ensures.stems;
       written =
-          subst (λ t. IsWritten offer c.args.required (sections_of c.args.champion.now) t (spots_of c.args.menu.now (waiting_of c.start-walk.result)))
+          subst (λ t. IsWritten offer c.args.claim.now.required (champion_in c.args.claim.now) t (spots_of (offer_in c.args.claim.now).menu (waiting_of c.start-walk.result)))
           (sym c.new-text.ensures.items)
-          (subst (IsWritten offer c.args.required (sections_of c.args.champion.now) []) (sym (c.start-walk.ensures.waiting c.args.menu.now))
-          (nothing_written offer c.args.required (sections_of c.args.champion.now) c.requires.tree));
+          (subst (IsWritten offer c.args.claim.now.required (champion_in c.args.claim.now) []) (sym (c.start-walk.ensures.waiting (offer_in c.args.claim.now).menu))
+          (nothing_written offer c.args.claim.now.required (champion_in c.args.claim.now) c.requires));
     }
 
 pub spell-symbol-requires : goal.spell-symbol-requires
@@ -24,53 +23,53 @@ spell-symbol-requires c = c.step.ensures.short c.in-Signed.sign c.in-Signed.is
 
 pub nodes-smaller : goal.nodes-smaller
 nodes-smaller c =
-    let offer = offer_of c.args.menu.now c.args.prices.now c.args.budget.0 c.args.allowed.now in
+    let offer = offer_in c.args.claim.now in
     let step =
     subst
-    (λ s. IsStep offer c.args.required (places_of c.args.menu.now (sections_of c.args.champion.now)) (spots_of c.args.menu.now (waiting_of c.nodes.walk))
-    s (spots_of c.args.menu.now (waiting_of c.step.new.self)))
+    (λ s. IsStep offer c.args.claim.now.required (champions_places c.args.claim.now) (spots_of (offer_in c.args.claim.now).menu (waiting_of c.nodes.walk))
+    s (spots_of (offer_in c.args.claim.now).menu (waiting_of c.step.new.self)))
     c.in-Signed.is c.step.ensures.step in
-    fewer offer c.args.required (places_of c.args.menu.now (sections_of c.args.champion.now)) (spots_of c.args.menu.now (waiting_of c.nodes.walk))
-    (spots_of c.args.menu.now (waiting_of c.step.new.self)) c.in-Signed.sign step
+    fewer offer c.args.claim.now.required (champions_places c.args.claim.now) (spots_of (offer_in c.args.claim.now).menu (waiting_of c.nodes.walk))
+    (spots_of (offer_in c.args.claim.now).menu (waiting_of c.step.new.self)) c.in-Signed.sign step
 
 pub nodes-preserved : goal.nodes-preserved
 nodes-preserved c =
-    let offer = offer_of c.args.menu.now c.args.prices.now c.args.budget.0 c.args.allowed.now in
+    let offer = offer_in c.args.claim.now in
     let step =
     subst
-    (λ s. IsStep offer c.args.required (places_of c.args.menu.now (sections_of c.args.champion.now)) (spots_of c.args.menu.now (waiting_of c.nodes.walk))
-    s (spots_of c.args.menu.now (waiting_of c.step.new.self)))
+    (λ s. IsStep offer c.args.claim.now.required (champions_places c.args.claim.now) (spots_of (offer_in c.args.claim.now).menu (waiting_of c.nodes.walk))
+    s (spots_of (offer_in c.args.claim.now).menu (waiting_of c.step.new.self)))
     c.in-Signed.is c.step.ensures.step in
     let more : c.put_behind.new.text.items ≡ c.nodes.text.items ++ symbol c.in-Signed.sign =
-    c.in_ok-put_behind-in-Signed.ensures ∙ ap (λ t. c.nodes.text.items ++ t) (c.as_slice.ensures ∙ c.spell-symbol.ensures.bytes) in
+    c.in_ok-put_behind-in-Signed.ensures ∙ ap (λ t. c.nodes.text.items ++ t) (c.as_slice.ensures ∙ c.spell-symbol.ensures) in
     record {
       waiting = c.step.ensures.waiting;
       stems = c.step.ensures.stems;
       written =
-          subst (λ t. IsWritten offer c.args.required (sections_of c.args.champion.now) t (spots_of c.args.menu.now (waiting_of c.step.new.self))) (sym more)
-          (written_more offer c.args.required (sections_of c.args.champion.now) c.nodes.text.items (spots_of c.args.menu.now (waiting_of c.nodes.walk))
-          c.nodes.invariant.written c.in-Signed.sign (spots_of c.args.menu.now (waiting_of c.step.new.self)) step);
+          subst (λ t. IsWritten offer c.args.claim.now.required (champion_in c.args.claim.now) t (spots_of (offer_in c.args.claim.now).menu (waiting_of c.step.new.self))) (sym more)
+          (written_more offer c.args.claim.now.required (champion_in c.args.claim.now) c.nodes.text.items (spots_of (offer_in c.args.claim.now).menu (waiting_of c.nodes.walk))
+          c.nodes.invariant.written c.in-Signed.sign (spots_of (offer_in c.args.claim.now).menu (waiting_of c.step.new.self)) step);
     }
 
 pub returns-in-Unsigned : goal.returns-in-Unsigned
 returns-in-Unsigned c =
-    let offer = offer_of c.args.menu.now c.args.prices.now c.args.budget.0 c.args.allowed.now in
+    let offer = offer_in c.args.claim.now in
     let step =
     subst
-    (λ s. IsStep offer c.args.required (places_of c.args.menu.now (sections_of c.args.champion.now)) (spots_of c.args.menu.now (waiting_of c.nodes.walk))
-    s (spots_of c.args.menu.now (waiting_of c.step.new.self)))
+    (λ s. IsStep offer c.args.claim.now.required (champions_places c.args.claim.now) (spots_of (offer_in c.args.claim.now).menu (waiting_of c.nodes.walk))
+    s (spots_of (offer_in c.args.claim.now).menu (waiting_of c.step.new.self)))
     c.in-Unsigned.is c.step.ensures.step in
     absurd
-    (never_unsigned offer c.args.required (sections_of c.args.champion.now) c.nodes.text.items (spots_of c.args.menu.now (waiting_of c.nodes.walk))
-    c.nodes.invariant.written (spots_of c.args.menu.now (waiting_of c.step.new.self)) step)
+    (never_unsigned offer c.args.claim.now.required (champion_in c.args.claim.now) c.nodes.text.items (spots_of (offer_in c.args.claim.now).menu (waiting_of c.nodes.walk))
+    c.nodes.invariant.written (spots_of (offer_in c.args.claim.now).menu (waiting_of c.step.new.self)) step)
 
 pub returns-in-Ended : goal.returns-in-Ended
 returns-in-Ended c =
-    let offer = offer_of c.args.menu.now c.args.prices.now c.args.budget.0 c.args.allowed.now in
+    let offer = offer_in c.args.claim.now in
     let step =
     subst
-    (λ s. IsStep offer c.args.required (places_of c.args.menu.now (sections_of c.args.champion.now)) (spots_of c.args.menu.now (waiting_of c.nodes.walk))
-    s (spots_of c.args.menu.now (waiting_of c.step.new.self)))
+    (λ s. IsStep offer c.args.claim.now.required (champions_places c.args.claim.now) (spots_of (offer_in c.args.claim.now).menu (waiting_of c.nodes.walk))
+    s (spots_of (offer_in c.args.claim.now).menu (waiting_of c.step.new.self)))
     c.in-Ended.is c.step.ensures.step in
-    written_whole offer c.args.required (sections_of c.args.champion.now) c.nodes.text.items (spots_of c.args.menu.now (waiting_of c.nodes.walk))
+    written_whole offer c.args.claim.now.required (champion_in c.args.claim.now) c.nodes.text.items (spots_of (offer_in c.args.claim.now).menu (waiting_of c.nodes.walk))
     c.nodes.invariant.written step

@@ -16,11 +16,15 @@ use Rattle.proof_tree.proofs.Complete.{trees_prove_the_best_with}
 use Rattle.proof_tree.proofs.NoDefects.{no_failure_in_a_tree}
 use Rattle.proof_tree.proofs.checking.check_forced.Goals as goal
 
-pub follow-requires-clause-required : goal.follow-requires-clause-required
-follow-requires-clause-required c =
+pub invariant_of-claim : goal.invariant_of-claim
+invariant_of-claim c =
     let offer = offer_of c.args.menu.now c.args.prices.now c.args.budget.0 c.args.allowed.now in
-    subst (λ p. p < length c.args.menu.now.places) (sym c.place-place.ensures.value)
-    (on_menu offer (sections_of c.args.champion.now) c.requires.champion c.args.section.0 c.requires.section)
+    record {
+      on_menu =
+          subst (λ p. p < length c.args.menu.now.places) (sym c.place-place.ensures.value)
+          (on_menu offer (sections_of c.args.champion.now) c.requires.champion c.args.section.0 c.requires.section);
+      takable = c.requires.champion;
+    }
 
 pub returns-in-Ok-clause-ok : goal.returns-in-Ok-clause-ok
 returns-in-Ok-clause-ok c =

@@ -6,6 +6,9 @@ use Rattle.proof_tree.proofs.NoDefects.{no_defect_in_a_tree}
 use Rattle.proof_tree.proofs.Following.{ok_iff, if_err}
 use Rattle.proof_tree.proofs.checking.check_tree.Goals as goal
 
+pub invariant_of-claim : goal.invariant_of-claim
+invariant_of-claim c = record { on_menu = tt; takable = c.requires.champion }
+
 pub returns-clause-ok : goal.returns-clause-ok
 returns-clause-ok c =
     let offer = offer_of c.args.menu.now c.args.prices.now c.args.budget.0 c.args.allowed.now in

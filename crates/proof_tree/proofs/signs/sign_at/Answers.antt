@@ -1,17 +1,17 @@
 use Rattle.std.proofs.Common.{arith}
 use Rattle.bundle_rules.specs.Bundles.{sections_of}
-use Rattle.bundle_bounds.specs.Offers.{offer_of}
+use Rattle.proof_tree.specs.Claims.{offer_in, champion_in}
 use Rattle.proof_tree.proofs.Settling.{not_settled}
 use Rattle.proof_tree.proofs.signs.sign_at.Goals as goal
 
-pub returns-then-node-len-clause-none : goal.returns-then-node-len-clause-none
-returns-then-node-len-clause-none c =
-    let offer = offer_of c.args.menu.now c.args.prices.now c.args.budget.0 c.args.allowed.now in
+pub returns-then-visit-len-clause-none : goal.returns-then-visit-len-clause-none
+returns-then-visit-len-clause-none c =
+    let visit = c.args.visit.now in
+    let claim = visit.claim in
     record {
       unsettled =
-          not_settled offer c.is_end.ensures.menu c.args.required c.args.node.now.place (sections_of c.args.node.now.chosen) (sections_of c.args.champion.now)
-          c.requires.node.takable c.requires.champion c.is_end.result c.is_shut.result c.is_end.ensures.end c.if-is_end.false c.is_shut.ensures
-          c.if-is_shut.false;
+          not_settled (offer_in claim) c.is_end.ensures.menu claim.required visit.node.place (sections_of visit.node.chosen) (champion_in claim)
+          visit.is_node.takable claim.takable c.is_end.result c.is_shut.result c.is_end.ensures.end c.if-is_end.false c.is_shut.ensures c.if-is_shut.false;
       none_prunes = c.in_default.ensures.none;
-      all = omega arith;
+      all = (let within = visit.within in omega arith);
     }

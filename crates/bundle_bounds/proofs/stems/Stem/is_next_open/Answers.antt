@@ -1,7 +1,8 @@
 use Rattle.std.proofs.Common.{◌-◌, length, take, drop, get_or, sym, ◌∙◌}
 use Rattle.bundle_rules.specs.Bundles.{sections_of}
 use Rattle.bundle_rules.proofs.Firsts.{first_rest}
-use Rattle.bundle_bounds.specs.Offers.{offer_of, places_of}
+use Rattle.bundle_bounds.specs.Offers.{places_of}
+use Rattle.bundle_bounds.specs.Views.{data_of}
 use Rattle.bundle_bounds.proofs.BelowLimit.{rest_of_room}
 use Rattle.bundle_bounds.proofs.Steps.{no_prospect}
 use Rattle.bundle_bounds.proofs.Stemming.{next_first}
@@ -9,8 +10,8 @@ use Rattle.bundle_bounds.proofs.stems.Stem.is_next_open.Goals as goal
 
 pub returns-in-len1-up : goal.returns-in-len1-up
 returns-in-len1-up c =
-    let offer = offer_of c.args.menu.now c.args.prices.now c.args.budget.0 c.args.allowed.now in
-    let cs = places_of c.args.menu.now (sections_of c.args.node.now.chosen) in
+    let offer = data_of c.args.offer.now in
+    let cs = places_of c.args.offer.now.menu.now (sections_of c.args.node.now.chosen) in
     let k = c.args.node.now.place in
     let kept = c.requires.stem.keeps in
     let open_ones = take (60 - c.args.self.now.start) (drop c.args.self.now.start c.args.self.now.room) in

@@ -4,16 +4,20 @@ use Rattle.std.proofs.lemmas.Int.{ints}
 use Rattle.bundle_bounds.specs.Courses.{by_course}
 use Rattle.bundle_bounds.specs.Modest.{IsModest}
 use Rattle.bundle_bounds.specs.Tangents.{AreTangents}
-use Rattle.bundle_bounds.proofs.BelowLimit.{rest_of_room}
+use Rattle.bundle_bounds.proofs.BelowLimit.{few_of_room, rest_of_room}
 use Rattle.bundle_bounds.proofs.StemSteps.{stem_shut, stem_open, lent_some, next_limit}
 use Rattle.bundle_bounds.proofs.stems.Stem.pass.Goals as goal
 
 pub leave-plain-requires-clause-some : goal.leave-plain-requires-clause-some
 leave-plain-requires-clause-some c = lent_some _ _ _ _ _ c.requires.stem c.requires.left (sym c.is_next_open.ensures ∙ c.if-not-is_next_open.false)
 
-pub leave-plain-requires-clause-modest : goal.leave-plain-requires-clause-modest
-leave-plain-requires-clause-modest c =
-    subst (All IsModest) (sym (rest_of_room c.args.self.now.room c.args.self.now.start c.requires.stem.keeps.whole)) c.requires.stem.keeps.modest
+pub invariant_of-all : goal.invariant_of-all
+invariant_of-all c =
+    let whole = c.requires.stem.keeps.whole in
+    record {
+      modest = subst (All IsModest) (sym (rest_of_room c.args.self.now.room c.args.self.now.start whole)) c.requires.stem.keeps.modest;
+      few = few_of_room c.args.self.now.room c.args.self.now.start whole;
+    }
 
 pub leave-plain-requires-clause-plain : goal.leave-plain-requires-clause-plain
 leave-plain-requires-clause-plain c =

@@ -7,7 +7,7 @@ use Rattle.bundle_bounds.specs.Limits.{IsFirstBelow}
 use Rattle.bundle_bounds.specs.Modest.{IsModest}
 use Rattle.bundle_bounds.specs.Stems.{IsQuiet}
 use Rattle.bundle_bounds.specs.Tangents.{AreTangents}
-use Rattle.bundle_bounds.proofs.BelowLimit.{rest_of_room}
+use Rattle.bundle_bounds.proofs.BelowLimit.{few_of_room, rest_of_room}
 use Rattle.bundle_bounds.proofs.StemSteps.{stem_first, stem_none, stem_asked, none_at, none_told}
 use Rattle.bundle_bounds.proofs.stems.Stem.pruning.Goals as goal
 
@@ -17,16 +17,19 @@ returns-then-self-clause-none c =
 
 pub returns-then-is_plain_below-clause-first : goal.returns-then-is_plain_below-clause-first
 returns-then-is_plain_below-clause-first c =
-    let from_utility = c.from-base.ensures in
-    let b : to_z w64 (of_z w64 (pos 1000 *ℤ to_z w64 (of_z w64 c.from-base.result))) ≡ pos 1000 *ℤ c.args.self.now.utility =
-    omega (arith, ints, from_utility) in
+    let told = c.of-base.ensures in
+    let b : c.of-base.result.number ≡ pos 1000 *ℤ c.args.self.now.utility = omega (arith, ints, told) in
     let l : to_z w64 (of_z w64 c.args.self.now.limit) ≡ c.args.self.now.limit = omega (arith, ints) in
     let below = rw (b, l, c.requires.stem.keeps.plain_is) at (c.is_plain_below.ensures.0 c.if-is_plain_below.true) in
     stem_first _ _ _ _ _ c.requires.stem c.len.ensures.menu c.requires.node c.requires.champion (Some Plain) (inl (below, refl))
 
-pub first_with-leaf-requires-clause-modest : goal.first_with-leaf-requires-clause-modest
-first_with-leaf-requires-clause-modest c =
-    subst (All IsModest) (sym (rest_of_room c.args.self.now.room c.args.self.now.start c.requires.stem.keeps.whole)) c.requires.stem.keeps.modest
+pub invariant_of-all : goal.invariant_of-all
+invariant_of-all c =
+    let whole = c.requires.stem.keeps.whole in
+    record {
+      modest = subst (All IsModest) (sym (rest_of_room c.args.self.now.room c.args.self.now.start whole)) c.requires.stem.keeps.modest;
+      few = few_of_room c.args.self.now.room c.args.self.now.start whole;
+    }
 
 pub returns : goal.returns
 returns c =
@@ -35,9 +38,8 @@ returns c =
     let rests = c.args.self.now.rests in
     let leaf = c.first_with-leaf.result in
     let room = rest_of_room c.args.self.now.room c.args.self.now.start is.keeps.whole in
-    let from_utility = c.from-base.ensures in
-    let b : to_z w64 (of_z w64 (pos 1000 *ℤ to_z w64 (of_z w64 c.from-base.result))) ≡ pos 1000 *ℤ c.args.self.now.utility =
-    omega (arith, ints, from_utility) in
+    let told = c.of-base.ensures in
+    let b : c.of-base.result.number ≡ pos 1000 *ℤ c.args.self.now.utility = omega (arith, ints, told) in
     let l : to_z w64 (of_z w64 c.args.self.now.limit) ≡ c.args.self.now.limit = omega (arith, ints) in
     let none : IfNone leaf (IsQuiet c.args.self.now.limit c.args.self.now.utility rests (drop c.args.self.now.start c.args.self.now.room)) =
     none_at leaf _ _ _ _ _ _ _ _ _ l b room c.first_with-leaf.ensures.none in

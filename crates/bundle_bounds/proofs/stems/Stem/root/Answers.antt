@@ -1,4 +1,4 @@
-use Rattle.std.proofs.Common.{◌≡◌, ◌≤◌, ◌*◌, ◌+◌, ◌-◌, take, drop, refl, sym, ap, ◌∙◌, arith, to_z, of_z, w32, w64}
+use Rattle.std.proofs.Common.{◌≡◌, ◌≤◌, ◌*◌, ◌+◌, ◌-◌, take, drop, refl, sym, ap, ◌∙◌, arith, to_z, of_z, w32, w64, rules, length}
 use Rattle.std.specs.Prelude.{pos, ◌*ℤ◌}
 use Rattle.std.proofs.lemmas.Int.{ints}
 use Rattle.std.proofs.lemmas.Bool.{false≢true}
@@ -16,10 +16,9 @@ returns c =
     let from_most = c.from.ensures in
     let least : to_z w64 (of_z w64 (pos 1000 *ℤ to_z w64 (of_z w64 c.from.result))) ≡ pos 1000 *ℤ to_z w32 (of_z w32 c.utility-most.result) =
     omega (arith, ints, from_most) in
-    let budget = c.rests_of-rests.ensures.budget c.args.allowed.now in
-    let credits = c.rests_of-rests.ensures.credits c.args.allowed.now in
-    let courses = c.rests_of-rests.ensures.courses c.args.allowed.now in
-    let room = rest_of_room c.collect-start.new.room c.collect-start.result c.collect-start.auto.room in
+    let are = c.rests_of-rests.ensures in
+    let whole : length c.collect-start.new.room ≡ 60 = search rules in
+    let room = rest_of_room c.collect-start.new.room c.collect-start.result whole in
     let high : c.at_price-plain.result ≤ 20000000 * 0 + 20000000 * 60 = c.at_price-plain.ensures.high in
     record {
       has_chosen = record {
@@ -31,16 +30,16 @@ returns c =
         utility_is = refl;
         low = omega (arith, ints);
         high = omega (arith, ints);
-        budget_is = budget;
-        credits_is = credits;
-        courses_is = courses;
+        budget_is = are.budget_is;
+        credits_is = are.credits_is;
+        courses_is = are.courses_is;
       };
       limit_is =
-          least ∙ ap (limit_of (to_z w32 (of_z w32 c.utility-most.result))) (sym (not_ahead (places_of c.args.menu.now (sections_of c.args.champion.now))));
+          least ∙ ap (limit_of (to_z w32 (of_z w32 c.utility-most.result))) (sym (not_ahead (places_of c.args.offer.now.menu.now (sections_of c.args.champion.now))));
       keeps = record {
-        whole = c.collect-start.auto.room;
+        whole = whole;
         within = c.collect-start.ensures.within;
-        kept_is = c.collect-start.ensures.value c.args.budget.0 budget credits courses;
+        kept_is = c.collect-start.ensures.value;
         modest = c.collect-start.ensures.modest;
         on_menu = c.collect-start.ensures.on_menu;
         plain_is =

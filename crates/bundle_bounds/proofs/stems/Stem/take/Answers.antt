@@ -10,13 +10,14 @@ use Rattle.bundle_bounds.specs.declared.prospects.Prospect.{Prospect}
 use Rattle.bundle_bounds.specs.Ahead.{limit_of}
 use Rattle.bundle_bounds.specs.Courses.{by_course}
 use Rattle.bundle_bounds.specs.Modest.{IsModest}
-use Rattle.bundle_bounds.specs.Offers.{offer_of, places_of, price_at}
+use Rattle.bundle_bounds.specs.Offers.{places_of, price_at}
 use Rattle.bundle_bounds.specs.Opens.{open_places, prospect}
-use Rattle.bundle_bounds.proofs.BelowLimit.{rest_of_room}
+use Rattle.bundle_bounds.specs.Views.{data_of}
+use Rattle.bundle_bounds.proofs.BelowLimit.{few_of_room, rest_of_room}
 use Rattle.bundle_bounds.proofs.Steps.{no_prospect}
 use Rattle.bundle_bounds.proofs.StayingOpen.{opens_all}
 use Rattle.bundle_bounds.proofs.StemSteps.{kept_first, kept_some, kept_later, first_here, no_tangents, plain_sum_is, tail_all}
-use Rattle.bundle_bounds.proofs.StemTaken.{before_on_menu, next_on_menu, chosen_next, chosen_taken, kept_taken, places_next, rests_taken}
+use Rattle.bundle_bounds.proofs.StemTaken.{before_on_menu, few_next, next_on_menu, chosen_next, chosen_taken, kept_taken, places_next, rests_taken}
 use Rattle.bundle_bounds.proofs.stems.Stem.take.Goals as goal
 
 pub adjustments_with-requires-clause-on_menu : goal.adjustments_with-requires-clause-on_menu
@@ -32,26 +33,52 @@ slice_bounds-later-count c = let some : c.args.self.now.start < 60 = kept_some _
 pub slice_bounds-later-start : goal.slice_bounds-later-start
 slice_bounds-later-start c = let some : c.args.self.now.start < 60 = kept_some _ _ _ _ _ c.requires.stem c.requires.left c.requires.open in omega arith
 
-pub sift-start-requires-clause-on_menu : goal.sift-start-requires-clause-on_menu
-sift-start-requires-clause-on_menu c =
-    next_on_menu _ c.len.ensures.menu c.args.node.now.place c.requires.left _ _ _ _ _ _ _ _ c.requires.stem.has_chosen c.requires.node c.requires.open
+pub invariant_of-chosen : goal.invariant_of-chosen
+invariant_of-chosen c =
+    let offer = data_of c.args.offer.now in
+    let champion = sections_of c.args.champion.now in
+    let chosen = sections_of c.args.node.now.chosen in
+    let k = c.args.node.now.place in
+    let stem = c.args.self.now in
+    let is = c.requires.stem in
+    let first_is : get_or c.args.self.now.room c.args.self.now.start no_prospect
+    ≡ prospect offer (places_of c.args.offer.now.menu.now chosen) k (open_places offer (k + 1) (places_of c.args.offer.now.menu.now chosen)) =
+    first_here c.args.self.now.room c.args.self.now.start _ _ (kept_first offer champion k chosen stem is c.requires.left c.requires.open) in
+    let price_is : (get_or c.args.self.now.room c.args.self.now.start no_prospect).price ≡ price_at offer k = ap (λ p. p.price) first_is in
+    let credits_is : (get_or c.args.self.now.room c.args.self.now.start no_prospect).credits ≡ credits_at c.args.offer.now.menu.now.places k =
+    ap (λ p. p.credits) first_is in
+    record {
+      on_menu = next_on_menu _ c.len.ensures.menu c.args.node.now.place c.requires.left _ _ _ _ _ _ _ _ c.requires.stem.has_chosen c.requires.node c.requires.open;
+      few = few_next _ c.len.ensures.menu c.args.node.now.place c.requires.left _ _ _ _ _ _ _ _ c.requires.stem.has_chosen;
+      rests_are =
+          rests_taken offer c.len.ensures.menu k c.requires.left champion chosen stem.champion stem.most stem.chosen stem.count stem.utility stem.rests
+          is.has_chosen c.requires.open c.rests_after-rests.result (get_or stem.room stem.start no_prospect).price
+          (get_or stem.room stem.start no_prospect).credits price_is credits_is c.rests_after-rests.ensures.budget c.rests_after-rests.ensures.credits
+          c.rests_after-rests.ensures.courses;
+    }
 
-pub sift-start-requires-clause-modest : goal.sift-start-requires-clause-modest
-sift-start-requires-clause-modest c =
-    subst (All IsModest) (sym (rest_of_room c.args.self.now.room (c.args.self.now.start + 1) c.requires.stem.keeps.whole))
-    (tail_all IsModest c.args.self.now.room c.args.self.now.start c.requires.stem.keeps.modest)
+pub invariant_of-later : goal.invariant_of-later
+invariant_of-later c =
+    record {
+      modest =
+          subst (All IsModest) (sym (rest_of_room c.args.self.now.room (c.args.self.now.start + 1) c.requires.stem.keeps.whole))
+          (tail_all IsModest c.args.self.now.room c.args.self.now.start c.requires.stem.keeps.modest);
+      few = few_of_room c.args.self.now.room (c.args.self.now.start + 1) c.requires.stem.keeps.whole;
+    }
 
 pub sift-start-requires-clause-all_on_menu : goal.sift-start-requires-clause-all_on_menu
 sift-start-requires-clause-all_on_menu c =
-    subst (All (λ (p : Prospect). p.place < length c.args.menu.now.places))
+    subst (All (λ (p : Prospect). p.place < length c.args.offer.now.menu.now.places))
     (sym (rest_of_room c.args.self.now.room (c.args.self.now.start + 1) c.requires.stem.keeps.whole))
-    (tail_all (λ (p : Prospect). p.place < length c.args.menu.now.places) c.args.self.now.room c.args.self.now.start c.requires.stem.keeps.on_menu)
+    (tail_all (λ (p : Prospect). p.place < length c.args.offer.now.menu.now.places) c.args.self.now.room c.args.self.now.start c.requires.stem.keeps.on_menu)
 
-pub at_price-plain-requires-clause-modest : goal.at_price-plain-requires-clause-modest
-at_price-plain-requires-clause-modest c =
-    let old : length c.args.below.now.room ≡ 60 = search rules in
-    let size : length c.sift-start.new.room ≡ 60 = c.sift-start.auto.room ∙ old in
-    subst (All IsModest) (sym (rest_of_room c.sift-start.new.room c.sift-start.result size)) c.sift-start.ensures.modest
+pub invariant_of-all : goal.invariant_of-all
+invariant_of-all c =
+    let size : length c.sift-start.new.room ≡ 60 = search rules in
+    record {
+      modest = subst (All IsModest) (sym (rest_of_room c.sift-start.new.room c.sift-start.result size)) c.sift-start.ensures.modest;
+      few = few_of_room c.sift-start.new.room c.sift-start.result size;
+    }
 
 pub overflow_add-below-2 : goal.overflow_add-below-2
 overflow_add-below-2 c =
@@ -62,19 +89,18 @@ overflow_add-below-2 c =
 
 pub returns : goal.returns
 returns c =
-    let offer = offer_of c.args.menu.now c.args.prices.now c.args.budget.0 c.args.allowed.now in
+    let offer = data_of c.args.offer.now in
     let champion = sections_of c.args.champion.now in
     let chosen = sections_of c.args.node.now.chosen in
     let k = c.args.node.now.place in
     let stem = c.args.self.now in
     let is = c.requires.stem in
-    let old : length c.args.below.now.room ≡ 60 = search rules in
-    let size : length c.sift-start.new.room ≡ 60 = c.sift-start.auto.room ∙ old in
+    let size : length c.sift-start.new.room ≡ 60 = search rules in
     let first_is : get_or c.args.self.now.room c.args.self.now.start no_prospect
-    ≡ prospect offer (places_of c.args.menu.now chosen) k (open_places offer (k + 1) (places_of c.args.menu.now chosen)) =
+    ≡ prospect offer (places_of c.args.offer.now.menu.now chosen) k (open_places offer (k + 1) (places_of c.args.offer.now.menu.now chosen)) =
     first_here c.args.self.now.room c.args.self.now.start _ _ (kept_first offer champion k chosen stem is c.requires.left c.requires.open) in
     let price_is : (get_or c.args.self.now.room c.args.self.now.start no_prospect).price ≡ price_at offer k = ap (λ p. p.price) first_is in
-    let credits_is : (get_or c.args.self.now.room c.args.self.now.start no_prospect).credits ≡ credits_at c.args.menu.now.places k =
+    let credits_is : (get_or c.args.self.now.room c.args.self.now.start no_prospect).credits ≡ credits_at c.args.offer.now.menu.now.places k =
     ap (λ p. p.credits) first_is in
     let m : to_z w32 (of_z w32 c.args.self.now.most) ≡ c.args.self.now.most = omega (arith, ints) in
     let l : to_z w64 (of_z w64 c.limit_after-limit.result) ≡ c.limit_after-limit.result = omega (arith, ints) in
@@ -84,12 +110,7 @@ returns c =
     let places =
     places_next offer c.len.ensures.menu k c.requires.left champion chosen c.args.self.now.champion c.args.self.now.most c.args.self.now.chosen
     c.args.self.now.count c.args.self.now.utility c.args.self.now.rests is.has_chosen in
-    let champions = c.as_slice.ensures.value ∙ is.has_chosen.champion_is in
-    let rests =
-    rests_taken offer c.len.ensures.menu k c.requires.left champion chosen c.args.self.now.champion c.args.self.now.most c.args.self.now.chosen
-    c.args.self.now.count c.args.self.now.utility c.args.self.now.rests is.has_chosen c.requires.open c.rests_after-rests.result
-    (get_or c.args.self.now.room c.args.self.now.start no_prospect).price (get_or c.args.self.now.room c.args.self.now.start no_prospect).credits price_is
-    credits_is c.rests_after-rests.ensures.budget c.rests_after-rests.ensures.credits c.rests_after-rests.ensures.courses in
+    let champions = c.as_slice-champions.ensures.value ∙ is.has_chosen.champion_is in
     let size_before : length (take c.args.self.now.count c.args.self.now.chosen) ≡ min c.args.self.now.count (length c.args.self.now.chosen) =
     length-take c.args.self.now.count c.args.self.now.chosen in
     let few = is.has_chosen.few in
@@ -118,7 +139,7 @@ returns c =
           ∙ (λ i. limit_of (to_z w32 (of_z w32 c.args.self.now.most)) (is_ahead (c.args.node.now.place + 1) (champions i) (next i)))
           ∙ ap
           (λ cs. limit_of (to_z w32 (of_z w32 c.args.self.now.most))
-          (is_ahead (c.args.node.now.place + 1) (places_of c.args.menu.now (sections_of c.args.champion.now)) cs))
+          (is_ahead (c.args.node.now.place + 1) (places_of c.args.offer.now.menu.now (sections_of c.args.champion.now)) cs))
           (sym places);
       keeps = record {
         whole = size;
@@ -126,8 +147,8 @@ returns c =
         kept_is =
             kept_taken offer c.len.ensures.menu k c.requires.left champion chosen c.args.self.now.champion c.args.self.now.most c.args.self.now.chosen
             c.args.self.now.count c.args.self.now.utility c.args.self.now.rests is.has_chosen c.requires.open (drop c.sift-start.result c.sift-start.new.room)
-            (c.sift-start.ensures.value c.args.prices.now c.args.budget.0 c.args.allowed.now (places_of c.args.menu.now chosen) (open_places offer (k + 1) (places_of c.args.menu.now chosen)) next rests.0 rests.1 rests.2
-            (opens_all offer (places_of c.args.menu.now chosen) (k + 1) (length c.args.menu.now.places - (k + 1)))
+            (c.sift-start.ensures.value (places_of c.args.offer.now.menu.now chosen) (open_places offer (k + 1) (places_of c.args.offer.now.menu.now chosen)) next
+            (opens_all offer (places_of c.args.offer.now.menu.now chosen) (k + 1) (length c.args.offer.now.menu.now.places - (k + 1)))
             (rest_of_room c.args.self.now.room (c.args.self.now.start + 1) c.requires.stem.keeps.whole ∙ kept_later offer champion k chosen stem is c.requires.left c.requires.open));
         modest = c.sift-start.ensures.modest;
         on_menu = c.sift-start.ensures.on_menu;

@@ -4,7 +4,8 @@ use Rattle.bundle_rules.specs.Demand.{price_in}
 use Rattle.bundle_rules.specs.Menus.{credits_at}
 use Rattle.bundle_rules.specs.Existence.Places.{credits_at-is}
 use Rattle.bundle_rules.proofs.Feasibility.{places_of_rated}
-use Rattle.bundle_bounds.specs.Offers.{offer_of, price_at}
+use Rattle.bundle_bounds.specs.Views.{data_of}
+use Rattle.bundle_bounds.specs.Offers.{price_at}
 use Rattle.bundle_bounds.specs.Opens.{is_apart}
 use Rattle.demand_oracle.specs.SummedNodes.{chosen_of}
 use Rattle.demand_oracle.proofs.Hoping.{allowed_read}
@@ -15,12 +16,12 @@ pub returns-then-not-has-clause-takable : goal.returns-then-not-has-clause-takab
 returns-then-not-has-clause-takable c = (
   λ is. absurd (false≢true is),
   λ takable.
-      let menu = c.args.menu.now in
+      let menu = c.args.offer.now.menu.now in
       let at =
-      open_at_where_takable (offer_of menu c.args.prices.now c.args.budget.0 c.args.allowed.now) c.len.ensures.menu c.args.self.now c.requires.summed _
+      open_at_where_takable (data_of c.args.offer.now) c.len.ensures.menu c.args.self.now c.requires.summed _
       c.requires.node c.args.place c.requires.undecided c.requires.on_menu takable in
       sym
-      (allowed_read menu c.args.prices.now c.args.budget.0 c.args.allowed.now c.args.place c.rated-rated.result.now c.rated-rated.ensures.value
+      (allowed_read menu c.args.offer.now.prices.now c.args.offer.now.budget.0 c.args.offer.now.allowed.now c.args.place c.rated-rated.result.now c.rated-rated.ensures.value
       ∙ sym c.has.ensures ∙ c.if-not-has.true)
       ∙ at.allowed,
 )
@@ -29,11 +30,11 @@ pub returns-then-price_of_place-budget_left-clause-takable : goal.returns-then-p
 returns-then-price_of_place-budget_left-clause-takable c = (
   λ is. absurd (false≢true is),
   λ takable.
-      let offer = offer_of c.args.menu.now c.args.prices.now c.args.budget.0 c.args.allowed.now in
+      let offer = data_of c.args.offer.now in
       let at =
       open_at_where_takable offer c.len.ensures.menu c.args.self.now c.requires.summed _ c.requires.node c.args.place c.requires.undecided c.requires.on_menu
       takable in
-      let price : price_at offer c.args.place ≤ c.args.budget.0 - c.args.self.now.paid = at.price in
+      let price : price_at offer c.args.place ≤ c.args.offer.now.budget.0 - c.args.self.now.paid = at.price in
       let read : c.price_of_place.result ≡ price_at offer c.args.place = c.price_of_place.ensures.value in absurd (omega arith),
 )
 
@@ -41,10 +42,10 @@ pub returns-then-from-credits_left-clause-takable : goal.returns-then-from-credi
 returns-then-from-credits_left-clause-takable c = (
   λ is. absurd (false≢true is),
   λ takable.
-      let menu = c.args.menu.now in
+      let menu = c.args.offer.now.menu.now in
       let k = c.args.place in
       let at =
-      open_at_where_takable (offer_of menu c.args.prices.now c.args.budget.0 c.args.allowed.now) c.len.ensures.menu c.args.self.now c.requires.summed _
+      open_at_where_takable (data_of c.args.offer.now) c.len.ensures.menu c.args.self.now c.requires.summed _
       c.requires.node c.args.place c.requires.undecided c.requires.on_menu takable in
       let credits : credits_at menu.places k ≤ menu.credits - c.args.self.now.credits = at.credits in
       let read : credits_at menu.places k ≡ c.rated-rated.result.now.credits =
@@ -56,31 +57,31 @@ pub returns-then-courses_left-eq0-clause-takable : goal.returns-then-courses_lef
 returns-then-courses_left-eq0-clause-takable c = (
   λ is. absurd (false≢true is),
   λ takable.
-      let menu = c.args.menu.now in
+      let menu = c.args.offer.now.menu.now in
       let at =
-      open_at_where_takable (offer_of menu c.args.prices.now c.args.budget.0 c.args.allowed.now) c.len.ensures.menu c.args.self.now c.requires.summed _
+      open_at_where_takable (data_of c.args.offer.now) c.len.ensures.menu c.args.self.now c.requires.summed _
       c.requires.node c.args.place c.requires.undecided c.requires.on_menu takable in
       let courses : 1 ≤ menu.courses - length (chosen_of c.args.self.now) = at.courses in absurd (omega arith),
 )
 
 pub is_apart-requires-clause-on_menu : goal.is_apart-requires-clause-on_menu
 is_apart-requires-clause-on_menu c =
-    rw (c.places.ensures.value c.args.menu.now (price_in c.args.prices.now) c.requires.summed)
-    (places_of_rated c.args.menu.now (chosen_of c.args.self.now) c.requires.summed.rated)
+    rw (c.places.ensures.value c.args.offer.now.menu.now (price_in c.args.offer.now.prices.now) c.requires.summed)
+    (places_of_rated c.args.offer.now.menu.now (chosen_of c.args.self.now) c.requires.summed.rated)
 
 pub returns-clause-takable : goal.returns-clause-takable
 returns-clause-takable c =
-    let menu = c.args.menu.now in
+    let menu = c.args.offer.now.menu.now in
     let k = c.args.place in
-    let offer = offer_of menu c.args.prices.now c.args.budget.0 c.args.allowed.now in
-    let places = c.places.ensures.value menu (price_in c.args.prices.now) c.requires.summed in
+    let offer = data_of c.args.offer.now in
+    let places = c.places.ensures.value menu (price_in c.args.offer.now.prices.now) c.requires.summed in
     let same = c.is_apart.ensures ∙ ap (λ l. is_apart offer l k) places in
     let credits : credits_at menu.places k ≡ c.rated-rated.result.now.credits =
     credits_at-is menu.places k c.rated-rated.result.now c.rated-rated.ensures.value in
     let price : c.price_of_place.result ≡ price_at offer k = c.price_of_place.ensures.value in (
       λ is. takable_where_open_at offer c.len.ensures.menu c.args.self.now c.requires.summed _ c.requires.node c.args.place c.requires.undecided c.requires.on_menu record {
         allowed =
-            allowed_read menu c.args.prices.now c.args.budget.0 c.args.allowed.now k c.rated-rated.result.now c.rated-rated.ensures.value ∙ sym c.has.ensures
+            allowed_read menu c.args.offer.now.prices.now c.args.offer.now.budget.0 c.args.offer.now.allowed.now k c.rated-rated.result.now c.rated-rated.ensures.value ∙ sym c.has.ensures
             ∙ c.if-not-has.false;
         price = omega arith;
         credits = omega arith;
@@ -94,5 +95,5 @@ returns-clause-takable c =
 
 pub returns-clause-room : goal.returns-clause-room
 returns-clause-room c is =
-    let cap : c.args.menu.now.courses ≤ 8 = c.len.ensures.menu.caps.courses_cap in
-    let left : c.courses_left.result ≡ c.args.menu.now.courses - length (chosen_of c.args.self.now) = c.courses_left.ensures.value in omega arith
+    let cap : c.args.offer.now.menu.now.courses ≤ 8 = c.len.ensures.menu.caps.courses_cap in
+    let left : c.courses_left.result ≡ c.args.offer.now.menu.now.courses - length (chosen_of c.args.self.now) = c.courses_left.ensures.value in omega arith

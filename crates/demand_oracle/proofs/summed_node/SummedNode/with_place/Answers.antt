@@ -10,12 +10,12 @@ use Rattle.demand_oracle.proofs.Growing.{ascending_next, places_next, paid_next,
 use Rattle.demand_oracle.proofs.summed_node.SummedNode.with_place.Goals as goal
 
 pub overflow_add-result : goal.overflow_add-result
-overflow_add-result c = let few : length c.args.menu.now.places ≤ 60 = c.len.ensures.menu.places.few in omega arith
+overflow_add-result c = let few : length c.args.offer.now.menu.now.places ≤ 60 = c.len.ensures.menu.places.few in omega arith
 
 pub with-requires-clause-above : goal.with-requires-clause-above
 with-requires-clause-above c =
-    rw (← section_at-is c.args.menu.now.places c.args.place c.rated-rated.result.now c.rated-rated.ensures.value)
-    (ascending_next c.args.menu.now c.len.ensures.menu (price_in c.args.prices.now) c.args.self.now c.requires.summed c.args.place
+    rw (← section_at-is c.args.offer.now.menu.now.places c.args.place c.rated-rated.result.now c.rated-rated.ensures.value)
+    (ascending_next c.args.offer.now.menu.now c.len.ensures.menu (price_in c.args.offer.now.prices.now) c.args.self.now c.requires.summed c.args.place
     c.requires.undecided c.requires.on_menu c.sections.ensures.bundle.ascending)
 
 pub overflow_add-result-2 : goal.overflow_add-result-2
@@ -26,9 +26,9 @@ overflow_add-result-3 c = let credits : c.args.self.now.credits ≤ 100 * length
 
 pub returns-clause-summed : goal.returns-clause-summed
 returns-clause-summed c =
-    let menu = c.args.menu.now in
+    let menu = c.args.offer.now.menu.now in
     let is = c.len.ensures.menu in
-    let price = price_in c.args.prices.now in
+    let price = price_in c.args.offer.now.prices.now in
     let summed = c.args.self.now in
     let chosen = chosen_of summed in
     let k : ℕ = c.args.place in
@@ -63,4 +63,4 @@ pub returns-clause-chosen : goal.returns-clause-chosen
 returns-clause-chosen c =
     c.with.ensures
     ∙ ap (λ s. chosen_of c.args.self.now ++ s ∷ [])
-    (sym (section_at-is c.args.menu.now.places c.args.place c.rated-rated.result.now c.rated-rated.ensures.value))
+    (sym (section_at-is c.args.offer.now.menu.now.places c.args.place c.rated-rated.result.now c.rated-rated.ensures.value))

@@ -1,10 +1,10 @@
 use Rattle.std.proofs.Common.{◌≡◌, ◌<◌, ◌≤◌, ◌+◌, ◌∷◌, ℕ, suc, length, refl, sym, subst, ap, ◌∙◌, arith}
 use Rattle.bundle_rules.specs.Bundles.{sections_of}
-use Rattle.bundle_bounds.specs.Offers.{offer_of, places_of}
-use Rattle.proof_tree.specs.Trees.{IsSign}
+use Rattle.proof_tree.specs.Claims.{offer_in, champion_in, champions_places}
+use Rattle.proof_tree.specs.Visits.{chosen_at, IsSignAt}
 use Rattle.proof_tree.specs.Steps.{MayWait, waiting_of, spots_of}
-use Rattle.proof_tree.proofs.Stepping.{room_for_two, open_where_forced, wait_with, wait_without, spot_with, spot_without}
 use Rattle.proof_tree.specs.Standing.{IsStemAt, AreStanding}
+use Rattle.proof_tree.proofs.Stepping.{room_for_two, open_where_forced, wait_with, wait_without, spot_with, spot_without}
 use Rattle.proof_tree.proofs.Stands.{stems_more, stem_same}
 use Rattle.proof_tree.proofs.walk.Walk.put_below.Goals as goal
 
@@ -19,66 +19,57 @@ low_suc n low = omega arith
 
 pub with_next-requires-clause-open : goal.with_next-requires-clause-open
 with_next-requires-clause-open c =
-    let o = c.requires.sign in
-    let offer = offer_of c.args.menu.now o.0 o.1 o.2 in
-    let k = c.args.node.now.place in
-    let cs = places_of c.args.menu.now (sections_of c.args.node.now.chosen) in
-    (o.0, o.1, o.2, o.5.2, open_where_forced offer o.3 o.4 k cs (subst (IsSign offer o.3 o.4 k cs) c.in-Forced.is o.6))
+    let visit = c.args.visit.now in
+    open_where_forced (offer_in visit.claim) visit.claim.required (champions_places visit.claim) visit.node.place (chosen_at visit)
+    (subst (IsSignAt visit) c.in-Forced.is c.requires.sign)
 
 pub with_next-requires-in-Open-clause-open : goal.with_next-requires-in-Open-clause-open
-with_next-requires-in-Open-clause-open c =
-    let o = c.requires.sign in
-    let offer = offer_of c.args.menu.now o.0 o.1 o.2 in
-    let k = c.args.node.now.place in
-    let cs = places_of c.args.menu.now (sections_of c.args.node.now.chosen) in
-    (o.0, o.1, o.2, o.5.2, (subst (IsSign offer o.3 o.4 k cs) c.in-Open.is o.6).2)
+with_next-requires-in-Open-clause-open c = (subst (IsSignAt c.args.visit.now) c.in-Open.is c.requires.sign).2
 
 pub put-requires-in-Open-2 : goal.put-requires-in-Open-2
 put-requires-in-Open-2 c =
     low_suc _
     (room_for_two c.put-in-Open.new.self.waiting (waiting_of c.args.self.now) c.put-in-Open.new.self.count _ _ c.put-in-Open.ensures.whole
-    c.put-in-Open.ensures.waiting c.requires.sign.5.0 c.with_next-in-Open.ensures.room)
+    c.put-in-Open.ensures.waiting c.requires.waits.0 c.with_next-in-Open.ensures.room)
 
 pub returns-in-Forced-clause-may_wait : goal.returns-in-Forced-clause-may_wait
-returns-in-Forced-clause-may_wait c = λ prices budget allowed required champion waits is.
-    let offer = offer_of c.args.menu.now prices budget allowed in
-    let k = c.args.node.now.place in
-    let cs = places_of c.args.menu.now (sections_of c.args.node.now.chosen) in
-    let sign = subst (IsSign offer required champion k cs) c.in-Forced.is is in
-    let few : length (waiting_of c.args.self.now) ≤ length (sections_of c.args.node.now.chosen) = waits.0 in
+returns-in-Forced-clause-may_wait c =
+    let visit = c.args.visit.now in
+    let offer = offer_in visit.claim in
+    let sign = subst (IsSignAt visit) c.in-Forced.is c.requires.sign in
+    let few : length (waiting_of c.args.self.now) ≤ length (sections_of c.args.visit.now.node.chosen) = c.requires.waits.0 in
     record {
       few = few_more c.args.self.now.count c.put.new.self.count c.requires.few c.put.ensures.count;
       nodes =
           subst (MayWait offer) (sym c.put.ensures.waiting)
-          (wait_with offer c.args.node.now (waiting_of c.args.self.now) waits sign.0.left c.with_next.ensures.menu c.with_next.result
-          (waiting_of c.args.self.now) c.with_next.ensures.place c.with_next.ensures.chosen (open_where_forced offer required champion k cs sign)
-          (omega arith) waits.3);
+          (wait_with offer visit.node (waiting_of c.args.self.now) c.requires.waits sign.0.left c.with_next.ensures.menu c.with_next.result
+          (waiting_of c.args.self.now) c.with_next.ensures.place c.with_next.ensures.chosen
+          (open_where_forced offer visit.claim.required (champions_places visit.claim) visit.node.place (chosen_at visit) sign)
+          (omega arith) c.requires.waits.3);
     }
 
 pub returns-in-Forced-clause-below : goal.returns-in-Forced-clause-below
 returns-in-Forced-clause-below c =
-    let o = c.requires.sign in
-    let offer = offer_of c.args.menu.now o.0 o.1 o.2 in
-    let k = c.args.node.now.place in
-    let cs = places_of c.args.menu.now (sections_of c.args.node.now.chosen) in
-    let sign = subst (IsSign offer o.3 o.4 k cs) c.in-Forced.is o.6 in
+    let visit = c.args.visit.now in
+    let offer = offer_in visit.claim in
+    let sign = subst (IsSignAt visit) c.in-Forced.is c.requires.sign in
     rw (c.in-Forced.is, c.put.ensures.waiting)
-    (ap (λ s. s ∷ spots_of c.args.menu.now (waiting_of c.args.self.now))
-    (spot_with offer c.args.node.now (waiting_of c.args.self.now) o.5 sign.0.left c.with_next.ensures.menu c.with_next.result c.with_next.ensures.place
-    c.with_next.ensures.chosen))
+    (ap (λ s. s ∷ spots_of offer.menu (waiting_of c.args.self.now))
+    (spot_with offer visit.node (waiting_of c.args.self.now) c.requires.waits sign.0.left c.with_next.ensures.menu c.with_next.result
+    c.with_next.ensures.place c.with_next.ensures.chosen))
 
 pub returns-in-Open-clause-may_wait : goal.returns-in-Open-clause-may_wait
-returns-in-Open-clause-may_wait c = λ prices budget allowed required champion waits is.
-    let offer = offer_of c.args.menu.now prices budget allowed in
-    let k = c.args.node.now.place in
-    let cs = places_of c.args.menu.now (sections_of c.args.node.now.chosen) in
+returns-in-Open-clause-may_wait c =
+    let visit = c.args.visit.now in
+    let offer = offer_in visit.claim in
     let under = waiting_of c.args.self.now in
-    let sign = subst (IsSign offer required champion k cs) c.in-Open.is is in
+    let sign = subst (IsSignAt visit) c.in-Open.is c.requires.sign in
     let others = c.without_next.result ∷ under in
-    let few : length (waiting_of c.args.self.now) ≤ length (sections_of c.args.node.now.chosen) = waits.0 in
-    let after = wait_without offer c.args.node.now under waits sign.0.left c.without_next.result c.without_next.ensures.place c.without_next.ensures.chosen in
+    let few : length (waiting_of c.args.self.now) ≤ length (sections_of c.args.visit.now.node.chosen) = c.requires.waits.0 in
+    let after =
+    wait_without offer visit.node under c.requires.waits sign.0.left c.without_next.result c.without_next.ensures.place c.without_next.ensures.chosen in
     let both =
-    wait_with offer c.args.node.now under waits sign.0.left c.with_next-in-Open.ensures.menu c.with_next-in-Open.result others
+    wait_with offer visit.node under c.requires.waits sign.0.left c.with_next-in-Open.ensures.menu c.with_next-in-Open.result others
     c.with_next-in-Open.ensures.place c.with_next-in-Open.ensures.chosen sign.2 (one_more _ _ few) after in
     record {
       few =
@@ -91,43 +82,48 @@ returns-in-Open-clause-may_wait c = λ prices budget allowed required champion w
 
 pub returns-in-Open-clause-below : goal.returns-in-Open-clause-below
 returns-in-Open-clause-below c =
-    let o = c.requires.sign in
-    let offer = offer_of c.args.menu.now o.0 o.1 o.2 in
-    let k = c.args.node.now.place in
-    let cs = places_of c.args.menu.now (sections_of c.args.node.now.chosen) in
+    let visit = c.args.visit.now in
+    let offer = offer_in visit.claim in
     let under = waiting_of c.args.self.now in
-    let sign = subst (IsSign offer o.3 o.4 k cs) c.in-Open.is o.6 in
+    let sign = subst (IsSignAt visit) c.in-Open.is c.requires.sign in
     let first =
-    spot_with offer c.args.node.now under o.5 sign.0.left c.with_next-in-Open.ensures.menu c.with_next-in-Open.result c.with_next-in-Open.ensures.place
-    c.with_next-in-Open.ensures.chosen in
-    let second = spot_without offer c.args.node.now under o.5 sign.0.left c.without_next.result c.without_next.ensures.place c.without_next.ensures.chosen in
-    rw (c.in-Open.is, c.put-in-Open-2.ensures.waiting, c.put-in-Open.ensures.waiting) (λ i. first i ∷ second i ∷ spots_of c.args.menu.now under)
+    spot_with offer visit.node under c.requires.waits sign.0.left c.with_next-in-Open.ensures.menu c.with_next-in-Open.result
+    c.with_next-in-Open.ensures.place c.with_next-in-Open.ensures.chosen in
+    let second =
+    spot_without offer visit.node under c.requires.waits sign.0.left c.without_next.result c.without_next.ensures.place c.without_next.ensures.chosen in
+    rw (c.in-Open.is, c.put-in-Open-2.ensures.waiting, c.put-in-Open.ensures.waiting) (λ i. first i ∷ second i ∷ spots_of offer.menu under)
 
 pub returns-in-Forced-clause-stems : goal.returns-in-Forced-clause-stems
-returns-in-Forced-clause-stems c = λ prices budget allowed champion have standing.
-    let offer = offer_of c.args.menu.now prices budget allowed in
-    let below = subst (λ s. AreStanding offer champion c.args.node.now s c.args.self.now.stems c.args.self.now.count) c.in-Forced.is standing in
-    stems_more offer champion c.args.self.now c.put.new.self c.with_next.result have c.put.ensures.stems c.put.ensures.count c.put.ensures.others
+returns-in-Forced-clause-stems c =
+    let visit = c.args.visit.now in
+    let offer = offer_in visit.claim in
+    let champion = champion_in visit.claim in
+    let below = subst (λ s. AreStanding offer champion visit.node s c.args.self.now.stems c.args.self.now.count) c.in-Forced.is c.requires.standing in
+    stems_more offer champion c.args.self.now c.put.new.self c.with_next.result c.requires.stems c.put.ensures.stems c.put.ensures.count c.put.ensures.others
     c.put.ensures.here
     (stem_same offer champion c.args.self.now.stems c.args.self.now.stems c.args.self.now.count _ c.with_next.result.place _
     (sections_of c.with_next.result.chosen) refl (sym c.with_next.ensures.place) (sym c.with_next.ensures.chosen) below)
 
 pub returns-in-Passed-clause-stems : goal.returns-in-Passed-clause-stems
-returns-in-Passed-clause-stems c = λ prices budget allowed champion have standing.
-    let offer = offer_of c.args.menu.now prices budget allowed in
-    let below = subst (λ s. AreStanding offer champion c.args.node.now s c.args.self.now.stems c.args.self.now.count) c.in-Passed.is standing in
-    stems_more offer champion c.args.self.now c.put-in-Passed.new.self c.without_next-in-Passed.result have c.put-in-Passed.ensures.stems
+returns-in-Passed-clause-stems c =
+    let visit = c.args.visit.now in
+    let offer = offer_in visit.claim in
+    let champion = champion_in visit.claim in
+    let below = subst (λ s. AreStanding offer champion visit.node s c.args.self.now.stems c.args.self.now.count) c.in-Passed.is c.requires.standing in
+    stems_more offer champion c.args.self.now c.put-in-Passed.new.self c.without_next-in-Passed.result c.requires.stems c.put-in-Passed.ensures.stems
     c.put-in-Passed.ensures.count c.put-in-Passed.ensures.others c.put-in-Passed.ensures.here
     (stem_same offer champion c.args.self.now.stems c.args.self.now.stems c.args.self.now.count _ c.without_next-in-Passed.result.place _
     (sections_of c.without_next-in-Passed.result.chosen) refl (sym c.without_next-in-Passed.ensures.place) (sym c.without_next-in-Passed.ensures.chosen)
     below)
 
 pub returns-in-Open-clause-stems : goal.returns-in-Open-clause-stems
-returns-in-Open-clause-stems c = λ prices budget allowed champion have standing.
-    let offer = offer_of c.args.menu.now prices budget allowed in
-    let below = subst (λ s. AreStanding offer champion c.args.node.now s c.args.self.now.stems c.args.self.now.count) c.in-Open.is standing in
+returns-in-Open-clause-stems c =
+    let visit = c.args.visit.now in
+    let offer = offer_in visit.claim in
+    let champion = champion_in visit.claim in
+    let below = subst (λ s. AreStanding offer champion visit.node s c.args.self.now.stems c.args.self.now.count) c.in-Open.is c.requires.standing in
     let first =
-    stems_more offer champion c.args.self.now c.put-in-Open.new.self c.without_next.result have c.put-in-Open.ensures.stems c.put-in-Open.ensures.count
+    stems_more offer champion c.args.self.now c.put-in-Open.new.self c.without_next.result c.requires.stems c.put-in-Open.ensures.stems c.put-in-Open.ensures.count
     c.put-in-Open.ensures.others c.put-in-Open.ensures.here
     (stem_same offer champion c.args.self.now.stems c.args.self.now.stems c.args.self.now.count _ c.without_next.result.place _
     (sections_of c.without_next.result.chosen) refl (sym c.without_next.ensures.place) (sym c.without_next.ensures.chosen) below.0) in
