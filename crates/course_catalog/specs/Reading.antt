@@ -1,13 +1,13 @@
 -- The catalogue that bytes stand for, or the refusal of its first bad record at its first bad
 -- column.
-use Rattle.std.specs.Prelude.{ℕ, ◌==◌, if◌then◌else◌, true, List, [], ◌∷◌, ◌++◌, codes, Option, Some, Result, Ok}
+use Rattle.std.specs.Prelude.{ℕ, ◌==◌, if◌then◌else◌, List, [], ◌∷◌, codes, Option, Some, Result, Ok}
 use Rattle.market_units.specs.declared.limits.TheConstants.{MAX_SEATS, MAX_SECTION_CREDITS, MAX_SECTIONS}
 use Rattle.timetable_rules.specs.declared.parts.Parts.{Parts}
 use Rattle.timetable_rules.specs.Parts.{spelled_parts, whole_term}
 use Rattle.timetable_rules.specs.Spelled.{spelled}
 use Rattle.table_records.specs.Columns.{◌>>=◌, name_or, number_or, or_refused}
 use Rattle.table_records.specs.Records.{field_in, first_field, records_of}
-use Rattle.table_records.specs.Reading.{Rules, reading}
+use Rattle.table_records.specs.Reading.{Rules, naming_rules, reading}
 use Rattle.course_catalog.specs.declared.refusal.CatalogRefusal.{CatalogRefusal}
 use Rattle.course_catalog.specs.declared.refusal.CatalogRefusal.TheVariants as refusal
 use Rattle.course_catalog.specs.Refusal.{refusal_of}
@@ -43,16 +43,10 @@ section_of version row fields = do
 abbrev pub first_header : List (List ℕ)
 first_header = codes "section" ∷ codes "course" ∷ codes "seats" ∷ codes "credits" ∷ codes "meetings" ∷ []
 
--- the rules of the catalogue: its headers, the second with one column more, at most 400 rows, any
--- name, and what a row is
+-- the rules of the catalogue: its headers, at most 400 rows, and what a row is
 abbrev pub catalog_rules : Rules Section CatalogRefusal
-catalog_rules = record {
-  headers = first_header ∷ (first_header ++ codes "parts" ∷ []) ∷ [];
-  most = Some (MAX_SECTIONS, refusal.TooMany);
-  knows = λ name. true;
-  refusal = refusal_of;
-  row = section_of;
-}
+catalog_rules =
+    naming_rules first_header (codes "parts") (MAX_SECTIONS, refusal.TooMany) refusal_of section_of
 
 -- the catalogue that bytes stand for, or their refusal
 abbrev pub catalog_of : List ℕ → Result CatalogData CatalogRefusal

@@ -1,9 +1,10 @@
 // Bundles by the names of their sections.
-ghost use Rattle.std.specs.Prelude.{◌≡◌, ◌==◌, ◌<◌, ◌++◌, ◌∷◌, [], All, OnOk, cond, length};
+ghost use Rattle.std.specs.Prelude.{◌≡◌, ◌<◌, ◌++◌, ◌∷◌, All, OnOk, length};
 ghost use Rattle.bundle_rules.specs.Bundles.{sections_of};
 ghost use Rattle.course_catalog.specs.Sections.{section_names};
 ghost use Rattle.market_certificate.specs.Texts.{bundle_text};
 
+use crate::writing::put_comma_behind;
 use bundle_rules::Bundle;
 use course_catalog::Catalog;
 use market_units::NoMemory;
@@ -27,15 +28,5 @@ pub fn put_bundle_field(
         text.extend_from_slice(catalog.name(*section).bytes())?;
     }
     text.push(b']')?;
-    Ok(())
-}
-
-// Puts a comma behind the text where that many names are there already, and at least one.
-fn put_comma_behind(text: &mut Vec<u8>, names: usize) -> Result<(), NoMemory>
-    ensures { OnOk result (text.new.items ≡ text.old.items ++ cond (names == 0) [] (44 ∷ [])) }
-{
-    if names > 0 {
-        text.push(b',')?;
-    }
     Ok(())
 }

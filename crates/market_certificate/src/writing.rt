@@ -14,6 +14,7 @@ use crate::amounts::Amount;
 use crate::tables::TableNames;
 use blocks::{put_allocation, put_amounts, put_bundles, put_seats, put_turns};
 use course_catalog::Catalog;
+pub(crate) use fields::put_comma_behind;
 pub use fields::{put_field, put_number_field};
 pub use lines::put_error;
 use lines::{put_head, put_order};

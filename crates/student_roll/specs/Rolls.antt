@@ -1,10 +1,10 @@
 -- What the bytes of a roll say.
-use Rattle.std.specs.Prelude.{ℕ, ◌-◌, ◌==◌, if◌then◌else◌, true, List, [], ◌∷◌, ◌++◌, Some, Result, Ok, codes}
+use Rattle.std.specs.Prelude.{ℕ, ◌-◌, ◌==◌, if◌then◌else◌, List, [], ◌∷◌, Result, Ok, codes}
 use Rattle.market_units.specs.declared.limits.TheConstants.{MAX_BASE, MAX_COURSES, MAX_CREDITS, MAX_STUDENTS}
 use Rattle.table_records.specs.declared.fault.Fault.{Fault}
 use Rattle.table_records.specs.declared.fault.Fault.TheVariants as fault
 use Rattle.table_records.specs.Columns.{◌>>=◌, number_or}
-use Rattle.table_records.specs.Reading.{Rules, reading}
+use Rattle.table_records.specs.Reading.{Rules, naming_rules, reading}
 use Rattle.table_records.specs.Records.{field_in, first_field, records_of}
 use Rattle.student_roll.specs.declared.refusal.RollRefusal.{RollRefusal}
 use Rattle.student_roll.specs.declared.refusal.RollRefusal.TheVariants as refusal
@@ -45,16 +45,10 @@ student_of version row fields = do
 abbrev pub first_header : List (List ℕ)
 first_header = codes "student" ∷ codes "budget" ∷ codes "credits" ∷ codes "courses" ∷ []
 
--- the rules of a roll: its headers, the second with one column more, at most 2,000 rows, any name,
--- and what a row is
+-- the rules of a roll: its headers, at most 2,000 rows, and what a row is
 abbrev pub roll_rules : Rules Student RollRefusal
-roll_rules = record {
-  headers = first_header ∷ (first_header ++ codes "carry" ∷ []) ∷ [];
-  most = Some (MAX_STUDENTS, refusal.TooMany);
-  knows = λ name. true;
-  refusal = refusal_of;
-  row = student_of;
-}
+roll_rules =
+    naming_rules first_header (codes "carry") (MAX_STUDENTS, refusal.TooMany) refusal_of student_of
 
 -- the roll that bytes stand for, or the first refusal
 abbrev pub roll_of : List ℕ → Result RollData RollRefusal

@@ -1,6 +1,6 @@
 -- What the records of a table say: its rows, or the refusal of the first bad record at its first
 -- bad column.
-use Rattle.std.specs.Prelude.{◌≡◌, ◌≤◌, ℕ, ◌+◌, ◌-◌, Bool, ◌&&◌, ◌==◌, if◌then◌else◌, nat_le, List, [], ◌∷◌, ◌++◌, length, map, Option, Some, None, option_map, position, slice_index_or, Result, Ok, Err}
+use Rattle.std.specs.Prelude.{◌≡◌, ◌≤◌, ℕ, ◌+◌, ◌-◌, Bool, true, ◌&&◌, ◌==◌, if◌then◌else◌, nat_le, List, [], ◌∷◌, ◌++◌, length, map, Option, Some, None, option_map, position, slice_index_or, Result, Ok, Err}
 use Rattle.std.specs.Cmp.Lexicographic.{pointwise}
 use Rattle.std.specs.Str.{bytes_eq}
 use Rattle.market_units.specs.declared.names.Name.{Name}
@@ -25,6 +25,18 @@ pub record Rules (R E : Type 0) : Type 0 where
   -- the row that these fields are in a table of this version, under this number, or the refusal of
   -- their first bad column after the first
   pub row : ℕ → ℕ → List (List ℕ) → Result R E
+
+-- The rules of a table of two versions, the second with one column more than this header. A row may
+-- have any name, and there are at most so many rows.
+abbrev pub naming_rules : {R E : Type 0} → List (List ℕ) → List ℕ → ℕ × E → (Fault → E)
+    → (ℕ → ℕ → List (List ℕ) → Result R E) → Rules R E
+naming_rules header column most refused row = record {
+  headers = header ∷ (header ++ column ∷ []) ∷ [];
+  most = Some most;
+  knows = λ name. true;
+  refusal = refused;
+  row = row;
+}
 
 -- what a table says: its version, which is that of its header, and its rows
 pub record TableData (R : Type 0) : Type 0 where

@@ -49,8 +49,8 @@ pub(crate) fn put_bundle_field(
     Ok(())
 }
 
-// Puts a comma behind the text where that many names are there already, and at least one.
-fn put_comma_behind(text: &mut Vec<u8>, names: usize) -> Result<(), NoMemory>
+/// Puts a comma behind the text where that many names are there already, and at least one.
+pub(crate) fn put_comma_behind(text: &mut Vec<u8>, names: usize) -> Result<(), NoMemory>
     ensures { OnOk result (text.new.items ≡ text.old.items ++ cond (names == 0) [] (44 ∷ [])) }
 {
     if names > 0 {
