@@ -5,20 +5,4 @@
 #![tactic(auto)]
 
 #[cfg(test)]
-mod audits;
-#[cfg(test)]
-mod desks;
-#[cfg(test)]
-mod explanations;
-#[cfg(test)]
-mod gates;
-#[cfg(test)]
-mod halls;
-#[cfg(test)]
-mod opened_halls;
-#[cfg(test)]
-mod tables;
-#[cfg(test)]
-mod told_audits;
-#[cfg(test)]
-mod told_reasons;
+mod tests;

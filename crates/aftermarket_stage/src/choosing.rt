@@ -3,8 +3,7 @@ ghost use Rattle.std.specs.Prelude.{◌≡◌, ◌<◌, ◌≤◌, ◌||◌, ℕ
 ghost use Rattle.std.specs.FinSet as set;
 ghost use Rattle.market_units.specs.Members.{has};
 ghost use Rattle.bundle_rules.specs.Bundles.{sections_of};
-ghost use Rattle.demand_api.specs.Views.{data_of};
-ghost use Rattle.demand_api.specs.Asking.{AreSectionPrices};
+ghost use Rattle.demand_api.specs.{Asking.AreSectionPrices, Views.data_of};
 ghost use Rattle.aftermarket_stage.specs.After.{terms_of};
 ghost use Rattle.aftermarket_stage.specs.HeldChoices.{AreKnown, IsSettled};
 ghost use Rattle.aftermarket_stage.specs.Runs.{IsBestAt};

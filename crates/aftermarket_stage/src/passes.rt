@@ -1,18 +1,14 @@
 // Turns and passes.
 ghost use Rattle.std.specs.Prelude.{◌≡◌, ◌<◌, ◌≤◌, [], None, IfOk, All, length, map};
-ghost use Rattle.bundle_rules.specs.Bundles.{sections_of};
-ghost use Rattle.bundle_rules.specs.Demand.{price_in};
-ghost use Rattle.bundle_rules.specs.Places.{places_from};
-ghost use Rattle.demand_api.specs.Crowds.{demands, holders};
+ghost use Rattle.bundle_rules.specs.{Bundles.sections_of, Demand.price_in, Places.places_from};
+ghost use Rattle.demand_api.specs.{Asking.AreSectionPrices, Crowds.demands, Crowds.holders};
 ghost use Rattle.demand_api.specs.Views.{data_of};
+ghost use Rattle.aftermarket_stage.specs.After.{terms_of, turns_of};
+ghost use Rattle.aftermarket_stage.specs.HeldChoices.{AreChoices, AreKnown, AreTerms};
+ghost use Rattle.aftermarket_stage.specs.{Passes.IsAftermarket, Runs.HasTurned, Runs.HaveTurned};
 ghost use Rattle.aftermarket_stage.specs.Turns.{after_turns};
 ghost use Rattle.held_seats.specs.Choices.{AreHeldWithin};
-ghost use Rattle.aftermarket_stage.specs.Passes.{IsAftermarket};
-ghost use Rattle.demand_api.specs.Asking.{AreSectionPrices};
-ghost use Rattle.aftermarket_stage.specs.After.{terms_of, turns_of};
 ghost use Rattle.held_seats.specs.Floors.{AreBelow, IsFloor, held_on};
-ghost use Rattle.aftermarket_stage.specs.HeldChoices.{AreChoices, AreKnown, AreTerms};
-ghost use Rattle.aftermarket_stage.specs.Runs.{HasTurned, HaveTurned};
 
 use crate::choosing::Chooser;
 use crate::counts::narrowed;

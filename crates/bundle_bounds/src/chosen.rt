@@ -1,9 +1,7 @@
 // Chosen places, with what they leave.
 ghost use Rattle.std.specs.Prelude.{◌≤◌, length};
 ghost use Rattle.market_units.specs.declared.limits.TheConstants.{MAX_COURSES};
-ghost use Rattle.bundle_bounds.specs.Offers.{AreOnMenu};
-ghost use Rattle.bundle_bounds.specs.Rests.{AreRests};
-ghost use Rattle.bundle_bounds.specs.Views.{data_of};
+ghost use Rattle.bundle_bounds.specs.{Offers.AreOnMenu, Rests.AreRests, Views.data_of};
 
 use crate::Offer;
 use crate::opens::Rests;

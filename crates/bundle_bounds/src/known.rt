@@ -1,9 +1,8 @@
 // What a few bounds of a resource tell of the others: as a function of its price, a resource's
 // bound is convex.
 ghost use Rattle.std.specs.Prelude.{◌≡◌, ◌<◌, ◌≤◌, ◌≤ℤ◌, ◌+◌, ◌*◌, ◌/◌, ◌+ℤ◌, ℤ, ℕ, List, pos, IsTrue};
-ghost use Rattle.bundle_bounds.specs.declared.prospects.Prospect.{Prospect};
+ghost use Rattle.bundle_bounds.specs.{Bounds.at_price, declared.prospects.Prospect.Prospect};
 ghost use Rattle.bundle_bounds.specs.declared.prospects.Resource.{Resource};
-ghost use Rattle.bundle_bounds.specs.Bounds.{at_price};
 
 use market_units::MAX_PRICE;
 

@@ -1,8 +1,7 @@
 //! What holds of bounds, of pruning and of open places: each call here does nothing, and its
 //! contract is a law.
+ghost use Rattle.bundle_bounds.specs.{Laws.BoundSoundness, Lines.BoundsAreConvex};
 ghost use Rattle.bundle_bounds.specs.PruningLaws.{BoundsPruneSoundly, FirstPruningIsTheFirst, OpensWhereTakable};
-ghost use Rattle.bundle_bounds.specs.Laws.{BoundSoundness};
-ghost use Rattle.bundle_bounds.specs.Lines.{BoundsAreConvex};
 
 /// Each bound at a node is at least 1000 times the utility of each feasible, affordable, allowed
 /// bundle whose sections at decided places are the chosen ones.

@@ -1,8 +1,7 @@
 // What open places make without the first of them.
 ghost use Rattle.std.specs.Prelude.{◌≡◌, ◌≤◌, ◌*◌, ◌∷◌, ℕ, false, IfSome, length, drop, All};
 ghost use Rattle.bundle_bounds.specs.Courses.{HasAllOfCourse, has_course, by_course};
-ghost use Rattle.bundle_bounds.specs.Modest.{IsModest};
-ghost use Rattle.bundle_bounds.specs.Tangents.{IsTangent, AreTangents};
+ghost use Rattle.bundle_bounds.specs.{Modest.IsModest, Tangents.IsTangent, Tangents.AreTangents};
 
 use crate::prospects::{Prospect, Prospects, Resource, added_twice};
 use crate::tangents::{Tangent, Tangents};

@@ -1,15 +1,11 @@
 // Nodes of the search: what is open there, and which bound prunes them.
 ghost use Rattle.std.specs.Prelude.{◌≡◌, ◌<◌, ◌&&◌, ℤ, nat_le, IfSome, IfNone, length};
-ghost use Rattle.bundle_rules.specs.Demand.{HasPrices};
-ghost use Rattle.bundle_rules.specs.Wishes.{IsFeasible, utility};
-ghost use Rattle.bundle_rules.specs.Menus.{wishes_of};
-ghost use Rattle.bundle_rules.specs.Bundles.{sections_of};
-ghost use Rattle.bundle_bounds.specs.Offers.{offer_of, places_of};
-ghost use Rattle.bundle_bounds.specs.Opens.{is_open};
-ghost use Rattle.bundle_bounds.specs.Bounds.{bounds, HasBound, IsFirstPruning, NonePrunes};
-ghost use Rattle.bundle_rules.specs.Ahead.{is_ahead};
+ghost use Rattle.bundle_rules.specs.{Ahead.is_ahead, Bundles.sections_of, Demand.HasPrices};
+ghost use Rattle.bundle_rules.specs.{Menus.wishes_of, Wishes.IsFeasible, Wishes.utility};
 ghost use Rattle.bundle_bounds.specs.Ahead.{limit_of, first_pruning};
-ghost use Rattle.bundle_bounds.specs.Laws.{IsNode};
+ghost use Rattle.bundle_bounds.specs.Bounds.{bounds, HasBound, IsFirstPruning, NonePrunes};
+ghost use Rattle.bundle_bounds.specs.{Laws.IsNode, Offers.offer_of, Offers.places_of};
+ghost use Rattle.bundle_bounds.specs.Opens.{is_open};
 
 use crate::Offer;
 use crate::base::Base;

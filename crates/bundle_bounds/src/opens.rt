@@ -3,11 +3,10 @@ ghost use Rattle.std.specs.Prelude.{◌≡◌, ◌<◌, ◌≤◌, ◌-◌, ◌+
 ghost use Rattle.market_units.specs.Totals.{total};
 ghost use Rattle.bundle_rules.specs.Demand.{price_in, HasPrices};
 ghost use Rattle.bundle_rules.specs.Menus.{section_at, credits_at, adjustment_in, IsMenu};
+ghost use Rattle.bundle_bounds.specs.Modest.{IsModest, AreOn};
 ghost use Rattle.bundle_bounds.specs.Offers.{AreOnMenu, allowed_at, price_at};
 ghost use Rattle.bundle_bounds.specs.Opens.{is_apart, opens_from, hopes, prospect, prospects, first_of_course, above_zero};
-ghost use Rattle.bundle_bounds.specs.Modest.{IsModest, AreOn};
-ghost use Rattle.bundle_bounds.specs.Rests.{AreRests};
-ghost use Rattle.bundle_bounds.specs.Views.{data_of};
+ghost use Rattle.bundle_bounds.specs.{Rests.AreRests, Views.data_of};
 
 use crate::Offer;
 use crate::chosen::Chosen;

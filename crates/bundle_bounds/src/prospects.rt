@@ -1,10 +1,9 @@
 // What is known of open places, and what one of each course can add at most.
 ghost use Rattle.std.specs.Prelude.{◌≡◌, ◌≤◌, ◌*◌, ◌+◌, ◌-◌, ◌==◌, if◌then◌else◌, max, false, IsTrue, length, All};
 ghost use Rattle.market_units.specs.declared.limits.TheConstants.{MAX_RATINGS};
-ghost use Rattle.bundle_bounds.specs.Courses.{takes_of, has_course, greatest, by_course};
 ghost use Rattle.bundle_bounds.specs.Bounds.{over_price, at_price};
-ghost use Rattle.bundle_bounds.specs.Modest.{IsModest};
-ghost use Rattle.bundle_bounds.specs.Peaks.{IsPeak};
+ghost use Rattle.bundle_bounds.specs.Courses.{takes_of, has_course, greatest, by_course};
+ghost use Rattle.bundle_bounds.specs.{Modest.IsModest, Peaks.IsPeak};
 
 use crate::words::{is_in, with};
 use market_units::{MAX_PRICE, MAX_RATINGS};

@@ -1,10 +1,8 @@
 // The bounds of the resources, and the first below a limit.
 ghost use Rattle.std.specs.Prelude.{ℕ, List, ◌≡◌, ◌<◌, ◌≤◌, ◌≤ℤ◌, ◌↔◌, ◌++◌, ◌*◌, ◌/◌, ◌+ℤ◌, ◌<ℤ◌, ◌&&◌, ◌==◌, ℤ, nat_lt, true, pos, IsTrue, IfSome, IfNone, All};
 ghost use Rattle.bundle_bounds.specs.Bounds.{leaf_of, at_price, resource_bounds, all_bounds, HasBound};
-ghost use Rattle.bundle_bounds.specs.Courses.{takes_of, by_course};
-ghost use Rattle.bundle_bounds.specs.Limits.{NoneBelow, IsFirstBelow};
-ghost use Rattle.bundle_bounds.specs.Known.{IsKnown};
-ghost use Rattle.bundle_bounds.specs.Modest.{IsModest};
+ghost use Rattle.bundle_bounds.specs.{Courses.takes_of, Courses.by_course, Known.IsKnown};
+ghost use Rattle.bundle_bounds.specs.{Limits.NoneBelow, Limits.IsFirstBelow, Modest.IsModest};
 ghost use Rattle.bundle_bounds.specs.Tangents.{IsTangent, AreTangents};
 ghost use Rattle.bundle_bounds.specs.declared.prospects.Prospect.{Prospect};
 ghost use Rattle.bundle_bounds.specs.declared.prospects.Resource.{Resource};

@@ -2,8 +2,8 @@
 ghost use Rattle.std.specs.Prelude.{◌≡◌, ◌<◌, ◌≤◌, ◌+◌, ◌-◌, ◌++◌, ◌∷◌, [], ℕ, List, not, nat_le, ◌&&◌, true, length, map, drop, All};
 ghost use Rattle.std.specs.List.{AllByRecursion};
 ghost use Rattle.bundle_rules.specs.Menus.{clash_in};
-ghost use Rattle.bundle_bounds.specs.Opens.{is_open, open_among, prospect, prospects};
 ghost use Rattle.bundle_bounds.specs.Modest.{IsModest, AreOn};
+ghost use Rattle.bundle_bounds.specs.Opens.{is_open, open_among, prospect, prospects};
 ghost use Rattle.bundle_bounds.specs.Views.{data_of};
 
 use crate::chosen::Chosen;

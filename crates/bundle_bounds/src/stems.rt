@@ -1,15 +1,10 @@
 // Nodes that have chosen the same sections.
 ghost use Rattle.std.specs.Prelude.{◌≡◌, ◌<◌, ◌+◌, ◌++◌, ◌∷◌, [], true, IfSome, IfNone, IsTrue, length};
-ghost use Rattle.bundle_rules.specs.Ahead.{is_ahead};
-ghost use Rattle.bundle_rules.specs.Wishes.{IsFeasible};
-ghost use Rattle.bundle_rules.specs.Menus.{wishes_of, section_at};
-ghost use Rattle.bundle_rules.specs.Bundles.{sections_of};
-ghost use Rattle.bundle_bounds.specs.Offers.{places_of};
-ghost use Rattle.bundle_bounds.specs.Opens.{is_open};
-ghost use Rattle.bundle_bounds.specs.Bounds.{bounds, IsFirstPruning, NonePrunes};
+ghost use Rattle.bundle_rules.specs.{Ahead.is_ahead, Bundles.sections_of};
+ghost use Rattle.bundle_rules.specs.{Menus.wishes_of, Menus.section_at, Wishes.IsFeasible};
 ghost use Rattle.bundle_bounds.specs.Ahead.{limit_of};
-ghost use Rattle.bundle_bounds.specs.Laws.{IsNode};
-ghost use Rattle.bundle_bounds.specs.Views.{data_of};
+ghost use Rattle.bundle_bounds.specs.Bounds.{bounds, IsFirstPruning, NonePrunes};
+ghost use Rattle.bundle_bounds.specs.{Laws.IsNode, Offers.places_of, Opens.is_open, Views.data_of};
 
 use crate::Offer;
 use crate::base::Base;

@@ -1,13 +1,12 @@
 // Bundles of sections.
 ghost use Rattle.std.specs.Prelude.{◌≡◌, ◌↔◌, ◌<◌, ◌≤◌, ◌-◌, ◌++◌, ◌∷◌, [], IsTrue, IsSome, IfSome, length, take, drop, replicate};
-ghost use Rattle.market_units.specs.Members.{has};
-ghost use Rattle.bundle_rules.specs.Sets.{IsAscending, IsAscending-prop};
+ghost use Rattle.market_units.specs.{Members.has, declared.limits.TheConstants.MAX_COURSES};
 ghost use Rattle.bundle_rules.specs.Ordinals.{ordinals, IsBundle};
+ghost use Rattle.bundle_rules.specs.Sets.{IsAscending, IsAscending-prop};
 ghost use Rattle.std.specs.Prelude.{nat_eq};
 ghost use Rattle.std.specs.Cmp.{on_equiv, partial_equiv_from_equiv};
 ghost use Rattle.std.specs.Ordering.{on};
 ghost use Rattle.std.specs.Cmp.Lexicographic.{nat_list_eq_equiv, pointwise};
-ghost use Rattle.market_units.specs.declared.limits.TheConstants.{MAX_COURSES};
 
 use market_units::{MAX_COURSES, SectionNo};
 

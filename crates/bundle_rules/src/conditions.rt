@@ -1,8 +1,7 @@
 // What a menu may be built of.
 ghost use Rattle.std.specs.Prelude.{◌≡◌, ◌≢◌, ◌↔◌, ◌<◌, ◌≤◌, IsTrue, All, length, map};
-ghost use Rattle.bundle_rules.specs.Sets.{IsAscending};
 ghost use Rattle.bundle_rules.specs.Menus.{clash_in, IsRated, ArePlaces, IsPair, AreDifferent, ArePairs, ClashesWell, AreClashes};
-ghost use Rattle.bundle_rules.specs.Rows.{RowIsSound};
+ghost use Rattle.bundle_rules.specs.{Rows.RowIsSound, Sets.IsAscending};
 
 use crate::Rated;
 use market_units::{

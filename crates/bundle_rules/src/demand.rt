@@ -2,13 +2,10 @@
 ghost use Rattle.std.specs.Prelude.{◌≡◌, ◌↔◌, ◌<◌, ◌≤◌, ◌*◌, ◌++◌, ◌∷◌, [], IsTrue, IfSome, IfNone, length, map, All};
 ghost use Rattle.std.specs.FinSet as set;
 ghost use Rattle.market_units.specs.Totals.{total};
-ghost use Rattle.bundle_rules.specs.Sets.{IsAscending};
-ghost use Rattle.bundle_rules.specs.Wishes.{IsFeasible};
-ghost use Rattle.bundle_rules.specs.Demand.{price_in, IsPriced, ArePriced, HasPrices, IsChoice, IsBest};
-ghost use Rattle.bundle_rules.specs.Extensions.{IsBestExtension};
 ghost use Rattle.bundle_rules.specs.Bundles.{sections_of};
-ghost use Rattle.bundle_rules.specs.Ordinals.{ordinals};
-ghost use Rattle.bundle_rules.specs.Menus.{wishes_of, IsMenu};
+ghost use Rattle.bundle_rules.specs.Demand.{price_in, IsPriced, ArePriced, HasPrices, IsChoice, IsBest};
+ghost use Rattle.bundle_rules.specs.{Extensions.IsBestExtension, Menus.wishes_of, Menus.IsMenu};
+ghost use Rattle.bundle_rules.specs.{Ordinals.ordinals, Sets.IsAscending, Wishes.IsFeasible};
 
 use crate::{Bundle, Menu, Rated, feasible, prefers};
 use market_units::{MAX_COURSES, MAX_PRICE, MAX_SECTIONS, SectionNo, SectionSet, Tokens};

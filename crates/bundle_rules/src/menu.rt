@@ -34,9 +34,7 @@ pub struct Menu {
 }
 
 impl Model for Menu {
-    ghost use Rattle.bundle_rules.specs.Kept.{IsTable};
-    ghost use Rattle.bundle_rules.specs.Menus.{MenuData};
-    ghost use Rattle.bundle_rules.specs.Kept.{IsKept};
+    ghost use Rattle.bundle_rules.specs.{Kept.IsKept, Kept.IsTable, Menus.MenuData};
 
     ghost Value = { MenuData };
 

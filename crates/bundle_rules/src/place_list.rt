@@ -1,8 +1,7 @@
 // The places of a bundle's sections on a menu.
 ghost use Rattle.std.specs.Prelude.{◌≡◌, ◌≤◌, length, map};
 ghost use Rattle.market_units.specs.declared.limits.TheConstants.{MAX_COURSES};
-ghost use Rattle.bundle_rules.specs.Menus.{place_in};
-ghost use Rattle.bundle_rules.specs.Bundles.{sections_of};
+ghost use Rattle.bundle_rules.specs.{Bundles.sections_of, Menus.place_in};
 
 use crate::{Bundle, Menu};
 use market_units::MAX_COURSES;

@@ -1,12 +1,11 @@
 // Which bundles a student may take, and which of two the student prefers.
 ghost use Rattle.std.specs.Prelude.{◌≡◌, ◌↔◌, ◌<◌, ◌≤◌, ◌*◌, ◌*ℤ◌, ℕ, pos, neg_ℤ, ◌≤ℤ◌, IsTrue, length, map, take, All};
 ghost use Rattle.market_units.specs.Totals.{total};
-ghost use Rattle.bundle_rules.specs.Sets.{DiffersFirstIn};
-ghost use Rattle.bundle_rules.specs.Wishes.{AllRated, IsFeasible, utility, adjustments};
 ghost use Rattle.bundle_rules.specs.Apart.{ClashesWithNone, AreApart, IsWithinCaps, MayTake};
-ghost use Rattle.bundle_rules.specs.Preferences.{IsPreferred};
 ghost use Rattle.bundle_rules.specs.Bundles.{sections_of};
 ghost use Rattle.bundle_rules.specs.Menus.{by_place, wishes_of, place_in, IsMenu};
+ghost use Rattle.bundle_rules.specs.{Preferences.IsPreferred, Sets.DiffersFirstIn};
+ghost use Rattle.bundle_rules.specs.Wishes.{AllRated, IsFeasible, utility, adjustments};
 
 use crate::{Bundle, Menu, Places, is_ahead};
 use market_units::{MAX_ADJUSTMENT, MAX_COURSES, MAX_SECTION_CREDITS};

@@ -2,8 +2,7 @@
 ghost use Rattle.market_certificate.specs.Views.{publication_of};
 ghost use Rattle.published_parts.specs.Holdings.{demanded, held_after};
 ghost use Rattle.certificate_checker.specs.Findings.{HoldsToAllocation, HoldsToTheEnd, IsAnswered};
-ghost use Rattle.certificate_checker.specs.Parts.{AreHeldOn, CanCheck};
-ghost use Rattle.certificate_checker.specs.Views.{terms_of};
+ghost use Rattle.certificate_checker.specs.{Parts.AreHeldOn, Parts.CanCheck, Views.terms_of};
 
 use crate::Finding;
 use crate::terms::Terms;

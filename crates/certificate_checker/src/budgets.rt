@@ -1,8 +1,7 @@
 // The printed budgets.
 ghost use Rattle.market_certificate.specs.Views.{publication_of};
 ghost use Rattle.certificate_checker.specs.Findings.{HoldsToBudgets, IsAnswered};
-ghost use Rattle.certificate_checker.specs.Parts.{CanCheck};
-ghost use Rattle.certificate_checker.specs.Views.{terms_of};
+ghost use Rattle.certificate_checker.specs.{Parts.CanCheck, Views.terms_of};
 
 use crate::Finding;
 use crate::terms::Terms;

@@ -1,10 +1,8 @@
 // The printed bundles of the second stage, and what is looked for in any bundle.
 ghost use Rattle.std.specs.Prelude.{◌≡◌, ◌↔◌, ◌<◌, ◌≤◌, ◌*◌, ℕ, IsTrue, IfErr, OnOk, All, length, nat_lt, true};
 ghost use Rattle.std.specs.FinSet as set;
-ghost use Rattle.market_units.specs.Totals.{total};
-ghost use Rattle.bundle_rules.specs.Bundles.{sections_of};
-ghost use Rattle.market_units.specs.Members.{has};
-ghost use Rattle.bundle_rules.specs.Demand.{IsPriced, price_in};
+ghost use Rattle.market_units.specs.{Members.has, Totals.total};
+ghost use Rattle.bundle_rules.specs.{Bundles.sections_of, Demand.IsPriced, Demand.price_in};
 ghost use Rattle.bundle_rules.specs.Ordinals.{ordinals};
 ghost use Rattle.bundle_bounds.specs.Offers.{offer_of};
 ghost use Rattle.market_certificate.specs.Views.{publication_of};

@@ -1,19 +1,16 @@
 // The check.
 ghost use Rattle.std.specs.Prelude.{◌≡◌, ◌≤◌, ◌<◌, ◌^◌, ◌-◌, IfOk, IfErr, OnOk, length, map};
 ghost use Rattle.market_certificate.specs.Finding.{Finds, OnDefect};
-ghost use Rattle.market_certificate.specs.Publications.{IsPublication};
-ghost use Rattle.market_certificate.specs.Tables.{tables_of};
+ghost use Rattle.market_certificate.specs.{Publications.IsPublication, Tables.tables_of};
 ghost use Rattle.market_certificate.specs.Texts.{ArePublished, IsPublished, text_of};
 ghost use Rattle.market_certificate.specs.Views.{publication_of};
-ghost use Rattle.published_parts.specs.Holdings.{demanded};
-ghost use Rattle.published_parts.specs.Markets.{market_of, tables_in};
+ghost use Rattle.published_parts.specs.{Holdings.demanded, Markets.market_of, Markets.tables_in};
 ghost use Rattle.published_parts.specs.Views.{market_in};
 ghost use Rattle.certificate_checker.specs.Certificates.{HoldsBy, HoldsOf, IsAccepted, IsTextOf};
 ghost use Rattle.certificate_checker.specs.Findings.{IsFirstIn, IsFirstOf, OnFound, end_of};
-ghost use Rattle.certificate_checker.specs.Parts.{AreHeldOn, CanCheck};
-ghost use Rattle.demand_api.specs.Views.{data_of};
+ghost use Rattle.certificate_checker.specs.{Parts.AreHeldOn, Parts.CanCheck, Refusals.IsRefused};
 ghost use Rattle.certificate_checker.specs.Views.{terms_of};
-ghost use Rattle.certificate_checker.specs.Refusals.{IsRefused};
+ghost use Rattle.demand_api.specs.Views.{data_of};
 
 use crate::allocation::check_allocation;
 use crate::budgets::check_budgets;

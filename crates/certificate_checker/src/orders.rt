@@ -1,13 +1,11 @@
 // The commands of an order, said again at a desk.
 ghost use Rattle.std.specs.Prelude.{◌≡◌, ◌<◌, ◌≤◌, ◌+◌, ◌-◌, ◌^◌, ℕ, true, IsTrue, ◌↔◌, IfOk, IfErr, IfSome, IfNone, Some, length, map, slice_get, slice_index, slice_index_or, slice_set};
 ghost use Rattle.preference_desk.specs.DeskView.{names_of, entries_of};
-ghost use Rattle.published_parts.specs.Journals.{IsJournalOf};
-ghost use Rattle.published_parts.specs.Markets.{names_in};
-ghost use Rattle.published_parts.specs.Views.{market_in};
+ghost use Rattle.published_parts.specs.{Journals.IsJournalOf, Markets.names_in, Views.market_in};
 ghost use Rattle.certificate_checker.specs.Findings.{OnFound};
+ghost use Rattle.certificate_checker.specs.Orders.{HasNext, IsNextCommand, IsOrderFinding, SaidAll};
 ghost use Rattle.certificate_checker.specs.declared.findings.CheckEnd.TheVariants as end;
 ghost use Rattle.certificate_checker.specs.declared.findings.Finding.TheVariants as finding;
-ghost use Rattle.certificate_checker.specs.Orders.{HasNext, IsNextCommand, IsOrderFinding, SaidAll};
 
 use crate::{CheckEnd, Finding};
 use preference_desk::Desk;

@@ -2,10 +2,9 @@
 ghost use Rattle.std.specs.Prelude.{◌≡◌, ◌↔◌, IsTrue, IfErr, OnOk};
 ghost use Rattle.market_certificate.specs.Views.{publication_of};
 ghost use Rattle.published_parts.specs.Holdings.{demanded};
-ghost use Rattle.certificate_checker.specs.Findings.{HoldsToAllocation, HoldsToBundles, HoldsToSeats, IsAnswered, IsFirstIn};
 ghost use Rattle.certificate_checker.specs.Certificates.{IsUseTold};
-ghost use Rattle.certificate_checker.specs.Firsts.{AllBelow};
-ghost use Rattle.certificate_checker.specs.Parts.{AreHeldOn, CanCheck};
+ghost use Rattle.certificate_checker.specs.Findings.{HoldsToAllocation, HoldsToBundles, HoldsToSeats, IsAnswered, IsFirstIn};
+ghost use Rattle.certificate_checker.specs.{Firsts.AllBelow, Parts.AreHeldOn, Parts.CanCheck};
 ghost use Rattle.certificate_checker.specs.Views.{terms_of};
 
 use crate::Finding;

@@ -1,12 +1,9 @@
 // What a publication is checked by.
 ghost use Rattle.std.specs.Prelude.{◌≡◌, ◌<◌, ◌-◌, ◌^◌, IfOk, IfErr, length, map};
 ghost use Rattle.market_units.specs.declared.units.NoMemory.{NoMemory};
-ghost use Rattle.published_parts.specs.Views.{market_in};
-ghost use Rattle.published_parts.specs.Crowds.{IsCrowdAfter};
-ghost use Rattle.certificate_checker.specs.Findings.{OnFound};
-ghost use Rattle.certificate_checker.specs.Orders.{IsOrderFinding};
-ghost use Rattle.certificate_checker.specs.Terms.{terms_in};
-ghost use Rattle.certificate_checker.specs.Views.{terms_of};
+ghost use Rattle.published_parts.specs.{Crowds.IsCrowdAfter, Views.market_in};
+ghost use Rattle.certificate_checker.specs.{Findings.OnFound, Orders.IsOrderFinding};
+ghost use Rattle.certificate_checker.specs.{Terms.terms_in, Views.terms_of};
 
 use crate::CheckEnd;
 use crate::orders::replay;

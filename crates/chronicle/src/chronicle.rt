@@ -60,8 +60,7 @@ pub struct Chronicle<O: Object> {
 
 impl<O: Object> Model for Chronicle<O> {
     ghost use Rattle.std.specs.Prelude.{◌≡◌, ◌≤◌, length};
-    ghost use Rattle.chronicle.specs.declared.origin.Origin.{Origin};
-    ghost use Rattle.chronicle.specs.Seats.{origin};
+    ghost use Rattle.chronicle.specs.{Seats.origin, declared.origin.Origin.Origin};
 
     ghost Value = { Origin O.Base O.State };
 

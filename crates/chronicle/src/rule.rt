@@ -1,7 +1,6 @@
 //! The rule of the table, and what each step tells the seat that takes it.
 ghost use Rattle.std.specs.Prelude.{None, option_map};
-ghost use Rattle.chronicle.specs.Rule.{Keeps};
-ghost use Rattle.chronicle.specs.Turn.{drew, looked, passed};
+ghost use Rattle.chronicle.specs.{Rule.Keeps, Turn.drew, Turn.looked, Turn.passed};
 ghost use Rattle.chronicle.specs.Views.{first_view, split_left, split_right, joined};
 
 use crate::kept::Kept;

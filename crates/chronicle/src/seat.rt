@@ -27,8 +27,8 @@ pub struct Seat<O: Object> {
 }
 
 impl<O: Object> Model for Seat<O> {
-    ghost use Rattle.chronicle.specs.declared.standing.Standing.{Standing};
     ghost use Rattle.chronicle.specs.Seats.{standing_of, IsAtRest};
+    ghost use Rattle.chronicle.specs.declared.standing.Standing.{Standing};
 
     // Its chronicle is optional: a spent seat has no view, and no base fits every object. With a
     // snapshot of the key beside the view, the kit found no proof that a seat is `Send`.
@@ -40,8 +40,7 @@ impl<O: Object> Model for Seat<O> {
 }
 
 impl<O: Object> Seat<O> {
-    ghost use Rattle.chronicle.specs.History.{calls_by};
-    ghost use Rattle.chronicle.specs.Seats.{IsAtRest, standing_of};
+    ghost use Rattle.chronicle.specs.{History.calls_by, Seats.IsAtRest, Seats.standing_of};
 
     /// The seat's number, from 0. Its own calls are all that it has seen of itself.
     pub fn number(&self) -> u16

@@ -1,8 +1,7 @@
 // What a seat is in contracts.
 ghost use Rattle.std.specs.Prelude.{ℕ, List, Option};
 ghost use Rattle.std.specs.Borrow.{ftrue};
-ghost use Rattle.chronicle.specs.declared.journal.StepOf.{StepOf};
-ghost use Rattle.chronicle.specs.declared.origin.Origin.{Origin};
+ghost use Rattle.chronicle.specs.{declared.journal.StepOf.StepOf, declared.origin.Origin.Origin};
 
 use std::marker::{Model, PhantomData};
 

@@ -1,8 +1,7 @@
 // What seats know, which exists in proofs alone.
 ghost use Rattle.std.specs.Prelude.{ℕ, List};
 ghost use Rattle.std.specs.Borrow.{ftrue};
-ghost use Rattle.chronicle.specs.declared.journal.StepOf.{StepOf};
-ghost use Rattle.chronicle.specs.declared.view.Phase.{Phase};
+ghost use Rattle.chronicle.specs.{declared.journal.StepOf.StepOf, declared.view.Phase.Phase};
 
 use std::marker::{Model, PhantomData};
 

@@ -5,8 +5,7 @@ ghost use Rattle.std.specs.Str.{bytes_eq};
 ghost use Rattle.market_units.specs.Name.{name_bytes};
 ghost use Rattle.table_records.specs.Reading.{bytes_of};
 ghost use Rattle.timetable_rules.specs.Meetings.{meetings_of};
-ghost use Rattle.course_catalog.specs.Catalog.{IsCatalog};
-ghost use Rattle.course_catalog.specs.Courses.{course_number};
+ghost use Rattle.course_catalog.specs.{Catalog.IsCatalog, Courses.course_number};
 ghost use Rattle.course_catalog.specs.Sections.{SectionsClash, section_at, sections_clash};
 
 use crate::courses::course_numbers;

@@ -1,7 +1,6 @@
 // A catalogue out of its bytes.
 ghost use Rattle.std.specs.Prelude.{◌≡◌, ◌<◌, ◌-◌, ◌^◌, IfOk, IfErr, Ok, length};
-ghost use Rattle.course_catalog.specs.Reading.{catalog_of};
-ghost use Rattle.course_catalog.specs.Refusal.{TellsRefusal};
+ghost use Rattle.course_catalog.specs.{Reading.catalog_of, Refusal.TellsRefusal};
 
 use crate::rules::CatalogTable;
 use crate::{Catalog, CatalogRefusal};

@@ -1,8 +1,7 @@
 // What the records of a catalogue may be.
 ghost use Rattle.std.specs.Prelude.{◌≡◌, ◌||◌, IsTrue, IfSome};
 ghost use Rattle.csv.specs.Records.{fields_of};
-ghost use Rattle.course_catalog.specs.Reading.{catalog_rules, parts_in};
-ghost use Rattle.course_catalog.specs.Catalog.{IsListed};
+ghost use Rattle.course_catalog.specs.{Catalog.IsListed, Reading.catalog_rules, Reading.parts_in};
 ghost use Rattle.timetable_rules.specs.Parts.{whole_term};
 
 use crate::CatalogRefusal;

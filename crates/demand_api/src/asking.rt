@@ -1,12 +1,11 @@
 // What can be asked of a crowd.
 ghost use Rattle.std.specs.Prelude.{◌≡◌, ◌<◌, ◌≤◌, ◌↔◌, ℕ, IsTrue, IfOk, All, length, map};
 ghost use Rattle.std.specs.Thread.{IsSync};
-ghost use Rattle.bundle_rules.specs.Demand.{price_in};
-ghost use Rattle.bundle_rules.specs.Bundles.{sections_of};
+ghost use Rattle.bundle_rules.specs.{Bundles.sections_of, Demand.price_in};
+ghost use Rattle.demand_api.specs.Asking.{ArePricesFor, RoseByDigits};
 ghost use Rattle.demand_api.specs.Crowds.{CrowdData, IsCrowd, top, demand_of, count, counts};
 ghost use Rattle.demand_api.specs.Prices.{AreLeastPrices};
 ghost use Rattle.market_units.specs.Counts.{one_more};
-ghost use Rattle.demand_api.specs.Asking.{ArePricesFor, RoseByDigits};
 
 use bundle_rules::Bundle;
 use market_units::{

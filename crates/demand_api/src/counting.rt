@@ -1,7 +1,6 @@
 // Counts of all sections at once.
 ghost use Rattle.std.specs.Prelude.{◌≡◌, ◌<◌, ◌≤◌, ◌+◌, ◌^◌, ℕ, All, length, slice_index};
-ghost use Rattle.bundle_rules.specs.Sets.{IsAscending};
-ghost use Rattle.bundle_rules.specs.Ordinals.{ordinals};
+ghost use Rattle.bundle_rules.specs.{Ordinals.ordinals, Sets.IsAscending};
 ghost use Rattle.demand_api.specs.Counting.{HasCounted};
 
 use market_units::SectionNo;

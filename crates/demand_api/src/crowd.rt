@@ -1,9 +1,8 @@
 // The students of a market, with their menus and budgets.
 ghost use Rattle.std.specs.Prelude.{◌≡◌, ◌↔◌, ◌<◌, ◌≤◌, IsTrue, IsSome, IfSome, IfOk, All, length};
+ghost use Rattle.demand_api.specs.{Asking.ArePricesFor, Choosing.AreChosen};
 ghost use Rattle.demand_api.specs.Crowds.{IsCrowd, IsWithin, top};
 ghost use Rattle.demand_api.specs.Parts.{greatest, of_parts};
-ghost use Rattle.demand_api.specs.Asking.{ArePricesFor};
-ghost use Rattle.demand_api.specs.Choosing.{AreChosen};
 
 use bundle_rules::{Menu, Rated};
 use market_units::{MAX_BUDGET, MAX_SECTIONS, MAX_STUDENTS, NoMemory, StudentNo, Tokens};

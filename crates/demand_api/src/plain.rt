@@ -2,11 +2,9 @@
 ghost use Rattle.std.specs.Prelude.{◌≡◌, ◌<◌, ℕ, IfOk, All, length, map, nat_lt};
 ghost use Rattle.std.specs.FinSet as set;
 ghost use Rattle.market_units.specs.declared.units.Tokens.{Tokens};
-ghost use Rattle.bundle_rules.specs.Demand.{price_in};
-ghost use Rattle.bundle_rules.specs.Bundles.{sections_of};
-ghost use Rattle.demand_api.specs.Crowds.{demand_of, count, counts};
-ghost use Rattle.demand_api.specs.Views.{data_of};
+ghost use Rattle.bundle_rules.specs.{Bundles.sections_of, Demand.price_in};
 ghost use Rattle.demand_api.specs.Asking.{ArePricesFor};
+ghost use Rattle.demand_api.specs.{Crowds.demand_of, Crowds.count, Crowds.counts, Views.data_of};
 
 use crate::Crowd;
 use crate::counting::count_bundle;

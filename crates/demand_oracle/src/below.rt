@@ -1,15 +1,11 @@
 // The search below a node: place by place, with a call of itself for each section that is taken.
 ghost use Rattle.std.specs.Prelude.{◌≡◌, ◌<◌, ◌≤◌, ◌+◌, ◌-◌, ◌⊎◌, ◌↔◌, ℕ, List, Some, IfSome, IsTrue, length, drop};
 ghost use Rattle.market_units.specs.declared.limits.TheConstants.{MAX_RATINGS};
-ghost use Rattle.bundle_rules.specs.Bundles.{sections_of};
-ghost use Rattle.bundle_rules.specs.Menus.{wishes_of, credits_at};
-ghost use Rattle.bundle_rules.specs.Places.{menu_sections};
-ghost use Rattle.bundle_rules.specs.Wishes.{IsFeasible};
-ghost use Rattle.bundle_bounds.specs.Laws.{IsTakable, IsNode};
-ghost use Rattle.bundle_bounds.specs.Offers.{price_at};
+ghost use Rattle.bundle_rules.specs.{Bundles.sections_of, Menus.wishes_of, Menus.credits_at};
+ghost use Rattle.bundle_rules.specs.{Places.menu_sections, Wishes.IsFeasible};
+ghost use Rattle.bundle_bounds.specs.{Laws.IsTakable, Laws.IsNode, Offers.price_at};
 ghost use Rattle.bundle_bounds.specs.Prunings.{MayPrune};
-ghost use Rattle.demand_oracle.specs.Champions.{IsChampion};
-ghost use Rattle.demand_oracle.specs.Columns.{IsColumnAt};
+ghost use Rattle.demand_oracle.specs.{Champions.IsChampion, Columns.IsColumnAt};
 ghost use Rattle.demand_oracle.specs.OpenWords.{IsOpenWord};
 ghost use Rattle.demand_oracle.specs.Questions.{IsQuestion, offer_asked, wanted_in};
 ghost use Rattle.demand_oracle.specs.Search.{wanted_by, IsBetter, IsSearched};

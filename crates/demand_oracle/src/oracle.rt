@@ -3,16 +3,14 @@
 ghost use Rattle.std.specs.Prelude.{◌≡◌, ◌<◌, [], ◌∷◌, true, IfSome, IfNone, length};
 ghost use Rattle.std.specs.FinSet as set;
 ghost use Rattle.bundle_rules.specs.Bundles.{sections_of};
-ghost use Rattle.market_units.specs.Members.{has};
 ghost use Rattle.bundle_rules.specs.Demand.{price_in, HasPrices, IsBest};
 ghost use Rattle.bundle_rules.specs.Given.{IsBestWith, SomeHas};
 ghost use Rattle.bundle_rules.specs.Menus.{wishes_of, section_at};
-ghost use Rattle.bundle_bounds.specs.Laws.{IsTakable};
-ghost use Rattle.bundle_bounds.specs.Views.{data_of};
-ghost use Rattle.demand_oracle.specs.SummedNodes.{chosen_of, IsSummedOf};
-ghost use Rattle.demand_oracle.specs.Beside.{LeadsThoseWithout};
-ghost use Rattle.demand_oracle.specs.Champions.{IsChampion};
+ghost use Rattle.market_units.specs.Members.{has};
+ghost use Rattle.bundle_bounds.specs.{Laws.IsTakable, Views.data_of};
+ghost use Rattle.demand_oracle.specs.{Beside.LeadsThoseWithout, Champions.IsChampion};
 ghost use Rattle.demand_oracle.specs.Search.{wanted_by, LeadsWanted};
+ghost use Rattle.demand_oracle.specs.SummedNodes.{chosen_of, IsSummedOf};
 
 use crate::below::below;
 use crate::goods::Goods;

@@ -2,17 +2,15 @@
 ghost use Rattle.std.specs.Prelude.{◌≡◌, ◌↔◌, ◌<◌, ◌≤◌, ◌+◌, ◌*◌, ◌-◌, ◌^◌, ◌-ℤ◌, ◌*ℤ◌, ◌≤ℤ◌, ◌<ℤ◌, pos, neg_ℤ, ℕ, Bool, List, All, IsTrue, length};
 ghost use Rattle.std.specs.Ordering.{nat_cmp};
 ghost use Rattle.std.specs.FinSet as set;
+ghost use Rattle.market_units.specs.Totals.{total};
 ghost use Rattle.market_units.specs.declared.limits.TheConstants.{MAX_COURSES, MAX_RATINGS, MAX_SECTION_CREDITS};
 ghost use Rattle.market_units.specs.declared.units.Tokens.{Tokens};
-ghost use Rattle.market_units.specs.Totals.{total};
-ghost use Rattle.bundle_rules.specs.Demand.{price_in};
-ghost use Rattle.bundle_rules.specs.Menus.{IsMenu};
-ghost use Rattle.bundle_bounds.specs.Offers.{OfferData, offer_of};
+ghost use Rattle.bundle_rules.specs.{Demand.price_in, Menus.IsMenu};
 ghost use Rattle.bundle_bounds.specs.Laws.{IsTakable, IsNode};
-ghost use Rattle.demand_oracle.specs.SummedNodes.{chosen_of, IsSummed, IsSummedOf};
-ghost use Rattle.bundle_bounds.specs.Prunings.{MayPrune};
+ghost use Rattle.bundle_bounds.specs.{Offers.OfferData, Offers.offer_of, Prunings.MayPrune};
 ghost use Rattle.bundle_bounds.specs.Views.{data_of};
 ghost use Rattle.demand_oracle.specs.Covers.{IsAdded};
+ghost use Rattle.demand_oracle.specs.SummedNodes.{chosen_of, IsSummed, IsSummedOf};
 
 use crate::draft::Draft;
 use crate::multipliers::{Multipliers, multipliers_at};
@@ -55,8 +53,8 @@ pub struct Column {
 }
 
 impl Reach {
-    ghost use Rattle.demand_oracle.specs.Reaches.{IsReach, number_at};
     ghost use Rattle.demand_oracle.specs.Columns.{IsColumn, IsColumnAt, IsColumnFor};
+    ghost use Rattle.demand_oracle.specs.Reaches.{IsReach, number_at};
 
     /// A table that was measured for no demand yet: `prunes` promises nothing before `measure`.
     pub fn empty() -> Reach {

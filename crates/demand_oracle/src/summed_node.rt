@@ -6,9 +6,8 @@ ghost use Rattle.market_units.specs.declared.units.Tokens.{Tokens};
 ghost use Rattle.bundle_rules.specs.Demand.{price_in};
 ghost use Rattle.bundle_rules.specs.Menus.{MenuData, IsMenu, section_at, wishes_of};
 ghost use Rattle.bundle_rules.specs.Wishes.{utility};
-ghost use Rattle.bundle_bounds.specs.Offers.{offer_of, places_of};
 ghost use Rattle.bundle_bounds.specs.Laws.{IsTakable, IsNode};
-ghost use Rattle.bundle_bounds.specs.Prunings.{ComesFirst};
+ghost use Rattle.bundle_bounds.specs.{Offers.offer_of, Offers.places_of, Prunings.ComesFirst};
 ghost use Rattle.bundle_bounds.specs.Views.{data_of};
 
 use bundle_bounds::{Node, Offer, adjustments_with, is_apart, price_of_place};

@@ -2,11 +2,9 @@
 ghost use Rattle.std.specs.Prelude.{◌≡◌, ◌≢◌, ◌<◌, ◌≤◌, ◌*◌, ◌+◌, ◌-◌, ◌/◌, ◌^◌, ℕ, true, max, unsigned_abs, length, slice_index};
 ghost use Rattle.market_units.specs.declared.units.Tokens.{Tokens};
 ghost use Rattle.bundle_rules.specs.Menus.{adjustment_in, clash_in, credits_at, IsMenu};
-ghost use Rattle.bundle_bounds.specs.Offers.{allowed_at};
-ghost use Rattle.bundle_bounds.specs.Opens.{above_zero};
-ghost use Rattle.bundle_bounds.specs.Views.{data_of};
-ghost use Rattle.demand_oracle.specs.Values.{hopes_from, value};
+ghost use Rattle.bundle_bounds.specs.{Offers.allowed_at, Opens.above_zero, Views.data_of};
 ghost use Rattle.demand_oracle.specs.Reaches.{HoldsHopes, HoldsCovers, IsLightest, AreSmall, IsPlaced, number_at, within_at};
+ghost use Rattle.demand_oracle.specs.Values.{hopes_from, value};
 
 use crate::multipliers::Multipliers;
 use bundle_bounds::{Offer, price_of_place};

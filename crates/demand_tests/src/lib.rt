@@ -4,26 +4,4 @@
 #![tactic(auto)]
 
 #[cfg(test)]
-mod board;
-#[cfg(test)]
-mod bounds;
-#[cfg(test)]
-mod clearing;
-#[cfg(test)]
-mod crowds;
-#[cfg(test)]
-mod held_workers;
-#[cfg(test)]
-mod menus;
-#[cfg(test)]
-mod plain_demands;
-#[cfg(test)]
-mod rivals;
-#[cfg(test)]
-mod trees;
-#[cfg(test)]
-mod two_sections;
-#[cfg(test)]
-mod two_versions;
-#[cfg(test)]
-mod workers;
+mod tests;

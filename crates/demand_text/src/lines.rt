@@ -5,10 +5,9 @@ ghost use Rattle.market_units.specs.Name.{name_bytes};
 ghost use Rattle.bundle_rules.specs.Bundles.{sections_of};
 ghost use Rattle.course_catalog.specs.Sections.{section_names};
 ghost use Rattle.market_certificate.specs.Texts.{order_line};
-ghost use Rattle.preference_desk.specs.Journals.{sessions_of};
+ghost use Rattle.preference_desk.specs.{Journals.sessions_of, declared.entry.Entry.Entry};
 ghost use Rattle.demand_text.specs.Texts.{count_line, taken_line};
 ghost use Rattle.std.specs.List.{flat_map};
-ghost use Rattle.preference_desk.specs.declared.entry.Entry.{Entry};
 
 use bundle_rules::Bundle;
 use course_catalog::Catalog;

@@ -3,9 +3,8 @@ ghost use Rattle.std.specs.Prelude.{◌≡◌, ◌<◌, ◌++◌, All, IfOk, OnO
 ghost use Rattle.bundle_rules.specs.Bundles.{sections_of};
 ghost use Rattle.demand_text.specs.Taken.{IsTakenBy};
 ghost use Rattle.demand_text.specs.Texts.{count_line, demand_text, taken_line};
-ghost use Rattle.market_certificate.specs.Lines.{joined};
+ghost use Rattle.market_certificate.specs.{Lines.joined, Texts.each_line};
 ghost use Rattle.course_catalog.specs.Sections.{section_names};
-ghost use Rattle.market_certificate.specs.Texts.{each_line};
 ghost use Rattle.student_roll.specs.Students.{names_of};
 
 use crate::Taken;

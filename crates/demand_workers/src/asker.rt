@@ -2,17 +2,13 @@
 ghost use Rattle.std.specs.Prelude.{◌≡◌, ◌<◌, ◌≤◌, ℕ, length, nat_lt, slice_set};
 ghost use Rattle.std.specs.Arc.{arc_value};
 ghost use Rattle.std.specs.FinSet as set;
-ghost use Rattle.bundle_rules.specs.Bundles.{sections_of};
-ghost use Rattle.bundle_rules.specs.Demand.{price_in};
-ghost use Rattle.demand_api.specs.Asking.{ArePricesFor};
-ghost use Rattle.demand_api.specs.Crowds.{demand_of, top};
+ghost use Rattle.bundle_rules.specs.{Bundles.sections_of, Demand.price_in};
+ghost use Rattle.demand_api.specs.{Asking.ArePricesFor, Crowds.demand_of, Crowds.top};
 ghost use Rattle.demand_api.specs.Views.{data_of};
 ghost use Rattle.task_board.specs.Seats.{IsFinished, IsFree};
-ghost use Rattle.demand_workers.specs.Asked.{inquiry_rules};
-ghost use Rattle.demand_workers.specs.Found.{terms_of};
+ghost use Rattle.demand_workers.specs.{Asked.inquiry_rules, Found.terms_of};
 ghost use Rattle.demand_workers.specs.Inquiring.{IsInquiry, taken_at};
-ghost use Rattle.demand_workers.specs.Remembered.{AreRemembered};
-ghost use Rattle.demand_workers.specs.Rounds.{prices_of};
+ghost use Rattle.demand_workers.specs.{Remembered.AreRemembered, Rounds.prices_of};
 
 use crate::beside::asked_beside;
 use crate::inquiry::{Inquiries, Inquiry};

@@ -4,11 +4,9 @@ ghost use Rattle.std.specs.Arc.{arc_value};
 ghost use Rattle.std.specs.Vec.{vec_len};
 ghost use Rattle.bundle_rules.specs.Bundles.{sections_of};
 ghost use Rattle.demand_api.specs.Views.{data_of};
-ghost use Rattle.task_board.specs.Kept.{AreSettled};
-ghost use Rattle.task_board.specs.Seats.{IsFinished, IsFree};
+ghost use Rattle.task_board.specs.{Kept.AreSettled, Seats.IsFinished, Seats.IsFree};
 ghost use Rattle.demand_workers.specs.Asked.{inquiry_rules, no_inquiry};
-ghost use Rattle.demand_workers.specs.Found.{AreFound, terms_of};
-ghost use Rattle.demand_workers.specs.Inquiring.{taken_at};
+ghost use Rattle.demand_workers.specs.{Found.AreFound, Found.terms_of, Inquiring.taken_at};
 ghost use Rattle.demand_workers.specs.Remembered.{AreRemembered};
 
 use crate::asker::answer_drawn;

@@ -1,13 +1,9 @@
 // Walks to least prices, of which something is known before they are gone.
 ghost use Rattle.std.specs.Prelude.{◌≡◌, ◌<◌, ℕ, All, IfOk, [], ◌∷◌, length, slice_index_or};
 ghost use Rattle.bundle_rules.specs.Bundles.{sections_of};
-ghost use Rattle.demand_api.specs.Asking.{ArePricesFor};
-ghost use Rattle.demand_api.specs.Views.{data_of};
-ghost use Rattle.demand_workers.specs.Asked.{no_inquiry};
-ghost use Rattle.demand_workers.specs.Inquiring.{IsInquiry, taken_at};
-ghost use Rattle.demand_workers.specs.Notes.{IsTold};
-ghost use Rattle.demand_workers.specs.Remembered.{AreRemembered};
-ghost use Rattle.demand_workers.specs.Walks.{IsForeseen};
+ghost use Rattle.demand_api.specs.{Asking.ArePricesFor, Views.data_of};
+ghost use Rattle.demand_workers.specs.{Asked.no_inquiry, Inquiring.IsInquiry, Inquiring.taken_at};
+ghost use Rattle.demand_workers.specs.{Notes.IsTold, Remembered.AreRemembered, Walks.IsForeseen};
 
 use crate::inquiry::Inquiry;
 use crate::leaving::{Holder, Note, holder_of, holders_of};

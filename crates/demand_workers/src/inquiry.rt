@@ -2,8 +2,7 @@
 ghost use Rattle.std.specs.Prelude.{All, length};
 ghost use Rattle.std.specs.Arc.{arc_value};
 ghost use Rattle.demand_api.specs.Views.{data_of};
-ghost use Rattle.demand_workers.specs.Inquiring.{IsInquiry};
-ghost use Rattle.demand_workers.specs.Rounds.{AreVersionsFor};
+ghost use Rattle.demand_workers.specs.{Inquiring.IsInquiry, Rounds.AreVersionsFor};
 
 use demand_api::Crowd;
 use market_units::{SectionNo, StudentNo, Tokens};

@@ -1,11 +1,8 @@
 // What is noted of students on a walk.
 ghost use Rattle.std.specs.Prelude.{◌≡◌, ◌<◌, IfSome, length};
-ghost use Rattle.bundle_rules.specs.Bundles.{sections_of};
-ghost use Rattle.bundle_rules.specs.Demand.{price_in};
-ghost use Rattle.demand_api.specs.Asking.{ArePricesFor};
-ghost use Rattle.demand_api.specs.Crowds.{demand_of};
+ghost use Rattle.bundle_rules.specs.{Bundles.sections_of, Demand.price_in};
+ghost use Rattle.demand_api.specs.{Asking.ArePricesFor, Crowds.demand_of, Views.data_of};
 ghost use Rattle.demand_workers.specs.Notes.{AreNoted};
-ghost use Rattle.demand_api.specs.Views.{data_of};
 
 use crate::leaving::Walk;
 use bundle_rules::{Bundle, price_of};

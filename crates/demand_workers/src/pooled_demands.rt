@@ -2,14 +2,11 @@
 ghost use Rattle.std.specs.Prelude.{◌≡◌, ◌<◌, ◌≤◌, [], ◌∷◌, All, IfOk, length, slice_index_or};
 ghost use Rattle.std.specs.Arc.{arc_value};
 ghost use Rattle.bundle_rules.specs.Demand.{price_in};
-ghost use Rattle.demand_api.specs.Asking.{ArePricesFor};
-ghost use Rattle.demand_api.specs.Crowds.{counts};
-ghost use Rattle.demand_api.specs.Prices.{AreLeastPrices};
+ghost use Rattle.demand_api.specs.{Asking.ArePricesFor, Crowds.counts, Prices.AreLeastPrices};
 ghost use Rattle.demand_api.specs.Views.{data_of};
 ghost use Rattle.demand_workers.specs.Found.{AreFound, terms_of};
 ghost use Rattle.demand_workers.specs.Remembered.{AreRemembered, AreTaken};
-ghost use Rattle.demand_workers.specs.Rounds.{AreVersionsFor, prices_of};
-ghost use Rattle.demand_workers.specs.Surveys.{IsSurvey};
+ghost use Rattle.demand_workers.specs.{Rounds.AreVersionsFor, Rounds.prices_of, Surveys.IsSurvey};
 
 use crate::Pool;
 use crate::answering::read_all;

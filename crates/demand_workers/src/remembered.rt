@@ -1,13 +1,11 @@
 // What is remembered of a crowd, and which of it serves at other prices.
 ghost use Rattle.std.specs.Prelude.{◌≡◌, ◌<◌, ◌≤◌, ◌*◌, All, IfSome, IsTrue, length};
-ghost use Rattle.bundle_rules.specs.Bundles.{sections_of};
-ghost use Rattle.bundle_rules.specs.Demand.{price_in, IsPriced};
+ghost use Rattle.bundle_rules.specs.{Bundles.sections_of, Demand.price_in, Demand.IsPriced};
 ghost use Rattle.bundle_rules.specs.Ordinals.{ordinals};
 ghost use Rattle.market_units.specs.Totals.{total};
-ghost use Rattle.demand_api.specs.Asking.{ArePricesFor};
-ghost use Rattle.demand_api.specs.Crowds.{CrowdData, demand_of};
-ghost use Rattle.demand_workers.specs.Remembered.{AreRemembered, AreWithin, IsKept};
+ghost use Rattle.demand_api.specs.{Asking.ArePricesFor, Crowds.CrowdData, Crowds.demand_of};
 ghost use Rattle.demand_api.specs.Views.{data_of};
+ghost use Rattle.demand_workers.specs.Remembered.{AreRemembered, AreWithin, IsKept};
 
 use crate::cheaper::Cheaper;
 use bundle_rules::{Bundle, price_of};

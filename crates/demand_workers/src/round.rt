@@ -2,11 +2,10 @@
 ghost use Rattle.std.specs.Prelude.{◌≡◌, ◌≤◌, ◌<◌, ℕ, All, IfOk, length, slice_index_or};
 ghost use Rattle.std.specs.Arc.{arc_value};
 ghost use Rattle.std.specs.Vec.{vec_len};
-ghost use Rattle.price_board.specs.Openings.{IsAskOf};
-ghost use Rattle.price_board.specs.Seats.{IsFree, IsFinished};
+ghost use Rattle.price_board.specs.{Openings.IsAskOf, Seats.IsFree, Seats.IsFinished};
 ghost use Rattle.demand_workers.specs.Remembered.{AreRemembered};
-ghost use Rattle.demand_api.specs.Views.{data_of};
 ghost use Rattle.demand_workers.specs.Rounds.{prices_of, AreVersionsFor, IsBoardOf};
+ghost use Rattle.demand_api.specs.Views.{data_of};
 
 use crate::remembered::Remembered;
 use crate::worker::work;

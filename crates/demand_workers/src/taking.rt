@@ -1,12 +1,10 @@
 // What students take, found in one thread: remembered where that serves, else asked.
 ghost use Rattle.std.specs.Prelude.{◌≡◌, ◌<◌, ℕ, All, length, map, nat_lt, replicate};
 ghost use Rattle.std.specs.FinSet as set;
-ghost use Rattle.bundle_rules.specs.Bundles.{sections_of};
-ghost use Rattle.bundle_rules.specs.Demand.{price_in};
-ghost use Rattle.demand_api.specs.Asking.{ArePricesFor};
-ghost use Rattle.demand_api.specs.Crowds.{counts, demand_of};
-ghost use Rattle.demand_workers.specs.Remembered.{AreRemembered, AreTaken};
+ghost use Rattle.bundle_rules.specs.{Bundles.sections_of, Demand.price_in};
+ghost use Rattle.demand_api.specs.{Asking.ArePricesFor, Crowds.counts, Crowds.demand_of};
 ghost use Rattle.demand_api.specs.Views.{data_of};
+ghost use Rattle.demand_workers.specs.Remembered.{AreRemembered, AreTaken};
 
 use crate::remembered::Remembered;
 use bundle_rules::Bundle;

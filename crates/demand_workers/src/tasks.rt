@@ -1,8 +1,7 @@
 // Inquiries as the tasks of a board.
 ghost use Rattle.std.specs.Prelude.{◌≡◌, ◌<◌, ◌^◌, IfOk, ⊤, length};
 ghost use Rattle.std.specs.Arc.{arc_value};
-ghost use Rattle.demand_workers.specs.Asked.{inquiry_rules};
-ghost use Rattle.demand_workers.specs.Found.{terms_of};
+ghost use Rattle.demand_workers.specs.{Asked.inquiry_rules, Found.terms_of};
 
 use crate::inquiry::Inquiries;
 use crate::terms::InquiryTerms;

@@ -1,12 +1,9 @@
 // Students whom what is remembered does not settle.
 ghost use Rattle.std.specs.Prelude.{◌≡◌, ◌<◌, ◌+◌, ℕ, [], All, IfOk, length, slice_index_or};
 ghost use Rattle.std.specs.Arc.{arc_value};
-ghost use Rattle.bundle_rules.specs.Bundles.{sections_of};
-ghost use Rattle.bundle_rules.specs.Demand.{price_in};
-ghost use Rattle.demand_api.specs.Crowds.{demand_of};
-ghost use Rattle.demand_api.specs.Views.{data_of};
-ghost use Rattle.demand_workers.specs.Asked.{no_inquiry};
-ghost use Rattle.demand_workers.specs.Found.{AreFound, terms_of};
+ghost use Rattle.bundle_rules.specs.{Bundles.sections_of, Demand.price_in};
+ghost use Rattle.demand_api.specs.{Crowds.demand_of, Views.data_of};
+ghost use Rattle.demand_workers.specs.{Asked.no_inquiry, Found.AreFound, Found.terms_of};
 ghost use Rattle.demand_workers.specs.Remembered.{AreRemembered, AreTaken};
 ghost use Rattle.demand_workers.specs.Rounds.{AreVersionsFor, prices_of};
 ghost use Rattle.demand_workers.specs.Surveys.{AreOthersKept, IsSurvey};

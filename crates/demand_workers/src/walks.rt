@@ -1,17 +1,12 @@
 // Walks to least prices, over rounds of inquiries.
 ghost use Rattle.std.specs.Prelude.{◌≡◌, ◌<◌, ◌≤◌, [], ◌∷◌, All, IfOk, IfSome, length, slice_set};
 ghost use Rattle.std.specs.Arc.{arc_value};
-ghost use Rattle.bundle_rules.specs.Bundles.{sections_of};
-ghost use Rattle.bundle_rules.specs.Demand.{price_in};
-ghost use Rattle.demand_api.specs.Asking.{ArePricesFor};
-ghost use Rattle.demand_api.specs.Crowds.{demand_of, top};
-ghost use Rattle.demand_api.specs.Prices.{AreLeastPrices, IsLeastFrom};
-ghost use Rattle.demand_api.specs.Views.{data_of};
+ghost use Rattle.bundle_rules.specs.{Bundles.sections_of, Demand.price_in};
+ghost use Rattle.demand_api.specs.{Asking.ArePricesFor, Crowds.demand_of, Crowds.top};
+ghost use Rattle.demand_api.specs.{Prices.AreLeastPrices, Prices.IsLeastFrom, Views.data_of};
 ghost use Rattle.demand_workers.specs.Inquiring.{IsInquiry, taken_at};
-ghost use Rattle.demand_workers.specs.Notes.{AreNoted, IsTold};
-ghost use Rattle.demand_workers.specs.Remembered.{AreRemembered};
-ghost use Rattle.demand_workers.specs.Rounds.{prices_of};
-ghost use Rattle.demand_workers.specs.Walks.{IsForeseen};
+ghost use Rattle.demand_workers.specs.{Notes.AreNoted, Notes.IsTold, Remembered.AreRemembered};
+ghost use Rattle.demand_workers.specs.{Rounds.prices_of, Walks.IsForeseen};
 
 use crate::PooledDemands;
 use crate::asking::ask;

@@ -2,8 +2,8 @@
 ghost use Rattle.std.specs.Prelude.{◌≡◌, ◌<◌};
 ghost use Rattle.price_board.specs.Seats.{IsFree, IsFinished};
 ghost use Rattle.demand_workers.specs.Remembered.{AreRemembered};
-ghost use Rattle.demand_api.specs.Views.{data_of};
 ghost use Rattle.demand_workers.specs.Rounds.{AreVersionsFor, IsBoardOf};
+ghost use Rattle.demand_api.specs.Views.{data_of};
 
 use crate::remembered::Remembered;
 use crate::taking::taken;

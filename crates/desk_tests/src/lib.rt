@@ -3,16 +3,4 @@
 #![tactic(auto)]
 
 #[cfg(test)]
-mod budgets;
-#[cfg(test)]
-mod desks;
-#[cfg(test)]
-mod halls;
-#[cfg(test)]
-mod histories;
-#[cfg(test)]
-mod journals;
-#[cfg(test)]
-mod menus;
-#[cfg(test)]
-mod readers;
+mod tests;

@@ -1,10 +1,9 @@
 // Bundles with one section more or less.
 ghost use Rattle.std.specs.Prelude.{◌≡◌, ◌<◌, ◌≤◌, ◌+◌, ◌++◌, true, false, length, nat_le};
-ghost use Rattle.bundle_rules.specs.Bundles.{sections_of};
-ghost use Rattle.bundle_rules.specs.Ordinals.{ordinals, IsBundle};
+ghost use Rattle.bundle_rules.specs.{Bundles.sections_of, Ordinals.ordinals, Ordinals.IsBundle};
+ghost use Rattle.bundle_rules.specs.Sets.{without_section};
 ghost use Rattle.market_units.specs.Members.{has};
 ghost use Rattle.std.specs.List.{position};
-ghost use Rattle.bundle_rules.specs.Sets.{without_section};
 ghost use Rattle.dropadd_desk.specs.Sets.{place_in, with_section};
 
 use bundle_rules::Bundle;

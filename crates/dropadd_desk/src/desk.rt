@@ -1,13 +1,10 @@
 // The desk at which students drop and add sections.
 ghost use Rattle.std.specs.Prelude.{ℕ, ◌≡◌, ◌<◌, ◌≤◌, ◌+◌, true, false, length, map, slice_index_or};
 ghost use Rattle.std.proofs.Props.{props};
-ghost use Rattle.bundle_rules.specs.Bundles.{sections_of};
+ghost use Rattle.bundle_rules.specs.{Bundles.sections_of, Sets.IsAscending-prop};
 ghost use Rattle.market_units.specs.Members.{has};
-ghost use Rattle.bundle_rules.specs.Sets.{IsAscending-prop};
 ghost use Rattle.held_seats.specs.Floors.{AreBelow, IsFloor, held_on};
-ghost use Rattle.dropadd_desk.specs.Halls.{IsHall};
-ghost use Rattle.dropadd_desk.specs.Kept.{IsMarket};
-ghost use Rattle.dropadd_desk.specs.Market.{seats_in};
+ghost use Rattle.dropadd_desk.specs.{Halls.IsHall, Kept.IsMarket, Market.seats_in};
 
 use crate::bundles::{with_section, without_section};
 use crate::command::HallCommand;
@@ -37,10 +34,10 @@ pub struct HallDesk {
 
 impl HallDesk {
     ghost use Rattle.std.specs.Prelude.{Option, None, Some, All, IfOk, IfErr, position};
-    ghost use Rattle.dropadd_desk.specs.Market.{AreKnown, section_count, student_count, section_named, student_named};
     ghost use Rattle.dropadd_desk.specs.Fits.{fits};
-    ghost use Rattle.dropadd_desk.specs.Halls.{opening};
     ghost use Rattle.dropadd_desk.specs.HallView.{Becomes, HasOutcome, market_of, state_of, room_of};
+    ghost use Rattle.dropadd_desk.specs.Halls.{opening};
+    ghost use Rattle.dropadd_desk.specs.Market.{AreKnown, section_count, student_count, section_named, student_named};
     ghost use Rattle.dropadd_desk.specs.Step.{add, by_names, drop, given, IsUnknown, has_free_seat, held_by, leave, pass_on, refusal, step, waiting_for, with_held};
     ghost use Rattle.demand_api.specs.Crowds.{holders};
 

@@ -1,13 +1,10 @@
 // What a desk keeps of a market.
 ghost use Rattle.std.specs.Prelude.{◌≡◌, ◌<◌, ◌≤◌, ◌+◌, ◌*◌, [], ℕ, true, false, IfOk, IfSome, IsTrue, All, length, map, option_map, slice_index_or, take};
-ghost use Rattle.market_units.specs.Totals.{total};
-ghost use Rattle.market_units.specs.Name.{name_bytes};
+ghost use Rattle.market_units.specs.{Members.has, Name.name_bytes, Totals.total};
 ghost use Rattle.std.specs.Ordering.{nat_cmp};
 ghost use Rattle.std.specs.FinSet as set;
 ghost use Rattle.std.specs.List.{find};
-ghost use Rattle.bundle_rules.specs.Bundles.{sections_of};
-ghost use Rattle.bundle_rules.specs.Ordinals.{ordinals};
-ghost use Rattle.market_units.specs.Members.{has};
+ghost use Rattle.bundle_rules.specs.{Bundles.sections_of, Ordinals.ordinals};
 ghost use Rattle.course_catalog.specs.Sections.{Section, section_at, sections_clash};
 ghost use Rattle.student_roll.specs.Students.{Student};
 
@@ -46,8 +43,7 @@ pub struct MarketRules {
 }
 
 impl Model for MarketRules {
-    ghost use Rattle.dropadd_desk.specs.Market.{Market};
-    ghost use Rattle.dropadd_desk.specs.Kept.{KeepsMarket, market_kept};
+    ghost use Rattle.dropadd_desk.specs.{Kept.KeepsMarket, Kept.market_kept, Market.Market};
 
     ghost Value = { Market };
 
@@ -57,9 +53,9 @@ impl Model for MarketRules {
 }
 
 impl MarketRules {
-    ghost use Rattle.dropadd_desk.specs.Market.{AreKnown, section_count, student_count, section_named, student_named, seats_in};
     ghost use Rattle.dropadd_desk.specs.Fits.{credits_of, fits, lowest_clash, exceeds_credits, exceeds_courses};
     ghost use Rattle.dropadd_desk.specs.Kept.{IsMarket};
+    ghost use Rattle.dropadd_desk.specs.Market.{AreKnown, section_count, student_count, section_named, student_named, seats_in};
 
     /// What a desk keeps of this catalogue and this roll. The only error is that memory was wanted
     /// and not given.

@@ -3,10 +3,9 @@ ghost use Rattle.std.specs.Prelude.{◌≡◌, ◌<◌, ◌++◌, ◌∷◌, [],
 ghost use Rattle.std.specs.List.{flat_map};
 ghost use Rattle.market_units.specs.Name.{name_bytes};
 ghost use Rattle.bundle_rules.specs.Bundles.{sections_of};
-ghost use Rattle.market_certificate.specs.Lines.{spaced};
-ghost use Rattle.course_catalog.specs.Sections.{section_names};
-ghost use Rattle.market_certificate.specs.Tables.{name_at};
+ghost use Rattle.market_certificate.specs.{Lines.spaced, Tables.name_at};
 ghost use Rattle.market_certificate.specs.Texts.{final_line, used_line};
+ghost use Rattle.course_catalog.specs.Sections.{section_names};
 ghost use Rattle.student_roll.specs.Students.{names_of};
 ghost use Rattle.dropadd_desk.specs.Replies.{NamesInRange};
 ghost use Rattle.dropadd_hall.specs.Requests.{request_words};

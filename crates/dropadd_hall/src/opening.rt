@@ -1,13 +1,10 @@
 // Whether students may hold what they hold when a desk opens.
 ghost use Rattle.std.specs.Prelude.{◌≡◌, ◌<◌, ◌≤◌, ◌*◌, ℕ, true, false, All, IfNone, IfSome, IsTrue, length};
 ghost use Rattle.std.specs.List.{list_any};
-ghost use Rattle.market_units.specs.Totals.{total};
-ghost use Rattle.bundle_rules.specs.Bundles.{sections_of};
-ghost use Rattle.bundle_rules.specs.Ordinals.{ordinals};
-ghost use Rattle.market_units.specs.Members.{has};
+ghost use Rattle.market_units.specs.{Members.has, Totals.total};
+ghost use Rattle.bundle_rules.specs.{Bundles.sections_of, Ordinals.ordinals};
 ghost use Rattle.course_catalog.specs.Sections.{section_at, sections_clash};
-ghost use Rattle.dropadd_desk.specs.HallView.{market_of, state_of};
-ghost use Rattle.dropadd_desk.specs.Openings.{IsAllowed};
+ghost use Rattle.dropadd_desk.specs.{HallView.market_of, HallView.state_of, Openings.IsAllowed};
 ghost use Rattle.dropadd_hall.specs.Faults.{IsFaultless, IsFirstFault};
 
 use bundle_rules::Bundle;

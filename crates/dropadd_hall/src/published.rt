@@ -1,9 +1,8 @@
 // The hall of a published text.
 ghost use Rattle.std.specs.Prelude.{◌≤◌, ◌<◌, ◌^◌, ◌-◌, IfErr, IfOk, length};
 ghost use Rattle.certificate_checker.specs.Findings.{OnFound};
-ghost use Rattle.dropadd_hall.specs.Streams.{request_count, request_lists};
 ghost use Rattle.dropadd_hall.specs.Openings.{IsNoOpening};
-ghost use Rattle.dropadd_hall.specs.Told.{IsToldHall};
+ghost use Rattle.dropadd_hall.specs.{Streams.request_count, Streams.request_lists, Told.IsToldHall};
 
 use crate::published_desk::open_desk;
 use crate::{open_hall, put_hall};

@@ -5,8 +5,8 @@ ghost use Rattle.certificate_checker.specs.Findings.{OnFound, end_of};
 ghost use Rattle.dropadd_desk.specs.Halls.{opening};
 ghost use Rattle.held_seats.specs.Floors.{AreBelow};
 ghost use Rattle.market_certificate.specs.Publications.{Publication};
-ghost use Rattle.dropadd_hall.specs.Openings.{IsNoOpening, IsTextOf, TellsFault, finding_of};
 ghost use Rattle.dropadd_hall.specs.Desks.{IsOpenDesk};
+ghost use Rattle.dropadd_hall.specs.Openings.{IsNoOpening, IsTextOf, TellsFault, finding_of};
 
 use crate::{OpeningFault, opening_fault};
 use bundle_rules::Bundle;

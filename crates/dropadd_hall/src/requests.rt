@@ -1,10 +1,9 @@
 // Requests read from lines.
 ghost use Rattle.std.specs.Prelude.{◌≡◌, ◌≢◌, ◌<◌, ◌≤◌, true, false, [], ◌∷◌, Err, IfNone, IfOk, IfSome, OnOk, codes, length};
-ghost use Rattle.market_units.specs.declared.names.Name.{Name};
-ghost use Rattle.market_units.specs.Name.{name_bytes};
-ghost use Rattle.utility_language.specs.declared.streams.StreamEnd.TheVariants.{TooMany};
+ghost use Rattle.market_units.specs.{Name.name_bytes, declared.names.Name.Name};
 ghost use Rattle.utility_language.specs.Commands.{command_lines, is_command};
 ghost use Rattle.utility_language.specs.Words.{words_of};
+ghost use Rattle.utility_language.specs.declared.streams.StreamEnd.TheVariants.{TooMany};
 ghost use Rattle.dropadd_desk.specs.declared.command.HallCommand.{HallCommand};
 ghost use Rattle.dropadd_hall.specs.Requests.{AreRequests, IsRequestOf, Spells};
 

@@ -1,11 +1,8 @@
 // Whether a text is the forced tree of a bundle with a section.
 ghost use Rattle.std.specs.Prelude.{◌≡◌, ◌↔◌, ◌<◌, ◌≤◌, true, All, Some, IsOk, IfErr};
-ghost use Rattle.market_units.specs.Totals.{total};
-ghost use Rattle.bundle_rules.specs.Bundles.{sections_of};
-ghost use Rattle.bundle_rules.specs.Demand.{HasPrices, price_in};
-ghost use Rattle.bundle_rules.specs.Menus.{place_in, wishes_of};
-ghost use Rattle.market_units.specs.Members.{has};
-ghost use Rattle.bundle_rules.specs.Wishes.{IsFeasible};
+ghost use Rattle.market_units.specs.{Members.has, Totals.total};
+ghost use Rattle.bundle_rules.specs.{Bundles.sections_of, Demand.HasPrices, Demand.price_in};
+ghost use Rattle.bundle_rules.specs.{Menus.place_in, Menus.wishes_of, Wishes.IsFeasible};
 ghost use Rattle.proof_tree.specs.Defects.{FirstFailsAt};
 ghost use Rattle.explain_desk.specs.Explanations.{IsProvedWith, offer_of_all};
 

@@ -1,9 +1,8 @@
 // The section of a bundle that stands in the way of another one.
 ghost use Rattle.std.specs.Prelude.{◌≡◌, ◌<◌, ℕ, true, false, IfSome, IfNone, All, length};
-ghost use Rattle.bundle_rules.specs.Menus.{place_in, wishes_of};
-ghost use Rattle.bundle_rules.specs.Ordinals.{ordinals};
-ghost use Rattle.market_units.specs.Members.{has};
+ghost use Rattle.bundle_rules.specs.{Menus.place_in, Menus.wishes_of, Ordinals.ordinals};
 ghost use Rattle.bundle_rules.specs.Sets.{IsAscending};
+ghost use Rattle.market_units.specs.Members.{has};
 ghost use Rattle.explain_desk.specs.Reasons.{ClashesFirst};
 
 use bundle_rules::Menu;

@@ -2,8 +2,7 @@
 ghost use Rattle.std.specs.Prelude.{◌≡◌, ◌<◌, ◌≤◌, All, IfOk, IfSome, IfNone, nat_lt};
 ghost use Rattle.bundle_rules.specs.Bundles.{sections_of};
 ghost use Rattle.bundle_rules.specs.Demand.{HasPrices, IsBest, price_in};
-ghost use Rattle.bundle_rules.specs.Given.{SomeHas};
-ghost use Rattle.bundle_rules.specs.Menus.{wishes_of};
+ghost use Rattle.bundle_rules.specs.{Given.SomeHas, Menus.wishes_of};
 ghost use Rattle.explain_desk.specs.Explanations.{IsExplained, IsProvedWith, offer_of_all};
 ghost use Rattle.explain_desk.specs.Views.{explained_of, offer_in, proved_of};
 

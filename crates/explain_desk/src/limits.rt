@@ -1,10 +1,8 @@
 // The limits that sections can pass together.
 ghost use Rattle.std.specs.Prelude.{◌≡◌, ◌<◌, ◌≤◌, ◌*◌, ◌∷◌, IfSome, IfNone, All, length};
 ghost use Rattle.market_units.specs.Totals.{total};
-ghost use Rattle.bundle_rules.specs.Bundles.{sections_of};
-ghost use Rattle.bundle_rules.specs.Demand.{price_in};
-ghost use Rattle.bundle_rules.specs.Menus.{place_in, wishes_of};
-ghost use Rattle.bundle_rules.specs.Ordinals.{ordinals};
+ghost use Rattle.bundle_rules.specs.{Bundles.sections_of, Demand.price_in};
+ghost use Rattle.bundle_rules.specs.{Menus.place_in, Menus.wishes_of, Ordinals.ordinals};
 ghost use Rattle.bundle_rules.specs.Wishes.{AllRated};
 ghost use Rattle.explain_desk.specs.Limits.{Passes, PassesFirst};
 ghost use Rattle.explain_desk.specs.declared.limits.Limit.{Limit};

@@ -1,8 +1,7 @@
 // The reason of a student's published bundle.
 ghost use Rattle.std.specs.Prelude.{◌<◌, ◌^◌, ◌-◌, IfOk, IfErr, length, map};
 ghost use Rattle.published_parts.specs.Views.{market_in};
-ghost use Rattle.certificate_checker.specs.Findings.{OnFound};
-ghost use Rattle.certificate_checker.specs.Refusals.{IsRefused};
+ghost use Rattle.certificate_checker.specs.{Findings.OnFound, Refusals.IsRefused};
 ghost use Rattle.explain_desk.specs.Told.{IsToldOf};
 
 use crate::{explain, put_explained};

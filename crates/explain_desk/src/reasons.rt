@@ -1,8 +1,6 @@
 // Why a student does not have a section.
 ghost use Rattle.std.specs.Prelude.{◌≡◌};
-ghost use Rattle.bundle_rules.specs.Bundles.{sections_of};
-ghost use Rattle.bundle_rules.specs.Demand.{price_in};
-ghost use Rattle.bundle_rules.specs.Menus.{wishes_of};
+ghost use Rattle.bundle_rules.specs.{Bundles.sections_of, Demand.price_in, Menus.wishes_of};
 ghost use Rattle.bundle_rules.specs.Wishes.{IsFeasible};
 ghost use Rattle.explain_desk.specs.Reasons.{IsReason, tells_best};
 

@@ -1,9 +1,7 @@
 // The text of an explanation.
 ghost use Rattle.std.specs.Prelude.{◌≡◌, ◌<◌, ◌++◌, All, IfOk, IfSome, OnOk, Some, length, option_map};
 ghost use Rattle.market_units.specs.Name.{name_bytes};
-ghost use Rattle.bundle_rules.specs.Bundles.{sections_of};
-ghost use Rattle.bundle_rules.specs.Menus.{wishes_of};
-ghost use Rattle.bundle_rules.specs.Wishes.{AllRated};
+ghost use Rattle.bundle_rules.specs.{Bundles.sections_of, Menus.wishes_of, Wishes.AllRated};
 ghost use Rattle.market_certificate.specs.Lines.{joined};
 ghost use Rattle.course_catalog.specs.Sections.{section_names};
 ghost use Rattle.explain_desk.specs.Texts.{best_lines, explained_text, NamesBelow};

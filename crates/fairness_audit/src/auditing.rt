@@ -2,12 +2,9 @@
 ghost use Rattle.std.specs.Prelude.{◌≡◌, ◌≤◌, ◌<◌, ℕ, All, IfOk, length, map, slice_index_or};
 ghost use Rattle.std.specs.Vec.{vec_len};
 ghost use Rattle.std.specs.Arc.{arc_value};
-ghost use Rattle.task_board.specs.Kept.{AreSettled};
-ghost use Rattle.task_board.specs.Seats.{IsFinished, IsFree};
+ghost use Rattle.task_board.specs.{Kept.AreSettled, Seats.IsFinished, Seats.IsFree};
 ghost use Rattle.fairness_audit.specs.Allocations.{IsAllocation, allocation_of, student_count};
-ghost use Rattle.fairness_audit.specs.Asked.{audit_rules};
-ghost use Rattle.fairness_audit.specs.Rows.{row, rows};
-ghost use Rattle.fairness_audit.specs.Texts.{AreRowsAmong};
+ghost use Rattle.fairness_audit.specs.{Asked.audit_rules, Rows.row, Rows.rows, Texts.AreRowsAmong};
 ghost use Rattle.fairness_audit.specs.Views.{row_of};
 
 use crate::row::EnvyRow;

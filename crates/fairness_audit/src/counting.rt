@@ -1,8 +1,7 @@
 // The row of one student.
 ghost use Rattle.std.specs.Prelude.{◌≡◌, ◌<◌, length};
 ghost use Rattle.fairness_audit.specs.Allocations.{IsAllocation, allocation_of};
-ghost use Rattle.fairness_audit.specs.Rows.{row};
-ghost use Rattle.fairness_audit.specs.Views.{row_of};
+ghost use Rattle.fairness_audit.specs.{Rows.row, Views.row_of};
 
 use crate::row::EnvyRow;
 use crate::sight::sight;

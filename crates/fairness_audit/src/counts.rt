@@ -1,9 +1,7 @@
 // The counts of rows, added up.
 ghost use Rattle.std.specs.Prelude.{◌≡◌, ◌≤◌, ◌+◌, ◌*◌, All, length, map};
 ghost use Rattle.market_units.specs.Totals.{total};
-ghost use Rattle.fairness_audit.specs.Rows.{RowData};
-ghost use Rattle.fairness_audit.specs.Texts.{IsRowAmong};
-ghost use Rattle.fairness_audit.specs.Views.{row_of};
+ghost use Rattle.fairness_audit.specs.{Rows.RowData, Texts.IsRowAmong, Views.row_of};
 
 use crate::row::EnvyRow;
 use market_units::MAX_STUDENTS;

@@ -3,17 +3,12 @@ ghost use Rattle.std.specs.Prelude.{◌≡◌, ◌≤◌, ◌<◌, ◌^◌, ◌-
 ghost use Rattle.std.specs.Arc.{arc_value};
 ghost use Rattle.bundle_rules.specs.Bundles.{sections_of};
 ghost use Rattle.fairness_audit.specs.Allocations.{IsAllocation, allocation_of};
-ghost use Rattle.fairness_audit.specs.Rows.{rows};
-ghost use Rattle.fairness_audit.specs.Texts.{AreRowsAmong};
-ghost use Rattle.fairness_audit.specs.Views.{row_of};
+ghost use Rattle.fairness_audit.specs.{Audits.IsAuditOf, Audits.IsAudited, Checked.IsChecked};
+ghost use Rattle.fairness_audit.specs.{Rows.rows, Texts.AreRowsAmong, Views.row_of};
 ghost use Rattle.market_certificate.specs.Views.{publication_of};
-ghost use Rattle.published_parts.specs.Holdings.{demanded};
-ghost use Rattle.published_parts.specs.Views.{market_in};
-ghost use Rattle.certificate_checker.specs.Findings.{OnFound};
-ghost use Rattle.certificate_checker.specs.Refusals.{IsRefused};
+ghost use Rattle.published_parts.specs.{Holdings.demanded, Views.market_in};
+ghost use Rattle.certificate_checker.specs.{Findings.OnFound, Refusals.IsRefused};
 ghost use Rattle.demand_api.specs.Views.{data_of};
-ghost use Rattle.fairness_audit.specs.Audits.{IsAuditOf, IsAudited};
-ghost use Rattle.fairness_audit.specs.Checked.{IsChecked};
 
 use crate::{EnvyRow, audit, put_rows};
 use bundle_rules::Bundle;

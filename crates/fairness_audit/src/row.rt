@@ -1,7 +1,7 @@
 // What an audit tells of a student.
 ghost use Rattle.std.specs.Prelude.{◌≡◌, ◌≤◌};
-ghost use Rattle.fairness_audit.specs.Views.{row_of, seen_of};
 ghost use Rattle.fairness_audit.specs.Tallies.{no_envy, with_sight};
+ghost use Rattle.fairness_audit.specs.Views.{row_of, seen_of};
 
 use bundle_rules::Bundle;
 use market_units::{MAX_STUDENTS, SectionNo, StudentNo};

@@ -1,16 +1,11 @@
 // What a student sees in the bundle of another.
 ghost use Rattle.std.specs.Prelude.{◌≡◌, ◌≤◌, ◌<◌, ◌+◌, ◌++◌, ◌∷◌, [], All, IfNone, IfSome, IsTrue, length, option_map, true};
 ghost use Rattle.market_units.specs.declared.units.SectionNo.{SectionNo};
-ghost use Rattle.bundle_rules.specs.Bundles.{sections_of};
-ghost use Rattle.bundle_rules.specs.Menus.{wishes_of};
+ghost use Rattle.bundle_rules.specs.{Bundles.sections_of, Menus.wishes_of};
 ghost use Rattle.bundle_rules.specs.Ordinals.{ordinals, IsBundle};
-ghost use Rattle.bundle_rules.specs.Sets.{IsAscending, without_section};
-ghost use Rattle.bundle_rules.specs.Wishes.{IsFeasible};
-ghost use Rattle.fairness_audit.specs.Envy.{ended_by, is_more, seen};
-ghost use Rattle.fairness_audit.specs.Rows.{envied};
-ghost use Rattle.fairness_audit.specs.Searching.{IsBestOfThese};
-ghost use Rattle.fairness_audit.specs.Views.{seen_of};
-ghost use Rattle.fairness_audit.specs.Weights.{AreWeights};
+ghost use Rattle.bundle_rules.specs.{Sets.IsAscending, Sets.without_section, Wishes.IsFeasible};
+ghost use Rattle.fairness_audit.specs.{Envy.ended_by, Envy.is_more, Envy.seen, Rows.envied};
+ghost use Rattle.fairness_audit.specs.{Searching.IsBestOfThese, Views.seen_of, Weights.AreWeights};
 
 use crate::row::Seen;
 use crate::weights::{Weights, may_be_more};

@@ -5,8 +5,8 @@ ghost use Rattle.bundle_rules.specs.Bundles.{sections_of};
 ghost use Rattle.bundle_rules.specs.Menus.{IsMenu, adjustment_in, wishes_of};
 ghost use Rattle.bundle_rules.specs.Ordinals.{ordinals};
 ghost use Rattle.fairness_audit.specs.Envy.{is_more};
-ghost use Rattle.bundle_bounds.specs.Opens.{above_zero};
 ghost use Rattle.fairness_audit.specs.Weights.{AreWeights, gains, weight_at};
+ghost use Rattle.bundle_bounds.specs.Opens.{above_zero};
 
 use bundle_rules::{Bundle, Menu};
 use market_units::{MAX_ADJUSTMENT, MAX_COURSES, MAX_SECTIONS, SectionNo};

@@ -2,8 +2,7 @@
 ghost use Rattle.std.specs.Prelude.{◌≡◌, ◌<◌, ◌≤◌, ◌||◌, ℕ, IfOk, All, length, map, nat_lt, slice_index, if◌then◌else◌};
 ghost use Rattle.std.specs.FinSet as set;
 ghost use Rattle.market_units.specs.Members.{has};
-ghost use Rattle.bundle_rules.specs.Ordinals.{ordinals};
-ghost use Rattle.bundle_rules.specs.Bundles.{sections_of};
+ghost use Rattle.bundle_rules.specs.{Bundles.sections_of, Ordinals.ordinals};
 ghost use Rattle.demand_api.specs.Counting.{AreCounts};
 ghost use Rattle.held_seats.specs.Floors.{AreBelow};
 

@@ -3,13 +3,11 @@ ghost use Rattle.std.specs.Prelude.{◌≡◌, ◌≤◌, Vec, IfOk, map};
 ghost use Rattle.std.proofs.Common.{Global};
 ghost use Rattle.std.specs.List.{AllZip};
 ghost use Rattle.std.specs.Vec.{vec_len};
-ghost use Rattle.made_run.specs.Settings.{made_settings};
+ghost use Rattle.made_run.specs.{Settings.made_settings, Streams.session_texts};
 ghost use Rattle.made_run.specs.Tables.{made_catalog, made_roll};
-ghost use Rattle.made_run.specs.Streams.{session_texts};
 ghost use Rattle.market_units.specs.Totals.{total};
 ghost use Rattle.market_settings.specs.Settings.{AreInRange};
-ghost use Rattle.utility_language.specs.declared.commands.Command.{Command};
-ghost use Rattle.utility_language.specs.Commands.{AreCommands};
+ghost use Rattle.utility_language.specs.{Commands.AreCommands, declared.commands.Command.Command};
 
 use crate::numbers::Numbers;
 use crate::reading::{catalog_in, roll_in, settings_in, streams_in};

@@ -3,15 +3,13 @@ ghost use Rattle.std.specs.Prelude.{◌≡◌, ◌≤◌, ◌<◌, ◌+◌, ◌-
 ghost use Rattle.std.proofs.Common.{Global};
 ghost use Rattle.std.specs.List.{AllZip};
 ghost use Rattle.std.specs.Vec.{vec_len};
-ghost use Rattle.course_catalog.specs.Catalog.{CatalogData};
-ghost use Rattle.course_catalog.specs.Reading.{catalog_of};
+ghost use Rattle.course_catalog.specs.{Catalog.CatalogData, Reading.catalog_of};
 ghost use Rattle.market_units.specs.Totals.{total};
-ghost use Rattle.market_settings.specs.declared.reader.Settings.{Settings};
 ghost use Rattle.market_settings.specs.Settings.{AreInRange, settings_of};
-ghost use Rattle.student_roll.specs.Rolls.{roll_of};
-ghost use Rattle.student_roll.specs.Students.{RollData};
-ghost use Rattle.utility_language.specs.declared.commands.Command.{Command};
+ghost use Rattle.market_settings.specs.declared.reader.Settings.{Settings};
+ghost use Rattle.student_roll.specs.{Rolls.roll_of, Students.RollData};
 ghost use Rattle.utility_language.specs.Commands.{AreCommands, command_lines};
+ghost use Rattle.utility_language.specs.declared.commands.Command.{Command};
 
 use course_catalog::{Catalog, CatalogRefusal, read_catalog};
 use market_settings::{Settings, SettingsRefusal, read_settings};

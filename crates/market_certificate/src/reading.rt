@@ -3,8 +3,7 @@ ghost use Rattle.std.specs.Prelude.{◌≡◌, ◌<◌, ◌-◌, ◌^◌, ℕ, L
 ghost use Rattle.bundle_rules.specs.Bundles.{sections_of};
 ghost use Rattle.market_certificate.specs.Due.{AreDue, AreOutcome, ArePrices, Due, outcome_due, prices_due};
 ghost use Rattle.market_certificate.specs.Finding.{Finds, OnDefect};
-ghost use Rattle.market_certificate.specs.Publications.{IsPublication};
-ghost use Rattle.market_certificate.specs.Tables.{tables_of};
+ghost use Rattle.market_certificate.specs.{Publications.IsPublication, Tables.tables_of};
 ghost use Rattle.market_certificate.specs.Texts.{ArePublished, IsPublished, text_of};
 ghost use Rattle.market_certificate.specs.Views.{proved_of, publication_of, seen, turn_of};
 ghost use Rattle.market_certificate.specs.declared.refusals.LineFault.{LineFault};

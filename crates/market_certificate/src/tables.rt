@@ -2,9 +2,8 @@
 ghost use Rattle.std.specs.Prelude.{◌≡◌, ◌≢◌, ◌<◌, ℕ, IfOk, IfSome, IfNone, length, map};
 ghost use Rattle.std.proofs.Props.{props};
 ghost use Rattle.market_units.specs.Name.{name_bytes};
-ghost use Rattle.course_catalog.specs.Catalog.{IsCatalog};
+ghost use Rattle.course_catalog.specs.{Catalog.IsCatalog, Sections.section_names};
 ghost use Rattle.student_roll.specs.Students.{IsRoll, names_of};
-ghost use Rattle.course_catalog.specs.Sections.{section_names};
 ghost use Rattle.market_certificate.specs.Tables.{AreTables, name_at, tables_of};
 
 use course_catalog::Catalog;

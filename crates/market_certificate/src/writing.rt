@@ -1,9 +1,7 @@
 // A publication written as its text.
 ghost use Rattle.std.specs.Prelude.{◌≡◌, IfOk};
-ghost use Rattle.market_certificate.specs.Publications.{IsPublication};
-ghost use Rattle.market_certificate.specs.Tables.{tables_of};
-ghost use Rattle.market_certificate.specs.Texts.{text_of};
-ghost use Rattle.market_certificate.specs.Views.{publication_of};
+ghost use Rattle.market_certificate.specs.{Publications.IsPublication, Tables.tables_of};
+ghost use Rattle.market_certificate.specs.{Texts.text_of, Views.publication_of};
 
 mod blocks;
 mod fields;

@@ -1,10 +1,9 @@
 // Real files. What they hold is not told: this is the trusted edge.
 ghost use Rattle.std.specs.Prelude.{◌≡◌, ◌<◌, ◌≤◌, None, List, ℕ, false, length, is_some, IsTrue, IfOk, OnOk, OnErr};
 ghost use Rattle.std.specs.Io.KnownBytes.{ReadConsumes};
+ghost use Rattle.market_edge.specs.{Faults.Rose, Holdings.Begins};
 ghost use Rattle.market_edge.specs.Openings.{Changes, as_before, with_begun, with_end};
 ghost use Rattle.market_units.specs.Counts.{one_more};
-ghost use Rattle.market_edge.specs.Faults.{Rose};
-ghost use Rattle.market_edge.specs.Holdings.{Begins};
 
 use crate::{Failed, Shelf};
 use std::fs;

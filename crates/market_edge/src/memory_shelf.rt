@@ -2,11 +2,10 @@
 ghost use Rattle.std.specs.Prelude.{◌≡◌, ◌<◌, ◌≤◌, ◌+◌, ◌⊎◌, ◌++◌, ◌↔◌, [], Some, List, ℕ, Bool, false, length, take, drop, min, is_some, IsTrue, IsNone, IsErr, Contains, IfOk, OnOk, OnErr};
 ghost use Rattle.std.specs.Io.KnownBytes.{ReadConsumes};
 ghost use Rattle.std.specs.Option.{ForSome};
+ghost use Rattle.market_edge.specs.{Faults.Rose, Holdings.Begins};
+ghost use Rattle.market_edge.specs.MemoryFiles.{IsPlace, Raises, count_of, has_place_of, holding_of, left_of, place_of, serves_name};
 ghost use Rattle.market_edge.specs.Openings.{Changes, as_before, with_begun, with_end};
 ghost use Rattle.market_units.specs.Counts.{one_more};
-ghost use Rattle.market_edge.specs.Faults.{Rose};
-ghost use Rattle.market_edge.specs.Holdings.{Begins};
-ghost use Rattle.market_edge.specs.MemoryFiles.{IsPlace, Raises, count_of, has_place_of, holding_of, left_of, place_of, serves_name};
 
 use crate::begun_list::BegunList;
 use crate::memory_files::{Place, find, put_rest};

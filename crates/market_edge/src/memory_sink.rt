@@ -1,8 +1,7 @@
 // A sink in memory, for tests.
 ghost use Rattle.std.specs.Prelude.{◌≡◌, ◌<◌, ◌≤◌, ◌⊎◌, ◌↔◌, ◌-◌, [], Some, length, take, min, IfOk, OnOk, OnErr, IsErr, IsTrue, Contains, vec_capacity};
 ghost use Rattle.market_units.specs.Counts.{one_more};
-ghost use Rattle.market_edge.specs.Faults.{Rose};
-ghost use Rattle.market_edge.specs.Sinks.{Takes};
+ghost use Rattle.market_edge.specs.{Faults.Rose, Sinks.Takes};
 
 use crate::{Failed, Sink};
 use market_units::NoMemory;

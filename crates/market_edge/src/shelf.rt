@@ -1,8 +1,7 @@
 // Texts by name, each read from its first byte on.
 ghost use Rattle.std.specs.Prelude.{◌≡◌, ◌<◌, ◌≤◌, Bool, false, List, ℕ, Option, Result, length, IsTrue, IfOk, OnOk, OnErr};
 ghost use Rattle.std.specs.Io.KnownBytes.{ReadConsumes};
-ghost use Rattle.market_edge.specs.Faults.{Rose};
-ghost use Rattle.market_edge.specs.Holdings.{Holding, Begins};
+ghost use Rattle.market_edge.specs.{Faults.Rose, Holdings.Holding, Holdings.Begins};
 ghost use Rattle.market_edge.specs.Openings.{Opening, Changes, as_before, with_begun, with_end};
 
 /// The outside did not do what was asked of it. The fault is counted where it came from.

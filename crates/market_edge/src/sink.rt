@@ -1,7 +1,6 @@
 // Where texts are written to.
 ghost use Rattle.std.specs.Prelude.{◌≡◌, ◌<◌, ◌≤◌, [], List, ℕ, Option, Result, length, take, IfOk, OnOk, OnErr};
-ghost use Rattle.market_edge.specs.Faults.{Rose};
-ghost use Rattle.market_edge.specs.Sinks.{Takes};
+ghost use Rattle.market_edge.specs.{Faults.Rose, Sinks.Takes};
 
 use crate::Failed;
 

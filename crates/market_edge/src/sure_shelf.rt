@@ -2,10 +2,9 @@
 ghost use Rattle.std.specs.Prelude.{◌≡◌, ◌<◌, ◌≤◌, Some, None, List, ℕ, false, length, IsTrue, IsOk, IfOk, OnOk, OnErr};
 ghost use Rattle.std.specs.Io.KnownBytes.{ReadConsumes};
 ghost use Rattle.std.specs.Option.{ForSome};
-ghost use Rattle.market_edge.specs.Openings.{Changes, as_before, with_begun, with_end};
-ghost use Rattle.market_edge.specs.Faults.{Rose};
-ghost use Rattle.market_edge.specs.Holdings.{Begins};
+ghost use Rattle.market_edge.specs.{Faults.Rose, Holdings.Begins};
 ghost use Rattle.market_edge.specs.MemoryFiles.{IsPlace, has_place_of};
+ghost use Rattle.market_edge.specs.Openings.{Changes, as_before, with_begun, with_end};
 ghost use Rattle.market_edge.specs.SureFiles.{place_of_begun, sure_holding};
 
 use crate::memory_files::{Place, find, put_rest};

@@ -1,7 +1,6 @@
 // A sink in memory that never fails.
 ghost use Rattle.std.specs.Prelude.{◌≡◌, ◌<◌, ◌≤◌, ◌+◌, ◌^◌, ◌-◌, ◌↔◌, [], Some, None, length, take, min, IfOk, OnOk, OnErr, IsOk, IsNone, IfSome, IfNone, vec_capacity};
-ghost use Rattle.market_edge.specs.Faults.{Rose};
-ghost use Rattle.market_edge.specs.Sinks.{Takes, told_within};
+ghost use Rattle.market_edge.specs.{Faults.Rose, Sinks.Takes, Sinks.told_within};
 
 use crate::{Failed, Sink};
 use market_units::NoMemory;

@@ -1,10 +1,10 @@
 // Whole texts, in and out.
 ghost use Rattle.std.specs.Prelude.{◌≡◌, ◌+◌, ◌<◌, ◌≤◌, [], ◌∷◌, List, ℕ, length, IsTrue, IfOk, OnOk, OnErr, IsErrOf};
-ghost use Rattle.market_edge.specs.declared.whole_text.Taking.TheVariants.{ShelfFault, NoMemory};
 ghost use Rattle.market_edge.specs.Faults.{Rose};
 ghost use Rattle.market_edge.specs.Holdings.{IsReadOut, IsTextOf, TakesAtMost, TakesExactly};
 ghost use Rattle.market_edge.specs.Openings.{BeginsAtMost, Changes, with_read_out};
 ghost use Rattle.market_edge.specs.Sinks.{Takes, TakesFront};
+ghost use Rattle.market_edge.specs.declared.whole_text.Taking.TheVariants.{ShelfFault, NoMemory};
 
 use crate::{Failed, Shelf, Sink};
 use market_units::MAX_TEXT_BYTES;

@@ -1,10 +1,8 @@
 // The catalogue of a call.
 ghost use Rattle.std.specs.Prelude.{◌≡◌, Ok, refl, ⊤};
-ghost use Rattle.course_catalog.specs.Reading.{catalog_of};
-ghost use Rattle.course_catalog.specs.Refusal.{TellsRefusal};
+ghost use Rattle.course_catalog.specs.{Reading.catalog_of, Refusal.TellsRefusal};
 ghost use Rattle.market_host.specs.Kinds as kinds;
-ghost use Rattle.market_host.specs.Reading.{IsRefusal};
-ghost use Rattle.market_host.specs.Refusals.{IsNoCatalog};
+ghost use Rattle.market_host.specs.{Reading.IsRefusal, Refusals.IsNoCatalog};
 
 use crate::Cause;
 use crate::input::Input;

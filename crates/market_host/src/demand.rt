@@ -1,17 +1,14 @@
 // What the students take at given prices.
 ghost use Rattle.std.specs.Prelude.{◌≡◌, ◌≤◌, List, ℕ, length, map, IfOk};
-ghost use Rattle.demand_api.specs.Views.{data_of};
-ghost use Rattle.demand_api.specs.Crowds.{CrowdData};
+ghost use Rattle.demand_api.specs.{Crowds.CrowdData, Views.data_of};
 ghost use Rattle.demand_text.specs.Taken.{IsTakenBy, taken_at};
 ghost use Rattle.demand_text.specs.Texts as texts;
 ghost use Rattle.market_host.specs.Works.{AreNamesOf, IsAnswer, names_in};
 ghost use Rattle.market_settings.specs.Settings.{AreInRange};
 ghost use Rattle.market_words.specs.Forms.{AreWorkers};
 ghost use Rattle.preference_desk.specs.Journals.{IsLegalJournal, MergesStreams};
-ghost use Rattle.preference_desk.specs.MarketNames.{market_names};
-ghost use Rattle.preference_desk.specs.declared.entry.Entry.{Entry};
-ghost use Rattle.published_parts.specs.Crowds.{IsCrowdIn};
-ghost use Rattle.published_parts.specs.Markets.{market_of};
+ghost use Rattle.preference_desk.specs.{MarketNames.market_names, declared.entry.Entry.Entry};
+ghost use Rattle.published_parts.specs.{Crowds.IsCrowdIn, Markets.market_of};
 ghost use Rattle.session_hall.specs.Streams.{command_count, command_lists};
 
 use crate::Status;

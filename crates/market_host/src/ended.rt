@@ -1,7 +1,6 @@
 // How a call ends whose inputs are in order.
 ghost use Rattle.std.specs.Prelude.{◌≡◌, IfErr, IfOk};
-ghost use Rattle.certificate_checker.specs.Findings.{OnFound};
-ghost use Rattle.certificate_checker.specs.Words.{IsNamedIn};
+ghost use Rattle.certificate_checker.specs.{Findings.OnFound, Words.IsNamedIn};
 ghost use Rattle.market_certificate.specs.Tables.{tables_of};
 ghost use Rattle.market_host.specs.Endings.{IsToldEnd, bytes_of};
 

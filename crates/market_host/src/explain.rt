@@ -4,9 +4,7 @@ ghost use Rattle.market_settings.specs.Settings.{AreInRange};
 ghost use Rattle.market_units.specs.Name.{name_bytes};
 ghost use Rattle.published_parts.specs.Markets.{market_of};
 ghost use Rattle.session_hall.specs.Streams.{command_lists};
-ghost use Rattle.market_host.specs.Endings.{bytes_of};
-ghost use Rattle.market_host.specs.Explains.{IsReasonEnd};
-ghost use Rattle.market_host.specs.Lines.{unknown_line};
+ghost use Rattle.market_host.specs.{Endings.bytes_of, Explains.IsReasonEnd, Lines.unknown_line};
 ghost use Rattle.market_host.specs.Works.{AreNamesOf, IsAnswer, names_in};
 
 use crate::Status;

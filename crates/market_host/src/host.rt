@@ -1,13 +1,10 @@
 // From the words to the status, and from the inputs to the output.
 ghost use Rattle.std.specs.Prelude.{◌≡◌, ◌≢◌, ◌≤◌, List, ℕ, map};
 ghost use Rattle.std.specs.String.{string_bytes};
-ghost use Rattle.market_edge.specs.Faults.{Rose};
-ghost use Rattle.market_edge.specs.Sinks.{Takes, TakesFront};
+ghost use Rattle.market_edge.specs.{Faults.Rose, Sinks.Takes, Sinks.TakesFront};
 ghost use Rattle.market_words.specs.Forms.{HasForm, inputs_of};
 ghost use Rattle.market_host.specs.Answers.{IsAnswered, IsWordless};
-ghost use Rattle.market_host.specs.Sights.{sight, writing};
-ghost use Rattle.market_host.specs.Traces.{trace};
-ghost use Rattle.market_host.specs.Works.{IsAnswer};
+ghost use Rattle.market_host.specs.{Sights.sight, Sights.writing, Traces.trace, Works.IsAnswer};
 
 use crate::Status;
 use crate::audit::audit;

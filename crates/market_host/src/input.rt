@@ -1,11 +1,8 @@
 // One input of a call that is read by itself.
 ghost use Rattle.std.specs.Prelude.{◌≡◌, ◌<◌, ◌-◌, ◌^◌, List, ℕ, length, IfOk, IfErr, ⊤};
 ghost use Rattle.market_units.specs.declared.limits.TheConstants.{MAX_INPUT_BYTES};
-ghost use Rattle.market_host.specs.declared.cause.Cause.{Cause};
-ghost use Rattle.market_host.specs.Inputs.{HasFault};
-ghost use Rattle.market_host.specs.Kinds.{Kind, limit_of};
-ghost use Rattle.market_host.specs.Reading.{IsRefusal};
-ghost use Rattle.market_host.specs.Taking.{Takes};
+ghost use Rattle.market_host.specs.{Inputs.HasFault, Kinds.Kind, Kinds.limit_of, Reading.IsRefusal};
+ghost use Rattle.market_host.specs.{Taking.Takes, declared.cause.Cause.Cause};
 
 use crate::inputs::read_input;
 use crate::trouble::Trouble;

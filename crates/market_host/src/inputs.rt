@@ -1,11 +1,8 @@
 // The inputs of a call, each read whole.
 ghost use Rattle.std.specs.Prelude.{◌≡◌, ◌≤◌, List, ℕ, length, IfOk, OnOk, IfErr, [], ◌∷◌};
 ghost use Rattle.market_edge.specs.Holdings.{IsTextOf};
-ghost use Rattle.market_host.specs.Marks.{without_mark};
-ghost use Rattle.market_host.specs.Reading.{IsUnread};
-ghost use Rattle.market_host.specs.Sights.{sight};
-ghost use Rattle.market_host.specs.Traces.{Uses, trace};
-ghost use Rattle.market_host.specs.Troubles.{IsAtEnd};
+ghost use Rattle.market_host.specs.{Marks.without_mark, Reading.IsUnread, Sights.sight};
+ghost use Rattle.market_host.specs.{Traces.Uses, Traces.trace, Troubles.IsAtEnd};
 
 use crate::trouble::Trouble;
 use market_edge::{Shelf, Taking, read_whole};

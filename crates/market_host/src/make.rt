@@ -1,7 +1,6 @@
 // The summary of a made market.
 ghost use Rattle.std.specs.Prelude.{List, ℕ, [], IfOk};
-ghost use Rattle.market_host.specs.Endings.{bytes_of};
-ghost use Rattle.market_host.specs.Works.{Ends};
+ghost use Rattle.market_host.specs.{Endings.bytes_of, Works.Ends};
 ghost use Rattle.market_words.specs.Forms.{HasForm};
 
 use crate::Status;

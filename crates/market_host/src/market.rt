@@ -3,8 +3,7 @@ ghost use Rattle.std.specs.Prelude.{[], ◌∷◌, IfOk};
 ghost use Rattle.market_settings.specs.Settings.{AreInRange};
 ghost use Rattle.published_parts.specs.Markets.{market_of};
 ghost use Rattle.market_host.specs.Kinds as kind;
-ghost use Rattle.market_host.specs.Markets.{AreMarket};
-ghost use Rattle.market_host.specs.Taking.{TakesFirst};
+ghost use Rattle.market_host.specs.{Markets.AreMarket, Taking.TakesFirst};
 
 use crate::input::take_input;
 use crate::tables::{Tables, take_tables};

@@ -2,10 +2,8 @@
 ghost use Rattle.std.specs.Prelude.{◌≡◌, ◌≢◌, ◌<◌, ◌-◌, ◌^◌, Ok, Err, IfOk, IfErr, length, map};
 ghost use Rattle.price_sheet.specs.Sheets.{prices_of};
 ghost use Rattle.market_host.specs.Kinds as kind;
-ghost use Rattle.market_host.specs.Inputs.{BeginWithCatalog};
-ghost use Rattle.market_host.specs.Reading.{IsRefusal};
-ghost use Rattle.market_host.specs.Refusals.{AreNoPrices};
-ghost use Rattle.market_host.specs.Taking.{Takes};
+ghost use Rattle.market_host.specs.{Inputs.BeginWithCatalog, Reading.IsRefusal};
+ghost use Rattle.market_host.specs.{Refusals.AreNoPrices, Taking.Takes};
 
 use crate::Cause;
 use crate::inputs::read_input;

@@ -2,8 +2,7 @@
 ghost use Rattle.std.specs.Prelude.{◌≡◌, ◌≤◌, List, ℕ, drop, IfOk};
 ghost use Rattle.std.specs.Process.{exit_status};
 ghost use Rattle.std.specs.Vec.Iter.{into_iter_items};
-ghost use Rattle.market_host.specs.Programs.{EndsProcess, words_given};
-ghost use Rattle.market_host.specs.Sights.{writing};
+ghost use Rattle.market_host.specs.{Programs.EndsProcess, Programs.words_given, Sights.writing};
 ghost use Rattle.market_host.specs.Statuses.{number_of};
 
 use crate::Status;

@@ -4,10 +4,8 @@ ghost use Rattle.market_settings.specs.Settings.{AreInRange};
 ghost use Rattle.published_parts.specs.Markets.{market_of};
 ghost use Rattle.session_hall.specs.Streams.{command_lists};
 ghost use Rattle.market_host.specs.Kinds as kind;
-ghost use Rattle.market_host.specs.Kinds.{OpensPublished};
-ghost use Rattle.market_host.specs.Markets.{AreInputs};
-ghost use Rattle.market_host.specs.Taking.{Takes, TakesAll};
-ghost use Rattle.market_host.specs.Works.{names_in};
+ghost use Rattle.market_host.specs.{Kinds.OpensPublished, Markets.AreInputs};
+ghost use Rattle.market_host.specs.{Taking.Takes, Taking.TakesAll, Works.names_in};
 
 use crate::inputs::read_input;
 use crate::market::{Market, take_market};

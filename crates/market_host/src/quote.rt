@@ -1,8 +1,6 @@
 // One student's best bundle at zero prices.
 ghost use Rattle.std.specs.Prelude.{◌≡◌, ◌≤◌, List, ℕ, length, nat_lt, IfOk};
-ghost use Rattle.bundle_rules.specs.Bundles.{sections_of};
-ghost use Rattle.bundle_rules.specs.Demand.{IsBest};
-ghost use Rattle.bundle_rules.specs.Menus.{wishes_of};
+ghost use Rattle.bundle_rules.specs.{Bundles.sections_of, Demand.IsBest, Menus.wishes_of};
 ghost use Rattle.market_host.specs.Quotes.{IsQuote, state_of_new_desk};
 ghost use Rattle.market_host.specs.Works.{AreNamesOf, IsAnswer, names_in};
 ghost use Rattle.market_units.specs.Name.{name_bytes};

@@ -2,8 +2,7 @@
 ghost use Rattle.std.specs.Prelude.{◌≡◌, ◌≢◌, Ok, Err, refl, ⊤};
 ghost use Rattle.student_roll.specs.Rolls.{roll_of};
 ghost use Rattle.market_host.specs.Kinds as kinds;
-ghost use Rattle.market_host.specs.Reading.{IsRefusal};
-ghost use Rattle.market_host.specs.Refusals.{IsNoRoll};
+ghost use Rattle.market_host.specs.{Reading.IsRefusal, Refusals.IsNoRoll};
 
 use crate::Cause;
 use crate::input::Input;

@@ -1,7 +1,6 @@
 // What a market publishes.
 ghost use Rattle.std.specs.Prelude.{◌≡◌, ◌≤◌, ◌++◌, List, ℕ, [], length, IfOk};
-ghost use Rattle.market_host.specs.Endings.{bytes_of};
-ghost use Rattle.market_host.specs.Lines.{no_prices_line};
+ghost use Rattle.market_host.specs.{Endings.bytes_of, Lines.no_prices_line};
 ghost use Rattle.market_host.specs.Works.{AreNamesOf, EndsFor, IsAnswer, names_in};
 ghost use Rattle.market_settings.specs.Settings.{AreInRange};
 ghost use Rattle.market_words.specs.Forms.{AreWorkers};

@@ -4,10 +4,8 @@ ghost use Rattle.std.specs.List.{AllZip};
 ghost use Rattle.utility_language.specs.Commands.{command_lines};
 ghost use Rattle.market_host.specs.Kinds.{Session};
 ghost use Rattle.market_host.specs.Reading.{IsRead, IsSurplus, IsTroubleOfSession};
-ghost use Rattle.market_host.specs.Sights.{sight};
-ghost use Rattle.market_host.specs.Traces.{Uses, trace};
-ghost use Rattle.market_host.specs.Sessions.{command_count, session_text};
-ghost use Rattle.market_host.specs.Troubles.{IsAtEnd};
+ghost use Rattle.market_host.specs.{Sessions.command_count, Sessions.session_text, Sights.sight};
+ghost use Rattle.market_host.specs.{Traces.Uses, Traces.trace, Troubles.IsAtEnd};
 
 use crate::inputs::{read_input, without_mark};
 use crate::stream_item::StreamItem;

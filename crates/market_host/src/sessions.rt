@@ -3,8 +3,7 @@ ghost use Rattle.std.specs.Prelude.{◌≡◌, ◌≤◌, ◌+◌, List, ℕ, le
 ghost use Rattle.std.specs.String.{string_bytes};
 ghost use Rattle.market_host.specs.Outcomes.{IsLastAtEnd};
 ghost use Rattle.market_host.specs.Reading.{AreReadStreams, IsTroubleOfSessions};
-ghost use Rattle.market_host.specs.Sights.{sight};
-ghost use Rattle.market_host.specs.Traces.{Uses, trace};
+ghost use Rattle.market_host.specs.{Sights.sight, Traces.Uses, Traces.trace};
 
 use crate::session::take_session;
 use crate::stream_item::StreamItem;

@@ -2,9 +2,7 @@
 ghost use Rattle.std.specs.Prelude.{◌≡◌, ◌≢◌, Ok, Err, refl};
 ghost use Rattle.market_settings.specs.Settings.{AreInRange, settings_of};
 ghost use Rattle.market_host.specs.Kinds as kinds;
-ghost use Rattle.market_host.specs.Marks.{without_mark};
-ghost use Rattle.market_host.specs.Reading.{IsRefusal};
-ghost use Rattle.market_host.specs.Refusals.{AreNoSettings};
+ghost use Rattle.market_host.specs.{Marks.without_mark, Reading.IsRefusal, Refusals.AreNoSettings};
 
 use crate::Cause;
 use crate::input::Input;

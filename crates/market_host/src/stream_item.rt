@@ -2,8 +2,8 @@
 ghost use Rattle.std.specs.Prelude.{◌≡◌, ◌<◌, ◌≤◌, List, ℕ, length, Err, IfOk, OnOk};
 ghost use Rattle.std.specs.List.{AllZip};
 ghost use Rattle.dropadd_hall.specs.Requests.{IsRequestOf};
-ghost use Rattle.utility_language.specs.declared.streams.StreamEnd.TheVariants.{TooMany};
 ghost use Rattle.utility_language.specs.Commands.{IsCommandOf, command_lines};
+ghost use Rattle.utility_language.specs.declared.streams.StreamEnd.TheVariants.{TooMany};
 
 use dropadd_desk::HallCommand;
 use dropadd_hall::read_requests;

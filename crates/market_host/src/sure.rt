@@ -3,8 +3,7 @@ ghost use Rattle.std.specs.Prelude.{◌≢◌, ℕ, map};
 ghost use Rattle.std.specs.String.{string_bytes};
 ghost use Rattle.market_host.specs.Answers.{IsAnswered};
 ghost use Rattle.market_host.specs.Completeness.{CanBeDone, EndsWork};
-ghost use Rattle.market_host.specs.Sights.{sight, writing};
-ghost use Rattle.market_host.specs.Traces.{trace};
+ghost use Rattle.market_host.specs.{Sights.sight, Sights.writing, Traces.trace};
 
 use crate::Status;
 use crate::host::course_match;

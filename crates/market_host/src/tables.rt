@@ -1,8 +1,7 @@
 // The catalogue and the roll of a call.
 ghost use Rattle.std.specs.Prelude.{[], ◌∷◌};
 ghost use Rattle.market_host.specs.Kinds as kind;
-ghost use Rattle.market_host.specs.Markets.{AreTables};
-ghost use Rattle.market_host.specs.Taking.{TakesFirst};
+ghost use Rattle.market_host.specs.{Markets.AreTables, Taking.TakesFirst};
 
 use crate::input::take_input;
 use crate::trouble::Trouble;

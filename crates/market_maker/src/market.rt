@@ -1,7 +1,6 @@
 // The five texts together.
 ghost use Rattle.std.specs.Prelude.{◌≤◌, ◌≡◌, IfOk};
-ghost use Rattle.market_maker.specs.Catalogs.{catalog_text};
-ghost use Rattle.market_maker.specs.Rolls.{roll_text};
+ghost use Rattle.market_maker.specs.{Catalogs.catalog_text, Rolls.roll_text};
 ghost use Rattle.market_maker.specs.Sessions.{first_text, second_text};
 ghost use Rattle.market_maker.specs.Settings.{settings_text};
 

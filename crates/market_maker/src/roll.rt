@@ -1,7 +1,6 @@
 // The roll.
 ghost use Rattle.std.specs.Prelude.{◌≡◌, ◌++◌, IfOk, OnOk};
-ghost use Rattle.market_maker.specs.Lines.{ended};
-ghost use Rattle.market_maker.specs.Rolls.{roll_text, student_row};
+ghost use Rattle.market_maker.specs.{Lines.ended, Rolls.roll_text, Rolls.student_row};
 
 use crate::lines::put_name;
 use market_units::NoMemory;

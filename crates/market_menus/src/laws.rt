@@ -1,6 +1,5 @@
 // What holds of the definitions.
-ghost use Rattle.market_menus.specs.Limits.{EachHasAMenu};
-ghost use Rattle.market_menus.specs.MenusOf.{OneListOfMenus, OneMenu};
+ghost use Rattle.market_menus.specs.{Limits.EachHasAMenu, MenusOf.OneListOfMenus, MenusOf.OneMenu};
 ghost use Rattle.market_menus.specs.Wanted.{MenuSaysWhatIsWanted};
 
 /// A student's menu says of each rated section what the preferences, the catalogue and the roll

@@ -2,8 +2,7 @@
 ghost use Rattle.std.specs.Prelude.{◌≡◌, ◌<◌, All, IfOk, length};
 ghost use Rattle.preference_desk.specs.PreferencesView.{preferences_of, wanted_by};
 ghost use Rattle.preference_desk.specs.StudentPreferences.{SectionsBelow};
-ghost use Rattle.market_menus.specs.MenusOf.{AreMenusOf, IsMenuOf};
-ghost use Rattle.market_menus.specs.Students.{student_at};
+ghost use Rattle.market_menus.specs.{MenusOf.AreMenusOf, MenusOf.IsMenuOf, Students.student_at};
 
 use crate::clashes::clashes_of;
 use crate::pairs::pairs_of;

@@ -3,9 +3,8 @@ ghost use Rattle.std.specs.Prelude.{◌≡◌, ◌≤◌, ◌++◌, ℕ, List, [
 ghost use Rattle.std.proofs.Common.{Global};
 ghost use Rattle.market_certificate.specs.Texts.{order_line};
 ghost use Rattle.market_run.specs.Held.{IsSummaryText};
-ghost use Rattle.preference_desk.specs.DeskView.{entries_of};
+ghost use Rattle.preference_desk.specs.{DeskView.entries_of, Journals.sessions_of};
 ghost use Rattle.published_market.specs.Publishing.{IsPublishedText, IsUnpriced};
-ghost use Rattle.preference_desk.specs.Journals.{sessions_of};
 ghost use Rattle.published_parts.specs.Views.{market_in};
 ghost use Rattle.session_hall.specs.Streams.{command_count, command_lists};
 

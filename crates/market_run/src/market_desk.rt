@@ -2,8 +2,7 @@
 ghost use Rattle.std.specs.Prelude.{◌≡◌, All};
 ghost use Rattle.market_certificate.specs.Publications.{IsSession};
 ghost use Rattle.preference_desk.specs.DeskView.{entries_of, names_of};
-ghost use Rattle.published_parts.specs.Markets.{names_in};
-ghost use Rattle.published_parts.specs.Views.{market_in};
+ghost use Rattle.published_parts.specs.{Markets.names_in, Views.market_in};
 
 use preference_desk::Desk;
 use published_parts::Market;

@@ -2,11 +2,9 @@
 ghost use Rattle.std.specs.Prelude.{◌≡◌, ◌≤◌, ℕ, Err, IfOk};
 ghost use Rattle.std.specs.Arc.{arc_value};
 ghost use Rattle.demand_api.specs.Views.{data_of};
-ghost use Rattle.market_certificate.specs.Publications.{IsPublication};
-ghost use Rattle.market_certificate.specs.Views.{publication_of};
+ghost use Rattle.market_certificate.specs.{Publications.IsPublication, Views.publication_of};
 ghost use Rattle.market_run.specs.Views.{journal_at, market_at};
-ghost use Rattle.published_parts.specs.Crowds.{IsCrowdIn};
-ghost use Rattle.published_parts.specs.Markets.{tables_in};
+ghost use Rattle.published_parts.specs.{Crowds.IsCrowdIn, Markets.tables_in};
 ghost use Rattle.published_market.specs.Publishing.{HasNoPrices, IsPublicationOf, lengths_of};
 
 use crate::market_desk::MarketDesk;

@@ -3,10 +3,8 @@ ghost use Rattle.std.specs.Prelude.{◌≡◌, ◌≤◌, ℕ, Err, IfOk};
 ghost use Rattle.demand_api.specs.Crowds.{CrowdData};
 ghost use Rattle.market_certificate.specs.Publications.{IsPublication, Publication};
 ghost use Rattle.market_certificate.specs.Texts.{text_of};
-ghost use Rattle.market_run.specs.Summaries.{summary_text};
-ghost use Rattle.market_run.specs.Views.{journal_at, market_at};
-ghost use Rattle.published_parts.specs.Crowds.{IsCrowdIn};
-ghost use Rattle.published_parts.specs.Markets.{tables_in};
+ghost use Rattle.market_run.specs.{Summaries.summary_text, Views.journal_at, Views.market_at};
+ghost use Rattle.published_parts.specs.{Crowds.IsCrowdIn, Markets.tables_in};
 ghost use Rattle.published_market.specs.Publishing.{HasNoPrices, IsPublicationOf, Lengths};
 
 use crate::market_desk::MarketDesk;

@@ -1,7 +1,7 @@
 // Numbers and lists of numbers in a JSON value.
 ghost use Rattle.std.specs.Prelude.{◌≡◌, ◌≢◌, ◌≤◌, Some, None, IfOk, IfErr, IfSome, MatchResult, All, length, option_map, option_and_then};
-ghost use Rattle.serde_json.specs.View.{view, items_view, members_view};
 ghost use Rattle.serde_json.specs.Find.{get, as_array};
+ghost use Rattle.serde_json.specs.View.{view, items_view, members_view};
 ghost use Rattle.market_settings.specs.Keys.{key_name, least_of, greatest_of};
 ghost use Rattle.market_settings.specs.StepSizes.{AreStepSizes};
 ghost use Rattle.market_settings.specs.Values.{reading, whole_within, numbers_within, number_at, step_sizes_in, has_unknown};

@@ -1,7 +1,6 @@
 // Names read from bytes.
 ghost use Rattle.std.specs.Prelude.{◌≡◌, ◌↔◌, IsTrue, IfSome, IfNone, OnSome};
-ghost use Rattle.market_units.specs.Names.{IsName, is_name_byte};
-ghost use Rattle.market_units.specs.Name.{name_bytes};
+ghost use Rattle.market_units.specs.{Name.name_bytes, Names.IsName, Names.is_name_byte};
 
 use crate::{MAX_NAME, Name};
 

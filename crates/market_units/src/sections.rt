@@ -17,8 +17,8 @@ impl Model for SectionSet {
     ghost use Rattle.std.specs.Ordering.{nat_cmp};
     ghost use Rattle.std.specs.FinSet as set;
     ghost use Rattle.std.specs.Coded.{coded_ℕ};
-    ghost use Rattle.market_units.specs.Sections.{sections_of, words_of, IsWords};
     ghost use Rattle.market_units.specs.SectionBits.{words_of-sections_of};
+    ghost use Rattle.market_units.specs.Sections.{sections_of, words_of, IsWords};
 
     ghost Value = { set.FinSet nat_cmp };
 

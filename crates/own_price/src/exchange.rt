@@ -2,8 +2,7 @@
 ghost use Rattle.std.specs.Prelude.{◌≡◌, ◌<◌, ◌≤◌, ℕ, IfOk, All, length, map, true, slice_set};
 ghost use Rattle.market_units.specs.Members.{has};
 ghost use Rattle.bundle_rules.specs.Bundles.{sections_of};
-ghost use Rattle.own_price.specs.Kept.{AreWithin, IsTally};
-ghost use Rattle.own_price.specs.Exchanges.{exchanged};
+ghost use Rattle.own_price.specs.{Exchanges.exchanged, Kept.AreWithin, Kept.IsTally};
 
 use bundle_rules::Bundle;
 use demand_api::{count_bundle, uncount_bundle};

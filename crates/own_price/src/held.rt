@@ -1,9 +1,7 @@
 // Prices with what each student takes at them, kept while single prices rise.
 ghost use Rattle.std.specs.Prelude.{◌≡◌, ◌<◌, ◌≤◌, IfOk, IfErr, length, map, slice_set};
-ghost use Rattle.bundle_rules.specs.Bundles.{sections_of};
-ghost use Rattle.bundle_rules.specs.Demand.{price_in};
-ghost use Rattle.demand_api.specs.Crowds.{IsCrowd, top, holders};
-ghost use Rattle.demand_api.specs.Asking.{ArePricesFor};
+ghost use Rattle.bundle_rules.specs.{Bundles.sections_of, Demand.price_in};
+ghost use Rattle.demand_api.specs.{Asking.ArePricesFor, Crowds.IsCrowd, Crowds.top, Crowds.holders};
 ghost use Rattle.own_price.specs.Holding.{Holds};
 
 use crate::exchange::{exchange_all, tally};
@@ -31,8 +29,7 @@ pub struct Held {
 impl Model for Held {
     ghost use Rattle.std.specs.Prelude.{length, map};
     ghost use Rattle.bundle_rules.specs.Bundles.{sections_of};
-    ghost use Rattle.own_price.specs.Holding.{HeldData};
-    ghost use Rattle.own_price.specs.Kept.{IsTally};
+    ghost use Rattle.own_price.specs.{Holding.HeldData, Kept.IsTally};
 
     ghost Value = { HeldData };
 

@@ -1,7 +1,6 @@
 // The students whose bundles have a section.
 ghost use Rattle.std.specs.Prelude.{◌≡◌, ◌<◌, ◌≤◌, IfOk, length, map};
-ghost use Rattle.bundle_rules.specs.Bundles.{sections_of};
-ghost use Rattle.bundle_rules.specs.Places.{places_from};
+ghost use Rattle.bundle_rules.specs.{Bundles.sections_of, Places.places_from};
 ghost use Rattle.own_price.specs.Exchanges.{AreHolders};
 
 use bundle_rules::Bundle;

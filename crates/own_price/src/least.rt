@@ -1,8 +1,7 @@
 // The least price of a section.
 ghost use Rattle.std.specs.Prelude.{◌≡◌, ◌<◌, IfOk};
 ghost use Rattle.bundle_rules.specs.Demand.{price_in};
-ghost use Rattle.demand_api.specs.Crowds.{top};
-ghost use Rattle.demand_api.specs.Asking.{ArePricesFor, RoseByDigits};
+ghost use Rattle.demand_api.specs.{Asking.ArePricesFor, Asking.RoseByDigits, Crowds.top};
 ghost use Rattle.own_price.specs.Least.{IsLeastPrice};
 
 use demand_api::Demands;

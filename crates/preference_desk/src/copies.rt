@@ -3,8 +3,7 @@ ghost use Rattle.std.specs.Prelude.{◌≡◌, map, IfOk};
 ghost use Rattle.market_units.specs.Name.{name_bytes};
 ghost use Rattle.course_catalog.specs.Sections.{Section};
 ghost use Rattle.student_roll.specs.Students.{Student};
-ghost use Rattle.preference_desk.specs.MarketNames.{market_names};
-ghost use Rattle.preference_desk.specs.NamesView.{names_in};
+ghost use Rattle.preference_desk.specs.{MarketNames.market_names, NamesView.names_in};
 
 use crate::names::Names;
 use course_catalog::Catalog;

@@ -3,8 +3,7 @@ ghost use Rattle.std.specs.Prelude.{◌≡◌, ◌≤◌, length};
 ghost use Rattle.std.specs.Vec.{vec_len, vec_capacity};
 ghost use Rattle.preference_desk.specs.DeskStep.{state_in};
 ghost use Rattle.preference_desk.specs.Histories.{IsHistory, IsHistory-prop};
-ghost use Rattle.preference_desk.specs.NamesView.{names_in};
-ghost use Rattle.preference_desk.specs.PreferencesView.{preferences_of};
+ghost use Rattle.preference_desk.specs.{NamesView.names_in, PreferencesView.preferences_of};
 
 use crate::copies::{names_in_limits, sections_of, students_of};
 use crate::names::Names;
@@ -37,9 +36,9 @@ impl Desk {
     ghost use Rattle.preference_desk.specs.DeskStep.{reply_to, state_after};
     ghost use Rattle.preference_desk.specs.DeskView.{names_of, state_of, entries_of, room_of};
     ghost use Rattle.preference_desk.specs.Entries.{entry_of};
-    ghost use Rattle.preference_desk.specs.StudentPreferences.{SectionsBelow};
-    ghost use Rattle.preference_desk.specs.MarketNames.{market_names};
     ghost use Rattle.preference_desk.specs.Journals.{IsLegalJournal, closed_preferences, opening};
+    ghost use Rattle.preference_desk.specs.MarketNames.{market_names};
+    ghost use Rattle.preference_desk.specs.StudentPreferences.{SectionsBelow};
 
     /// A desk for the sections of the catalogue and the students of the roll, with room for so many
     /// commands: nobody wants anything yet, it is not closed, and its journal is empty.

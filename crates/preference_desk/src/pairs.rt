@@ -22,8 +22,7 @@ pub(crate) struct Pairs {
 
 impl Pairs {
     ghost use Rattle.std.specs.FinMap.{empty, contains_key, entries, len};
-    ghost use Rattle.preference_desk.specs.StudentPreferences.{with_pair};
-    ghost use Rattle.preference_desk.specs.PairsView.{pairs_in};
+    ghost use Rattle.preference_desk.specs.{PairsView.pairs_in, StudentPreferences.with_pair};
 
     /// No adjustments, with room for as many as a student may have. The only error is that memory
     /// was not given.

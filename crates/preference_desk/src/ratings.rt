@@ -21,8 +21,7 @@ pub(crate) struct Ratings {
 
 impl Ratings {
     ghost use Rattle.std.specs.FinMap.{empty, contains_key, entries, len};
-    ghost use Rattle.preference_desk.specs.StudentPreferences.{with_rating};
-    ghost use Rattle.preference_desk.specs.RatingsView.{ratings_in};
+    ghost use Rattle.preference_desk.specs.{RatingsView.ratings_in, StudentPreferences.with_rating};
 
     /// No ratings, with room for as many as a student may give. The only error is that memory was
     /// not given.

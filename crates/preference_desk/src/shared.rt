@@ -2,11 +2,9 @@
 ghost use Rattle.std.specs.Prelude.{List};
 ghost use Rattle.std.specs.Borrow.{ftrue};
 ghost use Rattle.std.specs.Coded.{coded_list};
+ghost use Rattle.preference_desk.specs.{Codes.coded_entry, Codes.coded_names, DeskNames.DeskNames};
+ghost use Rattle.preference_desk.specs.{DeskStep.DeskState, Histories.coded_state};
 ghost use Rattle.preference_desk.specs.declared.entry.Entry.{Entry};
-ghost use Rattle.preference_desk.specs.Codes.{coded_entry, coded_names};
-ghost use Rattle.preference_desk.specs.DeskNames.{DeskNames};
-ghost use Rattle.preference_desk.specs.DeskStep.{DeskState};
-ghost use Rattle.preference_desk.specs.Histories.{coded_state};
 
 use crate::desk::Desk;
 use crate::reply::Reply;

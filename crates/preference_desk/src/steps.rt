@@ -2,8 +2,7 @@
 ghost use Rattle.std.specs.Prelude.{◌≡◌, length};
 ghost use Rattle.utility_language.specs.declared.commands.Command.TheVariants as command;
 ghost use Rattle.preference_desk.specs.DeskStep.{open_state, state_in, reply_to, state_after};
-ghost use Rattle.preference_desk.specs.NamesView.{names_in};
-ghost use Rattle.preference_desk.specs.PreferencesView.{preferences_of};
+ghost use Rattle.preference_desk.specs.{NamesView.names_in, PreferencesView.preferences_of};
 
 use crate::Reply;
 use crate::names::Names;

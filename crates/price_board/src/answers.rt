@@ -19,9 +19,8 @@ impl Model for Answers {
     ghost use Rattle.bundle_rules.specs.contracts.bundle.Bundle as bundle;
     ghost use Rattle.task_board.specs.declared.data.AnswersData.{AnswersData};
     ghost use Rattle.task_board.specs.contracts.data.AnswersData as ended;
-    ghost use Rattle.price_board.specs.declared.terms.Terms.{Terms};
+    ghost use Rattle.price_board.specs.{Closings.IsEnded, declared.terms.Terms.Terms};
     ghost use Rattle.price_board.specs.contracts.terms.Terms as terms;
-    ghost use Rattle.price_board.specs.Closings.{IsEnded};
 
     ghost Value = { AnswersData Terms Bundle };
 
@@ -37,9 +36,7 @@ impl Answers {
     ghost use Rattle.bundle_rules.specs.Bundles.{sections_of};
     ghost use Rattle.task_board.specs.Marks.{answer_in};
     ghost use Rattle.price_board.specs.declared.round.Ask.TheVariants as ask;
-    ghost use Rattle.price_board.specs.Closings.{exceeds_of};
-    ghost use Rattle.price_board.specs.Rows.{mark_of};
-    ghost use Rattle.price_board.specs.Settling.{ask_of};
+    ghost use Rattle.price_board.specs.{Closings.exceeds_of, Rows.mark_of, Settling.ask_of};
     ghost use Rattle.price_board.specs.Terms.{demand_of, student_count, version_count};
 
     /// What the student takes at the prices of the version, where it was posted: for every student

@@ -2,12 +2,9 @@
 ghost use Rattle.std.specs.Prelude.{◌≡◌, ◌≤◌, ◌<◌, [], ℕ, IfOk, All, Any, length, vec_len, slice_index_or};
 ghost use Rattle.std.specs.Arc.{arc_value};
 ghost use Rattle.bundle_rules.specs.Bundles.{sections_of};
-ghost use Rattle.task_board.specs.Closings.{IsEndOf};
-ghost use Rattle.task_board.specs.Fates.{IsTaken, IsWorked};
-ghost use Rattle.task_board.specs.Seats.{dones, posts};
-ghost use Rattle.task_board.specs.Turns.{HasDrawn, HasPosted};
-ghost use Rattle.price_board.specs.Asked.{round_rules};
-ghost use Rattle.price_board.specs.Closings.{AreSettled};
+ghost use Rattle.task_board.specs.{Closings.IsEndOf, Fates.IsTaken, Fates.IsWorked};
+ghost use Rattle.task_board.specs.{Seats.dones, Seats.posts, Turns.HasDrawn, Turns.HasPosted};
+ghost use Rattle.price_board.specs.{Asked.round_rules, Closings.AreSettled};
 ghost use Rattle.price_board.specs.Openings.{terms_of, IsRound};
 ghost use Rattle.price_board.specs.Rows.{number_drawn, number_of};
 ghost use Rattle.price_board.specs.Seats.{HoldsNothing, IsFinished, IsFree, IsSeatOf, IsWithin};
@@ -44,8 +41,7 @@ impl Model for Board {
     ghost use Rattle.bundle_rules.specs.contracts.bundle.Bundle as bundle;
     ghost use Rattle.price_board.specs.contracts.terms.Terms as terms;
     ghost use Rattle.market_units.specs.declared.limits.TheConstants.{MAX_STUDENTS, MAX_VERSIONS};
-    ghost use Rattle.price_board.specs.Seats.{RoundBoard};
-    ghost use Rattle.price_board.specs.Terms.{student_count, version_count};
+    ghost use Rattle.price_board.specs.{Seats.RoundBoard, Terms.student_count, Terms.version_count};
 
     ghost Value = { RoundBoard };
 

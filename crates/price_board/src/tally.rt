@@ -1,7 +1,6 @@
 // What the posted bundles of one version add up to.
 ghost use Rattle.std.specs.Prelude.{◌≡◌, ◌≤◌, ◌+◌, ◌-◌, if◌then◌else◌, Some};
-ghost use Rattle.price_board.specs.Settling.{is_asked, is_decided};
-ghost use Rattle.price_board.specs.Tallies.{exceeds_by};
+ghost use Rattle.price_board.specs.{Settling.is_asked, Settling.is_decided, Tallies.exceeds_by};
 
 use crate::round::Ask;
 use bundle_rules::Bundle;

@@ -3,11 +3,10 @@ ghost use Rattle.std.specs.Prelude.{◌≡◌, ◌<◌, ◌≤◌, IfOk, None, l
 ghost use Rattle.std.specs.Arc.{arc_value};
 ghost use Rattle.task_board.specs.Openings.{no_answers};
 ghost use Rattle.price_board.specs.Asked.{round_rules, version_at};
-ghost use Rattle.market_units.specs.declared.limits.TheConstants.{MAX_STUDENTS, MAX_VERSIONS};
-ghost use Rattle.price_board.specs.Openings.{terms_of, IsRound};
-ghost use Rattle.price_board.specs.Settling.{ask_of};
+ghost use Rattle.price_board.specs.{Openings.terms_of, Openings.IsRound, Settling.ask_of};
 ghost use Rattle.price_board.specs.Tallies.{exceeds_by, HaveTallied};
 ghost use Rattle.price_board.specs.Terms.{student_count, task_count, version_count};
+ghost use Rattle.market_units.specs.declared.limits.TheConstants.{MAX_STUDENTS, MAX_VERSIONS};
 
 use crate::round::{Ask, Round};
 use crate::tally::{Tally, exceeds_by, settles, with_bundle};

@@ -2,10 +2,9 @@
 ghost use Rattle.std.specs.Prelude.{◌≡◌, ◌<◌, ◌≤◌, ◌++◌, IfOk, length, map, filter, flat_map};
 ghost use Rattle.std.specs.List.{range_with_len};
 ghost use Rattle.bundle_rules.specs.Demand.{price_in};
-ghost use Rattle.demand_api.specs.Crowds.{count, counts as counts_of};
-ghost use Rattle.demand_api.specs.Asking.{ArePricesFor};
-ghost use Rattle.price_neighbours.specs.Neighbours.{with_alone, least_fewer, alone};
+ghost use Rattle.demand_api.specs.{Asking.ArePricesFor, Crowds.count, Crowds.counts as counts_of};
 ghost use Rattle.price_neighbours.specs.Asked.{is_over, pair_of};
+ghost use Rattle.price_neighbours.specs.Neighbours.{with_alone, least_fewer, alone};
 
 use demand_api::Demands;
 use market_units::{MAX_SECTIONS, NoMemory, SectionNo, Tokens};

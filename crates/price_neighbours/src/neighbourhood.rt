@@ -1,8 +1,7 @@
 // The neighbours of a vector of prices.
 ghost use Rattle.std.specs.Prelude.{◌≡◌, IfOk, All, length, map};
 ghost use Rattle.bundle_rules.specs.Demand.{price_in};
-ghost use Rattle.demand_api.specs.Crowds.{counts as counts_of};
-ghost use Rattle.demand_api.specs.Asking.{ArePricesFor};
+ghost use Rattle.demand_api.specs.{Asking.ArePricesFor, Crowds.counts as counts_of};
 ghost use Rattle.price_neighbours.specs.Neighbours.{neighbours};
 
 use crate::alone::push_alone;

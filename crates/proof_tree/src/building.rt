@@ -3,12 +3,10 @@ ghost use Rattle.std.specs.Prelude.{◌≡◌, ◌<◌, ◌≤◌, ◌++◌, ◌
 ghost use Rattle.std.specs.FinSet as set;
 ghost use Rattle.bundle_rules.specs.Bundles.{sections_of};
 ghost use Rattle.bundle_rules.specs.Demand.{HasPrices, IsBest, price_in};
-ghost use Rattle.bundle_rules.specs.Given.{IsBestWith};
-ghost use Rattle.bundle_rules.specs.Menus.{wishes_of, place_in};
+ghost use Rattle.bundle_rules.specs.{Given.IsBestWith, Menus.wishes_of, Menus.place_in};
 ghost use Rattle.bundle_bounds.specs.Offers.{offer_of};
-ghost use Rattle.proof_tree.specs.Claims.{offer_in, champion_in};
+ghost use Rattle.proof_tree.specs.{Claims.offer_in, Claims.champion_in, Laws.HasTree};
 ghost use Rattle.proof_tree.specs.Texts.{IsTreeText};
-ghost use Rattle.proof_tree.specs.Laws.{HasTree};
 
 use crate::claim::Claim;
 use crate::symbols::spell;

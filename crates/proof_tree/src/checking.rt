@@ -1,18 +1,16 @@
 // Whether a text is the tree of a champion, and where it first is not.
 ghost use Rattle.std.specs.Prelude.{◌≡◌, ◌≢◌, ◌<◌, ◌↔◌, [], ℕ, List, Some, None, true, IsTrue, IsOk, IfOk, IfErr, IfSome, OnOk, length};
+ghost use Rattle.proof_tree.specs.Claims.{offer_in, champion_in};
+ghost use Rattle.proof_tree.specs.Defects.{IsCanonical, IsDefect, IsLeaf, FirstFailsAt, offset};
+ghost use Rattle.proof_tree.specs.Mismatches.{IsOther, IsMismatch, IsUnsigned, offset_in};
+ghost use Rattle.proof_tree.specs.Texts.{IsTreeText, Stands};
 ghost use Rattle.proof_tree.specs.declared.defects.TreeDefect.TheVariants.{Rest};
 ghost use Rattle.std.specs.FinSet as set;
 ghost use Rattle.market_units.specs.Members.{has};
 ghost use Rattle.bundle_rules.specs.Bundles.{sections_of};
 ghost use Rattle.bundle_rules.specs.Demand.{HasPrices, IsBest, price_in};
-ghost use Rattle.bundle_rules.specs.Given.{IsBestWith};
-ghost use Rattle.bundle_rules.specs.Menus.{wishes_of, place_in};
-ghost use Rattle.bundle_bounds.specs.Offers.{offer_of};
-ghost use Rattle.bundle_bounds.specs.Laws.{IsTakable};
-ghost use Rattle.proof_tree.specs.Claims.{offer_in, champion_in};
-ghost use Rattle.proof_tree.specs.Texts.{IsTreeText, Stands};
-ghost use Rattle.proof_tree.specs.Defects.{IsCanonical, IsDefect, IsLeaf, FirstFailsAt, offset};
-ghost use Rattle.proof_tree.specs.Mismatches.{IsOther, IsMismatch, IsUnsigned, offset_in};
+ghost use Rattle.bundle_rules.specs.{Given.IsBestWith, Menus.wishes_of, Menus.place_in};
+ghost use Rattle.bundle_bounds.specs.{Laws.IsTakable, Offers.offer_of};
 
 use crate::claim::Claim;
 use crate::defects::TreeDefect;

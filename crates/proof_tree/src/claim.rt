@@ -2,9 +2,7 @@
 ghost use Rattle.std.specs.Prelude.{◌<◌, ◌≤◌, IfSome, length};
 ghost use Rattle.std.proofs.Props.{props};
 ghost use Rattle.bundle_rules.specs.Bundles.{sections_of};
-ghost use Rattle.bundle_bounds.specs.Laws.{IsTakable};
-ghost use Rattle.bundle_bounds.specs.Props.{IsTakable-prop};
-ghost use Rattle.bundle_bounds.specs.Views.{data_of};
+ghost use Rattle.bundle_bounds.specs.{Laws.IsTakable, Props.IsTakable-prop, Views.data_of};
 
 use bundle_bounds::Offer;
 use bundle_rules::Bundle;

@@ -1,12 +1,8 @@
 // The canonical sign of a node.
 ghost use Rattle.std.specs.Prelude.{◌≡◌, ◌≢◌, ◌<◌, ◌↔◌, ℕ, List, Some, IsTrue, IfSome, IfNone, length, slice_index_or};
-ghost use Rattle.bundle_rules.specs.Menus.{IsMenu};
-ghost use Rattle.bundle_rules.specs.Bundles.{sections_of};
-ghost use Rattle.bundle_bounds.specs.Offers.{OfferData};
-ghost use Rattle.bundle_bounds.specs.Opens.{is_open};
-ghost use Rattle.bundle_bounds.specs.declared.stems.Stem.{Stem};
-ghost use Rattle.proof_tree.specs.Claims.{offer_in, champion_in};
-ghost use Rattle.proof_tree.specs.Trees.{IsSign, GoesOn};
+ghost use Rattle.bundle_rules.specs.{Bundles.sections_of, Menus.IsMenu};
+ghost use Rattle.bundle_bounds.specs.{Offers.OfferData, Opens.is_open, declared.stems.Stem.Stem};
+ghost use Rattle.proof_tree.specs.{Claims.offer_in, Claims.champion_in, Trees.IsSign, Trees.GoesOn};
 ghost use Rattle.proof_tree.specs.Visits.{HasNoSignAt, HasStemAt, IsShutAt, IsSignAt};
 
 use crate::standing::{is_open_at, pruning_at};

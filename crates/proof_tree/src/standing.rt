@@ -1,11 +1,8 @@
 // The stems of the nodes that wait, each at the index of its node.
 ghost use Rattle.std.specs.Prelude.{◌≡◌, ◌≢◌, ◌<◌, ◌+◌, ◌++◌, ◌∷◌, [], ℕ, true, IfSome, IfNone, length, slice_index_or};
-ghost use Rattle.bundle_rules.specs.Menus.{section_at};
-ghost use Rattle.bundle_rules.specs.Bundles.{sections_of};
-ghost use Rattle.bundle_bounds.specs.declared.stems.Stem.{Stem};
-ghost use Rattle.bundle_bounds.specs.Opens.{is_open};
-ghost use Rattle.proof_tree.specs.Claims.{offer_in, champion_in};
-ghost use Rattle.proof_tree.specs.Standing.{IsStemAt};
+ghost use Rattle.bundle_rules.specs.{Bundles.sections_of, Menus.section_at};
+ghost use Rattle.bundle_bounds.specs.{Opens.is_open, declared.stems.Stem.Stem};
+ghost use Rattle.proof_tree.specs.{Claims.offer_in, Claims.champion_in, Standing.IsStemAt};
 ghost use Rattle.proof_tree.specs.Visits.{chosen_at, HasStemAt, IsPruningAt, NonePrunesAt};
 
 use crate::visit::Visit;

@@ -2,10 +2,10 @@
 ghost use Rattle.std.specs.Prelude.{◌≡◌, ◌≢◌, ◌<◌, ◌≤◌, ◌↔◌, ◌++◌, ◌∷◌, [], ℕ, List, None, Some, IsTrue, IfSome, IfNone, take};
 ghost use Rattle.std.specs.Fmt.{decimal};
 ghost use Rattle.bundle_bounds.specs.declared.nodes.Leaf.{Leaf};
-ghost use Rattle.proof_tree.specs.declared.signs.Sign.{Sign};
-ghost use Rattle.proof_tree.specs.declared.signs.Sign.TheVariants.{Pruned};
 ghost use Rattle.proof_tree.specs.Spellings.{bytes_of};
 ghost use Rattle.proof_tree.specs.Texts.{IsDigit, NoDigitFirst, IsShort, Stands, leaf_text, number_of, symbol};
+ghost use Rattle.proof_tree.specs.declared.signs.Sign.{Sign};
+ghost use Rattle.proof_tree.specs.declared.signs.Sign.TheVariants.{Pruned};
 
 use crate::signs::Sign;
 use crate::symbol_bytes::Symbol;

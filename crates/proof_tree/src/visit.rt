@@ -1,8 +1,7 @@
 // A node of the walk of a tree.
 ghost use Rattle.std.specs.Prelude.{◌≤◌, length};
 ghost use Rattle.bundle_rules.specs.Bundles.{sections_of};
-ghost use Rattle.bundle_bounds.specs.Laws.{IsNode};
-ghost use Rattle.bundle_bounds.specs.Props.{IsNode-prop};
+ghost use Rattle.bundle_bounds.specs.{Laws.IsNode, Props.IsNode-prop};
 ghost use Rattle.proof_tree.specs.Claims.{offer_in};
 
 use crate::claim::Claim;

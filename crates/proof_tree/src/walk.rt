@@ -1,18 +1,14 @@
 // The walk of a tree: its nodes one after another, each with its canonical sign.
 ghost use Rattle.std.specs.Prelude.{◌≡◌, ◌≢◌, ◌<◌, ◌≤◌, ◌+◌, ◌++◌, ◌∷◌, [], ℕ, List, true, IfSome, IfNone, OnSome, length, slice_index_or};
-ghost use Rattle.bundle_bounds.specs.declared.nodes.Node.{Node};
-ghost use Rattle.bundle_rules.specs.Menus.{MenuData, IsMenu, section_at};
+ghost use Rattle.bundle_bounds.specs.{Offers.OfferData, Opens.is_open, declared.nodes.Node.Node};
 ghost use Rattle.bundle_rules.specs.Bundles.{sections_of};
-ghost use Rattle.bundle_bounds.specs.Offers.{OfferData};
-ghost use Rattle.bundle_bounds.specs.Opens.{is_open};
+ghost use Rattle.bundle_rules.specs.Menus.{MenuData, IsMenu, section_at};
 ghost use Rattle.proof_tree.specs.Claims.{offer_in, champion_in, champions_places};
-ghost use Rattle.proof_tree.specs.Steps.{AreWaiting, MayWait, IsStep};
 ghost use Rattle.proof_tree.specs.Standing.{HaveStems, AreStanding};
-ghost use Rattle.proof_tree.specs.Texts.{IsShort};
+ghost use Rattle.proof_tree.specs.{Steps.AreWaiting, Steps.MayWait, Steps.IsStep, Texts.IsShort};
 ghost use Rattle.proof_tree.specs.Visits.{chosen_at, HasStemAt, IsSignAt};
-ghost use Rattle.proof_tree.specs.declared.signs.Sign.{Sign};
+ghost use Rattle.proof_tree.specs.{Walks.below, declared.signs.Sign.Sign};
 ghost use Rattle.proof_tree.specs.declared.walk.Step.TheVariants.{Signed};
-ghost use Rattle.proof_tree.specs.Walks.{below};
 
 use crate::claim::Claim;
 use crate::signs::{Sign, sign_at};

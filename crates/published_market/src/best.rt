@@ -1,8 +1,7 @@
 // A best bundle, and what it is the best of.
 ghost use Rattle.std.specs.Prelude.{◌≡◌};
 ghost use Rattle.std.specs.FinSet as set;
-ghost use Rattle.bundle_rules.specs.Best.{best};
-ghost use Rattle.bundle_rules.specs.Bundles.{sections_of};
+ghost use Rattle.bundle_rules.specs.{Best.best, Bundles.sections_of};
 ghost use Rattle.bundle_rules.specs.Demand.{HasPrices, price_in};
 
 use bundle_rules::{Bundle, Menu};

@@ -1,10 +1,8 @@
 // Bundles with their trees.
 ghost use Rattle.std.specs.Prelude.{◌≡◌, ◌<◌, ◌≤◌, ◌+◌, All, IfOk, OnOk, length, map};
 ghost use Rattle.std.specs.List.{AllZip};
-ghost use Rattle.bundle_rules.specs.Bundles.{sections_of};
-ghost use Rattle.bundle_rules.specs.Demand.{price_in};
-ghost use Rattle.demand_api.specs.Asking.{ArePricesFor};
-ghost use Rattle.demand_api.specs.Views.{data_of};
+ghost use Rattle.bundle_rules.specs.{Bundles.sections_of, Demand.price_in};
+ghost use Rattle.demand_api.specs.{Asking.ArePricesFor, Views.data_of};
 ghost use Rattle.oversubscription_stage.specs.Rounds.{AreTaken};
 ghost use Rattle.market_certificate.specs.Views.{proved_of};
 ghost use Rattle.published_parts.specs.Offers.{IsProvedBest, IsProvedDemand};

@@ -2,8 +2,7 @@
 ghost use Rattle.std.specs.Prelude.{◌<◌, ◌≤◌, ◌^◌, All, length};
 ghost use Rattle.market_units.specs.declared.limits.TheConstants.{MAX_RAISE};
 ghost use Rattle.aftermarket_stage.specs.After.{turns_of};
-ghost use Rattle.demand_api.specs.Asking.{ArePricesFor};
-ghost use Rattle.demand_api.specs.Views.{data_of};
+ghost use Rattle.demand_api.specs.{Asking.ArePricesFor, Views.data_of};
 ghost use Rattle.published_market.specs.Making.{IsBestTurn};
 
 use aftermarket_stage::Turn;

@@ -2,9 +2,7 @@
 ghost use Rattle.std.specs.Prelude.{◌≡◌, IfOk};
 ghost use Rattle.demand_api.specs.Views.{data_of};
 ghost use Rattle.preference_desk.specs.DeskView.{entries_of, names_of};
-ghost use Rattle.published_parts.specs.Crowds.{IsCrowdIn};
-ghost use Rattle.published_parts.specs.Markets.{names_in};
-ghost use Rattle.published_parts.specs.Views.{market_in};
+ghost use Rattle.published_parts.specs.{Crowds.IsCrowdIn, Markets.names_in, Views.market_in};
 
 use demand_api::Crowd;
 use market_crowd::make_crowd;

@@ -1,8 +1,7 @@
 // The order of a journal.
 ghost use Rattle.std.specs.Prelude.{◌≡◌, IfOk, All};
 ghost use Rattle.market_certificate.specs.Publications.{IsSession};
-ghost use Rattle.preference_desk.specs.declared.entry.Entry.{Entry};
-ghost use Rattle.preference_desk.specs.Journals.{sessions_of};
+ghost use Rattle.preference_desk.specs.{Journals.sessions_of, declared.entry.Entry.Entry};
 
 use market_units::NoMemory;
 use preference_desk::Entry;

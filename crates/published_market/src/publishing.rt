@@ -2,13 +2,11 @@
 ghost use Rattle.std.specs.Prelude.{◌≡◌, ℕ, Err, IfOk, All, length};
 ghost use Rattle.demand_api.specs.Views.{data_of};
 ghost use Rattle.market_certificate.specs.Publications.{IsPublication, IsSession};
-ghost use Rattle.market_certificate.specs.Tables.{Tables};
-ghost use Rattle.market_certificate.specs.Views.{publication_of};
+ghost use Rattle.market_certificate.specs.{Tables.Tables, Views.publication_of};
 ghost use Rattle.tabu_search.specs.Search.{FindsNone, IsFound};
 ghost use Rattle.preference_desk.specs.Journals.{sessions_of};
-ghost use Rattle.published_parts.specs.Markets.{seats_in, tables_in};
+ghost use Rattle.published_parts.specs.{Crowds.IsCrowdIn, Markets.seats_in, Markets.tables_in};
 ghost use Rattle.published_parts.specs.Views.{market_in};
-ghost use Rattle.published_parts.specs.Crowds.{IsCrowdIn};
 ghost use Rattle.published_market.specs.Publishing.{HasNoPrices, IsOutcome, IsPublicationOf, lengths_of};
 ghost use Rattle.published_market.specs.Stages.{AreStages, stages_of};
 

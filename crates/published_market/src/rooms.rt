@@ -1,8 +1,7 @@
 // Rooms that threads write trees to: each has its memory before a thread starts.
 ghost use Rattle.std.specs.Prelude.{◌<◌, None, IfOk, length};
 ghost use Rattle.proof_tree.specs.Texts.{IsTreeText};
-ghost use Rattle.published_market.specs.Rooms.{IsRoomOf};
-ghost use Rattle.published_market.specs.Views.{bundle_in, offer_in};
+ghost use Rattle.published_market.specs.{Rooms.IsRoomOf, Views.bundle_in, Views.offer_in};
 
 use crate::best::Best;
 use market_units::NoMemory;

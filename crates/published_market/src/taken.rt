@@ -1,8 +1,7 @@
 // What students take at prices.
 ghost use Rattle.std.specs.Prelude.{◌≡◌, ℕ, nat_lt};
 ghost use Rattle.std.specs.FinSet as set;
-ghost use Rattle.demand_api.specs.Asking.{ArePricesFor};
-ghost use Rattle.demand_api.specs.Views.{data_of};
+ghost use Rattle.demand_api.specs.{Asking.ArePricesFor, Views.data_of};
 ghost use Rattle.oversubscription_stage.specs.Rounds.{AreTaken};
 
 use bundle_rules::Bundle;

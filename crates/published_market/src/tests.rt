@@ -1,7 +1,6 @@
 ghost use Rattle.std.specs.Prelude.{◌≡◌};
 ghost use Rattle.preference_desk.specs.DeskView.{names_of};
-ghost use Rattle.published_parts.specs.Markets.{names_in};
-ghost use Rattle.published_parts.specs.Views.{market_in};
+ghost use Rattle.published_parts.specs.{Markets.names_in, Views.market_in};
 
 use super::*;
 use crate::writers::ROOM;

@@ -2,15 +2,13 @@
 ghost use Rattle.std.specs.Prelude.{◌≡◌, ◌<◌, ◌≤◌, ◌+◌, ◌^◌, IfOk, OnOk, All, length, map};
 ghost use Rattle.std.specs.List.{AllZip};
 ghost use Rattle.bundle_rules.specs.Bundles.{sections_of};
-ghost use Rattle.demand_api.specs.Views.{data_of};
-ghost use Rattle.demand_api.specs.Asking.{ArePricesFor};
+ghost use Rattle.demand_api.specs.{Asking.ArePricesFor, Views.data_of};
 ghost use Rattle.aftermarket_stage.specs.After.{turns_of};
 ghost use Rattle.market_certificate.specs.Views.{turn_of as published_of};
 ghost use Rattle.published_market.specs.Asked.{offer_chosen, turn_chosen};
 ghost use Rattle.published_market.specs.Making.{AreProvedTurns, HasTurnForm, IsBestTurn};
 ghost use Rattle.published_market.specs.Rooms.{AreRoomsOfTurns, IsRoomOfTurn};
-ghost use Rattle.published_market.specs.Turns.{IsPublishedTurn};
-ghost use Rattle.published_market.specs.Views.{bundle_in, offer_in};
+ghost use Rattle.published_market.specs.{Turns.IsPublishedTurn, Views.bundle_in, Views.offer_in};
 
 use crate::best::Best;
 use crate::bundles::prove_bundle;

@@ -39,8 +39,8 @@ impl<T> Model for Region<T> {
 }
 
 impl<T: Copy> Region<T> {
-    ghost use Rattle.row_region.specs.Rows.{IsLive, spare_of, with_row, without_row};
     ghost use Rattle.row_region.specs.Lending.{lends_row};
+    ghost use Rattle.row_region.specs.Rows.{IsLive, spare_of, with_row, without_row};
 
     /// A region of this many spare rows of this width. What a row holds when it is handed out is
     /// `fill`.

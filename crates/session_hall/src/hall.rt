@@ -2,8 +2,7 @@
 ghost use Rattle.std.specs.Prelude.{◌≡◌, ◌≤◌, length, map, IfOk};
 ghost use Rattle.preference_desk.specs.DeskView.{names_of, entries_of};
 ghost use Rattle.preference_desk.specs.Journals.{IsLegalJournal, MergesStreams};
-ghost use Rattle.preference_desk.specs.MarketNames.{market_names};
-ghost use Rattle.preference_desk.specs.Shared.{entry_of_step};
+ghost use Rattle.preference_desk.specs.{MarketNames.market_names, Shared.entry_of_step};
 ghost use Rattle.session_hall.specs.Streams.{command_count, command_lists};
 
 use crate::streams::count_commands;

@@ -4,18 +4,4 @@
 #![tactic(auto)]
 
 #[cfg(test)]
-mod aftermarkets;
-#[cfg(test)]
-mod crowds;
-#[cfg(test)]
-mod eliminations;
-#[cfg(test)]
-mod floors;
-#[cfg(test)]
-mod meetings;
-#[cfg(test)]
-mod neighbours;
-#[cfg(test)]
-mod own_prices;
-#[cfg(test)]
-mod searches;
+mod tests;

@@ -3,8 +3,7 @@ ghost use Rattle.std.specs.Prelude.{◌≡◌, ◌<◌, ◌≤◌, ℕ, true, le
 ghost use Rattle.std.specs.Vec.{vec_len};
 ghost use Rattle.market_units.specs.Totals.{total};
 ghost use Rattle.chronicle.specs.History.{IsLegal, state_after};
-ghost use Rattle.stream_posting.specs.Postings.{IsReady};
-ghost use Rattle.stream_posting.specs.Streams.{MergesCalls, lists_of};
+ghost use Rattle.stream_posting.specs.{Postings.IsReady, Streams.MergesCalls, Streams.lists_of};
 
 use crate::posting::post_all;
 use chronicle::{Chronicle, Journal, Object, Seat};

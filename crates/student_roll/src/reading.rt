@@ -1,7 +1,6 @@
 // A roll from its bytes.
 ghost use Rattle.std.specs.Prelude.{◌≡◌, ◌≢◌, ◌<◌, ◌-◌, ◌^◌, length, Ok, Err, IfOk, IfErr};
-ghost use Rattle.student_roll.specs.Rolls.{roll_of};
-ghost use Rattle.student_roll.specs.Students.{IsRoll};
+ghost use Rattle.student_roll.specs.{Rolls.roll_of, Students.IsRoll};
 
 use crate::rules::RollRules;
 use crate::{Roll, RollRefusal};

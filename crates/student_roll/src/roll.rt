@@ -2,8 +2,8 @@
 ghost use Rattle.std.specs.Prelude.{◌≡◌, ◌==◌, ◌+◌, ◌<◌, ◌≤◌, [], ◌∷◌, length, Some, option_map, position, slice_get, slice_index_or, IfOk, IfSome};
 ghost use Rattle.std.specs.Str.{bytes_eq};
 ghost use Rattle.market_units.specs.Name.{name_bytes};
-ghost use Rattle.student_roll.specs.Students.{IsRoll, names_of, no_student, single_student};
 ghost use Rattle.student_roll.specs.Kept.{KeepsStudents};
+ghost use Rattle.student_roll.specs.Students.{IsRoll, names_of, no_student, single_student};
 
 use crate::entry::Entry;
 use indexmap::IndexSet;
@@ -22,8 +22,7 @@ pub struct Roll {
 }
 
 impl Model for Roll {
-    ghost use Rattle.student_roll.specs.Students.{RollData};
-    ghost use Rattle.student_roll.specs.Kept.{KeepsStudents};
+    ghost use Rattle.student_roll.specs.{Kept.KeepsStudents, Students.RollData};
 
     ghost Value = { RollData };
 

@@ -1,10 +1,8 @@
 // The columns of a roll.
 ghost use Rattle.std.specs.Prelude.{◌≡◌, ◌+◌, ◌≤◌, IfOk};
 ghost use Rattle.csv.specs.Records.{fields_of};
-ghost use Rattle.table_records.specs.Columns.{number_or};
-ghost use Rattle.table_records.specs.Records.{field_in};
-ghost use Rattle.student_roll.specs.Rolls.{carry_in, roll_rules};
-ghost use Rattle.student_roll.specs.Students.{IsListed};
+ghost use Rattle.table_records.specs.{Columns.number_or, Records.field_in};
+ghost use Rattle.student_roll.specs.{Rolls.carry_in, Rolls.roll_rules, Students.IsListed};
 
 use crate::RollRefusal;
 use crate::entry::Entry;

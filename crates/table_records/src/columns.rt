@@ -2,8 +2,7 @@
 ghost use Rattle.std.specs.Prelude.{◌≡◌, ◌≤◌, option_map};
 ghost use Rattle.csv.specs.Records.{fields_of};
 ghost use Rattle.market_units.specs.Name.{name_bytes};
-ghost use Rattle.table_records.specs.Columns.{name_of, number_of};
-ghost use Rattle.table_records.specs.Records.{field_in};
+ghost use Rattle.table_records.specs.{Columns.name_of, Columns.number_of, Records.field_in};
 
 use csv::ByteRecord;
 use market_units::{Name, read_name, read_number};

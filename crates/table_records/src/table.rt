@@ -2,8 +2,7 @@
 ghost use Rattle.std.specs.Prelude.{◌≡◌, ℕ, List, map, IfOk};
 ghost use Rattle.csv.specs.Records.{fields_of};
 ghost use Rattle.market_units.specs.Name.{name_bytes};
-ghost use Rattle.table_records.specs.Reading.{IsVersion, Rules};
-ghost use Rattle.table_records.specs.Records.{first_field};
+ghost use Rattle.table_records.specs.{Reading.IsVersion, Reading.Rules, Records.first_field};
 
 use crate::Fault;
 use csv::ByteRecord;

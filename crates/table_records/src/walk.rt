@@ -3,11 +3,9 @@ ghost use Rattle.std.specs.Prelude.{◌≡◌, ◌<◌, ◌≤◌, ◌^◌, ◌-
 ghost use Rattle.std.specs.List.{IsDistinct};
 ghost use Rattle.std.specs.Cmp.Lexicographic.{pointwise};
 ghost use Rattle.std.specs.Str.{bytes_eq};
-ghost use Rattle.csv.specs.Reading.{error_kind, stops_reader};
-ghost use Rattle.csv.specs.Records.{fields_of};
+ghost use Rattle.csv.specs.{Reading.error_kind, Reading.stops_reader, Records.fields_of};
 ghost use Rattle.table_records.specs.Reading.{IsVersion, Tells, bytes_of, reading, version_of};
-ghost use Rattle.table_records.specs.Records.{records_of};
-ghost use Rattle.table_records.specs.Walk.{HasGiven};
+ghost use Rattle.table_records.specs.{Records.records_of, Walk.HasGiven};
 
 use crate::rows::take_record;
 use crate::{End, Fault, Rows, Table, field_in};

@@ -4,26 +4,4 @@
 #![tactic(auto)]
 
 #[cfg(test)]
-mod bundles;
-#[cfg(test)]
-mod catalogues;
-#[cfg(test)]
-mod commands;
-#[cfg(test)]
-mod drawn_words;
-#[cfg(test)]
-mod lines;
-#[cfg(test)]
-mod meetings;
-#[cfg(test)]
-mod price_sheets;
-#[cfg(test)]
-mod rolls;
-#[cfg(test)]
-mod rows;
-#[cfg(test)]
-mod settings;
-#[cfg(test)]
-mod tables;
-#[cfg(test)]
-mod units;
+mod tests;

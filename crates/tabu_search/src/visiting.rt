@@ -1,7 +1,6 @@
 // A visit to a vector of prices.
 ghost use Rattle.std.specs.Prelude.{◌≡◌, IfOk, length};
-ghost use Rattle.demand_api.specs.Crowds.{IsCrowd};
-ghost use Rattle.demand_api.specs.Asking.{ArePricesFor};
+ghost use Rattle.demand_api.specs.{Asking.ArePricesFor, Crowds.IsCrowd};
 ghost use Rattle.tabu_search.specs.Walks.{IsVisit};
 
 use crate::counting::count_one;

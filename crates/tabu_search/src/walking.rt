@@ -2,8 +2,7 @@
 ghost use Rattle.std.specs.Prelude.{◌≡◌, ◌↔◌, ◌<◌, ◌≤◌, ◌^◌, ◌+◌, IsTrue, IfOk, MatchOption, if◌then◌else◌, All, length, map, filter, nat_eq, nat_lt};
 ghost use Rattle.std.specs.List.{list_any};
 ghost use Rattle.std.specs.Cmp.Lexicographic.{pointwise};
-ghost use Rattle.demand_api.specs.Crowds.{IsCrowd};
-ghost use Rattle.demand_api.specs.Asking.{ArePricesFor};
+ghost use Rattle.demand_api.specs.{Asking.ArePricesFor, Crowds.IsCrowd};
 ghost use Rattle.tabu_search.specs.Visits.{first_of_least, chosen, after_turns};
 ghost use Rattle.tabu_search.specs.Walks.{is_allowed, IsNext, IsWalk, IsEntered};
 

@@ -1,7 +1,6 @@
 // What a closed board answers.
 ghost use Rattle.std.specs.Prelude.{◌≡◌, true, IfSome, length};
-ghost use Rattle.task_board.specs.Kept.{AreRight};
-ghost use Rattle.task_board.specs.Marks.{answer_in, answers_in, mark_at};
+ghost use Rattle.task_board.specs.{Kept.AreRight, Marks.answer_in, Marks.answers_in, Marks.mark_at};
 
 use crate::state::BoardState;
 use crate::tasks::Tasks;

@@ -1,7 +1,6 @@
 // The board that workers share.
 ghost use Rattle.std.specs.Prelude.{◌≡◌, ◌≤◌, ◌<◌, [], true, ℕ, IfOk, All, Any, length, vec_len, slice_index_or};
-ghost use Rattle.task_board.specs.Closings.{IsEndOf};
-ghost use Rattle.task_board.specs.Openings.{no_answers};
+ghost use Rattle.task_board.specs.{Closings.IsEndOf, Openings.no_answers};
 ghost use Rattle.task_board.specs.Seats.{HoldsNothing, IsFinished, IsFree, IsSeatOf, dones, posts};
 ghost use Rattle.task_board.specs.Turns.{HasDrawn, HasPosted};
 

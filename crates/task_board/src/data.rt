@@ -2,8 +2,7 @@
 ghost use Rattle.std.specs.Prelude.{List, ℕ};
 ghost use Rattle.std.specs.Borrow.{ftrue};
 ghost use Rattle.chronicle.specs.declared.journal.StepOf.{StepOf};
-ghost use Rattle.task_board.specs.declared.calls.Call.{Call};
-ghost use Rattle.task_board.specs.declared.calls.Reply.{Reply};
+ghost use Rattle.task_board.specs.{declared.calls.Call.Call, declared.calls.Reply.Reply};
 ghost use Rattle.task_board.specs.declared.mark.Mark.{Mark};
 
 use std::marker::{Model, PhantomData};

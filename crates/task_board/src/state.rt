@@ -29,8 +29,7 @@ impl<T: Tasks> Model for BoardState<T> {
 
     ghost Value = { StateData T.Terms T.Answer };
 
-    ghost use Rattle.task_board.specs.Kept.{KeepsMarks};
-    ghost use Rattle.task_board.specs.Marks.{answers_in};
+    ghost use Rattle.task_board.specs.{Kept.KeepsMarks, Marks.answers_in};
 
     ghost view = { λ b. record { marker = record {}; terms = T.terms b.tasks; marks = b.marks.items; room = b.calls } };
 

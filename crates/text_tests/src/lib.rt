@@ -4,24 +4,4 @@
 #![tactic(auto)]
 
 #[cfg(test)]
-mod certificate;
-#[cfg(test)]
-mod checker;
-#[cfg(test)]
-mod demands;
-#[cfg(test)]
-mod desks;
-#[cfg(test)]
-mod fields;
-#[cfg(test)]
-mod made_markets;
-#[cfg(test)]
-mod made_summaries;
-#[cfg(test)]
-mod made_texts;
-#[cfg(test)]
-mod readers;
-#[cfg(test)]
-mod runs;
-#[cfg(test)]
-mod summaries;
+mod tests;

@@ -1,7 +1,6 @@
 // Which sections clash, worked out once.
 ghost use Rattle.std.specs.Prelude.{◌≡◌, ◌≤◌, ◌<◌, IfOk, length, map};
-ghost use Rattle.timetable_rules.specs.Clash.{IsClashTable, tells};
-ghost use Rattle.timetable_rules.specs.Meetings.{meetings_of};
+ghost use Rattle.timetable_rules.specs.{Clash.IsClashTable, Clash.tells, Meetings.meetings_of};
 
 use crate::rows::clashing;
 use crate::{Meetings, Parts};

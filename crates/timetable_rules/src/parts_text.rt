@@ -1,7 +1,7 @@
 // Parts of a term, out of their written form and shared by sections.
 ghost use Rattle.std.specs.Prelude.{◌≡◌, ◌↔◌, IsTrue, IfSome, IfNone};
-ghost use Rattle.timetable_rules.specs.declared.parts.Parts.{Parts};
 ghost use Rattle.timetable_rules.specs.Parts.{SharePart, SpellsParts, share_part, spelled_parts};
+ghost use Rattle.timetable_rules.specs.declared.parts.Parts.{Parts};
 
 use crate::Parts;
 

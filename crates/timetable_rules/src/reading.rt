@@ -1,10 +1,8 @@
 // Meetings out of their written form.
 ghost use Rattle.std.specs.Prelude.{◌≡◌, ◌≢◌, ◌+◌, ◌*◌, ◌<◌, ◌++◌, ℕ, [], ◌∷◌, List, IfSome, IfNone, option_map};
-ghost use Rattle.timetable_rules.specs.declared.meeting.Meeting.{Meeting};
-ghost use Rattle.timetable_rules.specs.Meeting.{IsMeeting};
-ghost use Rattle.timetable_rules.specs.Meetings.{meetings_of};
-ghost use Rattle.timetable_rules.specs.Spelled.{spelled};
+ghost use Rattle.timetable_rules.specs.{Meeting.IsMeeting, Meetings.meetings_of, Spelled.spelled};
 ghost use Rattle.timetable_rules.specs.Spelling.{Spells, clock, day_letter, spelling, two_digits};
+ghost use Rattle.timetable_rules.specs.declared.meeting.Meeting.{Meeting};
 
 use crate::{Meeting, Meetings};
 use market_units::MAX_MEETINGS;

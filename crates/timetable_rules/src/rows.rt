@@ -1,8 +1,7 @@
 // One row of the table of clashes.
 ghost use Rattle.std.specs.Prelude.{◌≡◌, ◌≤◌, ◌<◌, ◌&&◌, ℕ, length, map, nat_lt};
 ghost use Rattle.std.specs.FinSet as set;
-ghost use Rattle.timetable_rules.specs.Clash.{clashes};
-ghost use Rattle.timetable_rules.specs.Meetings.{meetings_of};
+ghost use Rattle.timetable_rules.specs.{Clash.clashes, Meetings.meetings_of};
 
 use crate::parts_text::share_part;
 use crate::{Meetings, Parts, overlap};

@@ -2,8 +2,7 @@
 ghost use Rattle.std.specs.Prelude.{◌≡◌, ◌<◌, ◌==◌, not, [], ◌∷◌, length, IfNone, IfSome};
 ghost use Rattle.std.specs.List.{position};
 ghost use Rattle.std.specs.Str.Lines.{strip_carriage_return};
-ghost use Rattle.utility_language.specs.Lines.{lines_of};
-ghost use Rattle.utility_language.specs.Words.{is_blank, words_of};
+ghost use Rattle.utility_language.specs.{Lines.lines_of, Words.is_blank, Words.words_of};
 
 /// The first line of a text that is not empty, without the carriage return at its end, and the text
 /// behind its line feed.

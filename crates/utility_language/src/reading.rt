@@ -1,11 +1,9 @@
 // Commands read from lines.
 ghost use Rattle.std.specs.Prelude.{ℕ, ℤ, ◌≡◌, ◌≢◌, ◌<◌, ◌^◌, true, false, List, [], ◌∷◌, IfNone, IfSome, unsigned_abs, codes};
 ghost use Rattle.std.specs.Fmt.{signed_decimal};
-ghost use Rattle.market_units.specs.declared.names.Name.{Name};
-ghost use Rattle.market_units.specs.Name.{name_bytes};
-ghost use Rattle.utility_language.specs.declared.commands.Command.{Command};
-ghost use Rattle.utility_language.specs.Words.{words_of};
+ghost use Rattle.market_units.specs.{Name.name_bytes, declared.names.Name.Name};
 ghost use Rattle.utility_language.specs.Commands.{HasShortNumber, IsCommandOf, Spells, is_command, printed};
+ghost use Rattle.utility_language.specs.{Words.words_of, declared.commands.Command.Command};
 
 use crate::Command;
 use crate::lines::first_word;

@@ -1,7 +1,7 @@
 // Commands of a whole text.
 ghost use Rattle.std.specs.Prelude.{◌≡◌, ◌<◌, ◌≤◌, length, All, IfOk, OnOk, Err};
-ghost use Rattle.utility_language.specs.declared.streams.StreamEnd.TheVariants.{TooMany, NoMemory};
 ghost use Rattle.utility_language.specs.Commands.{AreCommands, HasShortNumber, command_lines};
+ghost use Rattle.utility_language.specs.declared.streams.StreamEnd.TheVariants.{TooMany, NoMemory};
 
 use crate::Command;
 use crate::lines::first_line;

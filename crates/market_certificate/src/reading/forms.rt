@@ -1,14 +1,14 @@
 // What a line of each form says.
 ghost use Rattle.std.specs.Prelude.{◌≡◌, ◌↔◌, ◌≤◌, ◌<◌, ◌≢◌, ◌∷◌, [], codes, IsTrue, All, IfOk, IfSome, IfNone};
 ghost use Rattle.std.specs.Fmt.{decimal};
-ghost use Rattle.market_certificate.specs.Lines.{spaced};
-ghost use Rattle.market_units.specs.Name.{name_bytes};
-ghost use Rattle.bundle_rules.specs.Bundles.{sections_of};
 ghost use Rattle.market_certificate.specs.Due.{AmountForm, BundleForm, ErrorForm, FinalForm, HasForm, IsTurnLine, OrderForm, StartsTurn, UsedForm};
+ghost use Rattle.market_certificate.specs.Lines.{spaced};
 ghost use Rattle.market_certificate.specs.Publications.{IsBundleOf, IsProved, IsSession, IsTurn, IsUsed, Proved};
 ghost use Rattle.market_certificate.specs.Tables.{Tables};
 ghost use Rattle.market_certificate.specs.Texts.{amount_line, bundle_line, error_line, final_line, most_of, order_line, proved_text, turn_line, used_line};
 ghost use Rattle.market_certificate.specs.Views.{seen};
+ghost use Rattle.market_units.specs.Name.{name_bytes};
+ghost use Rattle.bundle_rules.specs.Bundles.{sections_of};
 
 use crate::amounts::{Amount, most_of, word_of};
 use crate::reading::cuts::{behind, behind_field, cut};

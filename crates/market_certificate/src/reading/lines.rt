@@ -1,8 +1,7 @@
 // The lines of a text, read one after another.
 ghost use Rattle.std.specs.Prelude.{◌≡◌, ◌<◌, ◌-◌, ◌^◌, ◌+◌, ◌++◌, ◌∷◌, [], ℕ, IfOk, IfErr, length};
 ghost use Rattle.market_certificate.specs.Due.{Form, HasForm, Takes};
-ghost use Rattle.market_certificate.specs.Finding.{OnDefect, StopsAt};
-ghost use Rattle.market_certificate.specs.Lines.{Lacks};
+ghost use Rattle.market_certificate.specs.{Finding.OnDefect, Finding.StopsAt, Lines.Lacks};
 ghost use Rattle.market_certificate.specs.Tables.{Tables};
 ghost use Rattle.market_certificate.specs.declared.refusals.LineFault.TheVariants.{Form as Unformed};
 ghost use Rattle.market_certificate.specs.declared.refusals.TextRefusal.TheVariants.{Defect};

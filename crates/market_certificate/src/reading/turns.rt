@@ -1,10 +1,8 @@
 // The turns of the aftermarket, read off the front.
 ghost use Rattle.std.specs.Prelude.{◌≡◌, ◌++◌, ◌∷◌, [], List, All, IfOk, IfErr, IfSome, IfNone, map};
 ghost use Rattle.market_certificate.specs.Due.{AreDue, Due, Form, IsTurnLine, NoTurnNext, One, StartsTurn, Takes, Turns};
-ghost use Rattle.market_certificate.specs.Finding.{Finds, OnDefect};
-ghost use Rattle.market_certificate.specs.Lines.{Lacks};
-ghost use Rattle.market_certificate.specs.Publications.{IsTurn};
-ghost use Rattle.market_certificate.specs.Texts.{turn_line};
+ghost use Rattle.market_certificate.specs.{Finding.Finds, Finding.OnDefect, Lines.Lacks};
+ghost use Rattle.market_certificate.specs.{Publications.IsTurn, Texts.turn_line};
 ghost use Rattle.market_certificate.specs.Views.{seen, turn_of};
 
 use crate::reading::forms::{starts_turn, turn_in};

@@ -2,13 +2,10 @@
 ghost use Rattle.std.specs.Prelude.{◌≡◌, ◌≢◌, ◌↔◌, ◌≤◌, ◌<◌, ◌++◌, ◌∷◌, [], ℕ, List, IsTrue, All, IfOk, IfSome, IfNone, map};
 ghost use Rattle.std.specs.List.{join_with_byte};
 ghost use Rattle.std.specs.Fmt.{decimal};
-ghost use Rattle.bundle_rules.specs.Bundles.{sections_of};
-ghost use Rattle.bundle_rules.specs.Ordinals.{IsBundle};
+ghost use Rattle.bundle_rules.specs.{Bundles.sections_of, Ordinals.IsBundle};
 ghost use Rattle.proof_tree.specs.Alphabets.{AreTreeBytes, is_tree_byte};
 ghost use Rattle.market_certificate.specs.Publications.{IsBundleOf, IsSession};
-ghost use Rattle.market_certificate.specs.Texts.{bundle_text};
-ghost use Rattle.market_certificate.specs.Tables.{name_at};
-ghost use Rattle.market_certificate.specs.Views.{seen};
+ghost use Rattle.market_certificate.specs.{Tables.name_at, Texts.bundle_text, Views.seen};
 
 use crate::reading::cuts::behind;
 use crate::tables::TableNames;

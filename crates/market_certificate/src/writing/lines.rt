@@ -3,10 +3,9 @@ ghost use Rattle.std.specs.Prelude.{◌≡◌, ◌<◌, ◌++◌, ◌∷◌, [],
 ghost use Rattle.std.specs.Fmt.{decimal};
 ghost use Rattle.market_units.specs.Name.{name_bytes};
 ghost use Rattle.bundle_rules.specs.Bundles.{sections_of};
-ghost use Rattle.market_certificate.specs.Views.{proved_of, turn_of};
-ghost use Rattle.market_certificate.specs.Lines.{spaced};
-ghost use Rattle.market_certificate.specs.Tables.{name_at};
+ghost use Rattle.market_certificate.specs.{Lines.spaced, Tables.name_at};
 ghost use Rattle.market_certificate.specs.Texts.{amount_line, bundle_line, error_line, final_line, order_line, turn_line, used_line};
+ghost use Rattle.market_certificate.specs.Views.{proved_of, turn_of};
 
 use crate::amounts::{Amount, word_of};
 use crate::writing::fields::{put_bundle_field, put_field, put_number_field, put_number_fields};

@@ -1,0 +1,9 @@
+mod audits;
+mod desks;
+mod explanations;
+mod gates;
+mod halls;
+mod opened_halls;
+mod tables;
+mod told_audits;
+mod told_reasons;

@@ -1,0 +1,30 @@
+use Rattle.std.proofs.Common.{◌≡◌, ◌∙◌, length, ap, arith}
+use Rattle.std.specs.Arc.{arc_value}
+use Rattle.demand_api.specs.declared.crowd.Crowd.{Crowd}
+use Rattle.demand_tests.proofs.BoardRounds.{free_two, back_two}
+use Rattle.demand_tests.proofs.tests.board.delay.Goals as goal
+
+pub start-requires-clause-round : goal.start-requires-clause-round
+start-requires-clause-round g c =
+    c.in_ok-round.ensures.round (arc_value c.in_ok-crowd.crowd)
+    (ap (λ (crowd : Crowd). crowd.sections) c.in_ok-crowd.ensures.ok ∙ c.rivals.ensures.sections)
+
+pub late_and_again-late-requires-clause-first_free : goal.late_and_again-late-requires-clause-first_free
+late_and_again-late-requires-clause-first_free g c =
+    let count : length c.in_ok-board.seats.items ≡ 2 = omega (arith, c.in_ok-board.ensures.count, c.in_ok-board.seats.ok.0) in
+    (free_two c.in_ok-board.board c.in_ok-board.seats.items c.pop.new.self.items c.pop-2.new.self.items c.in-Some-pop.first c.in-Some.second count
+    c.in-Some.ensures.items c.in-Some-pop.ensures.items c.in_ok-board.ensures.free).0
+
+pub late_and_again-late-requires-clause-second_free : goal.late_and_again-late-requires-clause-second_free
+late_and_again-late-requires-clause-second_free g c =
+    let count : length c.in_ok-board.seats.items ≡ 2 = omega (arith, c.in_ok-board.ensures.count, c.in_ok-board.seats.ok.0) in
+    (free_two c.in_ok-board.board c.in_ok-board.seats.items c.pop.new.self.items c.pop-2.new.self.items c.in-Some-pop.first c.in-Some.second count
+    c.in-Some.ensures.items c.in-Some-pop.ensures.items c.in_ok-board.ensures.free).1
+
+pub close-requires-clause-all : goal.close-requires-clause-all
+close-requires-clause-all g c =
+    let count : length c.in_ok-board.seats.items ≡ 2 = omega (arith, c.in_ok-board.ensures.count, c.in_ok-board.seats.ok.0) in
+    back_two (length c.in_ok-board.board.allotments) c.in_ok-board.seats.items c.pop.new.self.items c.pop-2.new.self.items c.in_ok-seats.seats.items
+    c.in-Some-pop.first c.in-Some.second c.late_and_again-late.new.first c.late_and_again-late.new.second count c.in-Some.ensures.items
+    c.in-Some-pop.ensures.items c.in_ok-board.ensures.numbers c.in_ok-board.ensures.allotments c.late_and_again-late.ensures.first_number
+    c.late_and_again-late.ensures.second_number c.in_ok-seats.ensures.items

@@ -1,0 +1,12 @@
+mod board;
+mod bounds;
+mod clearing;
+mod crowds;
+mod held_workers;
+mod menus;
+mod plain_demands;
+mod rivals;
+mod trees;
+mod two_sections;
+mod two_versions;
+mod workers;

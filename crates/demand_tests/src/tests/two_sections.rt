@@ -1,0 +1,45 @@
+// Four students, of whom two want one section and two another.
+use crate::tests::rivals::students_of;
+use crate::tests::workers::all_have_prices;
+use demand_api::Demands;
+use demand_workers::{Pool, PooledDemands};
+use market_edge::OpenGate;
+use market_units::{SectionNo, Tokens};
+use std::sync::Arc;
+use std::test::Fail;
+
+// Both sections become cheaper than they were, and each of the four takes what it wants then.
+#[test]
+fn each_cheaper_section_is_noticed(rt: HostRuntime) -> Result<(), Fail> {
+    let alloc = rt.alloc();
+    let crowd = Arc::new(alloc, students_of(&rt, alloc, 4, 2))?;
+    let dear = [vec![in alloc; Tokens(104); 2]?];
+    let free = [vec![in alloc; Tokens(0); 2]?];
+    assert!(rt; all_have_prices(&crowd, &dear));
+    assert!(rt; all_have_prices(&crowd, &free));
+    let mut demands = PooledDemands::make(Pool::reserve(alloc, 2)?, crowd, &OpenGate);
+    let found = demands.counts(&rt, alloc, &dear)?;
+    assert_eq!(rt; found.len(), 1);
+    assert_eq!(rt; found[0].as_slice(), [0, 0].as_slice());
+    let found = demands.counts(&rt, alloc, &free)?;
+    assert_eq!(rt; found.len(), 1);
+    assert_eq!(rt; found[0].as_slice(), [2, 2].as_slice());
+    Ok(())
+}
+
+// The least prices at which at most one takes the section: of budgets 100 and 102 want the first,
+// and of budgets 101 and 103 the second.
+#[test]
+fn the_least_price_of_each_section(rt: HostRuntime) -> Result<(), Fail> {
+    let alloc = rt.alloc();
+    let crowd = Arc::new(alloc, students_of(&rt, alloc, 4, 2))?;
+    let prices = [Tokens(0), Tokens(50)];
+    assert!(rt; crowd.has_prices(&prices));
+    assert_eq!(rt; crowd.sections, 2);
+    let mut demands = PooledDemands::make(Pool::reserve(alloc, 2)?, crowd, &OpenGate);
+    let pairs = [(SectionNo(0), 1), (SectionNo(1), 1)];
+    let found = demands.least_prices(&rt, alloc, &prices, &pairs)?;
+    let wanted = [101, 102].map(Tokens);
+    assert_eq!(rt; found.as_slice(), wanted.as_slice());
+    Ok(())
+}

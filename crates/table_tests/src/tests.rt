@@ -1,0 +1,12 @@
+mod bundles;
+mod catalogues;
+mod commands;
+mod drawn_words;
+mod lines;
+mod meetings;
+mod price_sheets;
+mod rolls;
+mod rows;
+mod settings;
+mod tables;
+mod units;

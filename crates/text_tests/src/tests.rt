@@ -1,0 +1,11 @@
+mod certificate;
+mod checker;
+mod demands;
+mod desks;
+mod fields;
+mod made_markets;
+mod made_summaries;
+mod made_texts;
+mod readers;
+mod runs;
+mod summaries;
