@@ -2,6 +2,7 @@
 use Rattle.std.proofs.Common.{ℕ, zero, suc, ◌≡◌, ◌++◌, Bool, true, false, List, [], ◌∷◌, map, Some, None, ap, sym, ◌∙◌, refl, get_or, ◌<◌, length, arith, nat_eq}
 use Rattle.std.specs.Prelude.{Option, ◌||◌}
 use Rattle.std.specs.String.{string_bytes}
+use Rattle.std.proofs.lemmas.Bool.Decides.{nat_tests}
 use Rattle.std.proofs.lemmas.List.{map-append, append-nil}
 use Rattle.std.proofs.lemmas.List.Quantifiers.{position-Some}
 use Rattle.std.proofs.lemmas.Slice.Eq.{bytes_eq-Decides}
@@ -67,3 +68,18 @@ name_of_place [] name i is = absurd cc
 name_of_place (file ∷ files) name i is =
     let first = position-Some (has_name name) (file ∷ files) i file is in
     named_at (file ∷ files) name i file first.0 first.1
+
+-- nothing is begun or ended
+pub still : (told : Option (List Opening)) → Changes told told as_before
+still None = tt
+still (Some openings) = refl
+
+-- the begun text is read on, and not to its end
+pub read_on : (files : List File) (told : Option (List (ℕ × Bool))) (was now : Place) (b : Bool) (n : ℕ) → now.file ≡ was.file → 0 < n
+    → Changes (openings_of files told (Some was) b) (openings_of files told (Some now) (b || nat_eq n 0)) as_before
+read_on files None was now b n same some = tt
+read_on files (Some x) was now b zero same some = absurd (omega arith)
+read_on files (Some x) was now true (suc n) same some = ap (λ file. map (opening_of files) (x ++ (file, true) ∷ [])) same
+read_on files (Some x) was now false (suc n) same some =
+    let none : nat_eq (suc n) 0 ≡ false = grind (arith, nat_tests) in
+    rw none (ap (λ file. map (opening_of files) (x ++ (file, false) ∷ [])) same)

@@ -6,6 +6,7 @@ pub mod MemoryFiles
 pub mod MemoryShelves
 pub mod MemorySinks
 pub mod Openings
+pub mod Shelves
 pub mod Sinks
 pub mod StdoutSinks
 pub mod SureFiles

@@ -1,6 +1,7 @@
 // A list of texts that were begun, in room that is reserved once.
 ghost use Rattle.std.specs.Prelude.{◌≡◌, ◌<◌, ◌≤◌, Some, [], length, IfOk, vec_capacity};
 ghost use Rattle.market_edge.specs.MemoryFiles.{Lists, earlier_of};
+ghost use Rattle.market_edge.specs.declared.begun_list.TheConstants.{ROOM};
 
 use crate::memory_files::Place;
 use market_units::NoMemory;
@@ -15,8 +16,8 @@ const ROOM: usize = 128;
 pub struct BegunList {
     texts: Vec<(usize, bool)>,
     count: usize,
-    ghost reserved: { 128 ≤ vec_capacity texts },
-    ghost counted: { count ≤ 128 → length texts.items ≡ count },
+    ghost reserved: { ROOM ≤ vec_capacity texts },
+    ghost counted: { count ≤ ROOM → length texts.items ≡ count },
 }
 
 impl BegunList {

@@ -1,11 +1,9 @@
 // A shelf in memory, for tests.
 ghost use Rattle.std.specs.Prelude.{◌≡◌, ◌<◌, ◌≤◌, ◌+◌, ◌⊎◌, ◌++◌, ◌↔◌, [], Some, List, ℕ, Bool, false, length, take, drop, min, is_some, IsTrue, IsNone, IsErr, Contains, IfOk, OnOk, OnErr};
-ghost use Rattle.std.specs.Io.KnownBytes.{ReadConsumes};
 ghost use Rattle.std.specs.Option.{ForSome};
-ghost use Rattle.market_edge.specs.{Faults.Rose, Holdings.Begins};
-ghost use Rattle.market_edge.specs.MemoryFiles.{IsPlace, Raises, count_of, has_place_of, holding_of, left_of, place_of, serves_name};
-ghost use Rattle.market_edge.specs.Openings.{Changes, as_before, with_begun, with_end};
 ghost use Rattle.market_units.specs.Counts.{one_more};
+ghost use Rattle.market_edge.specs.MemoryFiles.{IsPlace, Raises, count_of, has_place_of, holding_of, left_of, place_of, serves_name};
+ghost use Rattle.market_edge.specs.Shelves.{IsBegin, IsRead};
 
 use crate::begun_list::BegunList;
 use crate::memory_files::{Place, find, put_rest};
@@ -31,7 +29,7 @@ pub struct MemoryShelf {
 }
 
 impl MemoryShelf {
-    ghost use Rattle.market_edge.specs.MemoryShelves.{calls_of, failing_of, faults_of, files_of, has_begun, told_holding, told_openings};
+    ghost use Rattle.market_edge.specs.MemoryShelves.{calls_of, failing_of, files_of, told_by};
 
     /// A shelf of these files, with nothing begun and no call made.
     pub fn make(
@@ -42,10 +40,11 @@ impl MemoryShelf {
         ensures files { IfOk result (λ shelf. files_of shelf ≡ files.items) }
         ensures failing { IfOk result (λ shelf. failing_of shelf ≡ failing.items) }
         ensures calls { IfOk result (λ shelf. calls_of shelf ≡ 0) }
-        ensures holds { IfOk result (λ shelf. told_holding shelf ≡ Some (holding_of files.items)) }
-        ensures begun { IfOk result (λ shelf. has_begun shelf ≡ false) }
-        ensures openings { IfOk result (λ shelf. told_openings shelf ≡ Some []) }
-        ensures faults { IfOk result (λ shelf. (name : List ℕ) → faults_of shelf name ≡ 0) }
+        ensures holds { IfOk result
+            (λ shelf. (told_by shelf).holds ≡ Some (holding_of files.items)) }
+        ensures begun { IfOk result (λ shelf. (told_by shelf).is_begun ≡ false) }
+        ensures openings { IfOk result (λ shelf. (told_by shelf).openings ≡ Some []) }
+        ensures faults { IfOk result (λ shelf. (name : List ℕ) → (told_by shelf).faults name ≡ 0) }
     {
         let counts = vec![in alloc; 0; files.len()]?;
         Ok(MemoryShelf {
@@ -62,51 +61,26 @@ impl MemoryShelf {
 }
 
 impl Shelf for MemoryShelf {
-    ghost use Rattle.market_edge.specs.MemoryShelves.{FailsNext, calls_of, failing_of, faults_of, files_of, has_begun, rest_of, serves_of, told_holding, told_openings};
+    ghost use Rattle.market_edge.specs.MemoryShelves.{FailsNext, IsNextCall, files_of, told_by};
 
-    ghost holds = { told_holding };
-
-    ghost left = { rest_of };
-
-    ghost is_begun = { has_begun };
-
-    ghost serves = { serves_of };
-
-    ghost openings = { told_openings };
-
-    ghost faults = { faults_of };
+    ghost shows = { told_by };
 
     fn begin(&mut self, name: &str) -> Result<(), Failed>
-        ensures holds { told_holding self.new ≡ told_holding self.old }
-        ensures begun { OnOk result (IsTrue (has_begun self.new)) }
-        ensures text { OnOk result (Begins (told_holding self.old) name.now (rest_of self.new)) }
-        ensures serves { OnOk result (IsTrue (serves_of self.new name.now)) }
-        ensures none { OnErr result (has_begun self.new ≡ false) }
-        ensures opens { OnOk result
-            (Changes (told_openings self.old) (told_openings self.new) (with_begun name.now)) }
-        ensures opens_none { OnErr result
-            (Changes (told_openings self.old) (told_openings self.new) as_before) }
-        ensures cause { OnErr result
-            (Rose (faults_of self.old name.now) (faults_of self.new name.now)) }
-        ensures uncounted { OnOk result (faults_of self.new ≡ faults_of self.old) }
-        ensures later { (other : List ℕ) → faults_of self.old other ≤ faults_of self.new other }
+        ensures begins { IsBegin (told_by self.old) (told_by self.new) name.now result }
 
         // It serves the name of the begun file alone.
         ensures alone { OnOk result
             ((other : List ℕ)
-            → serves_of self.new other ≡ has_place_of (files_of self.old) name.now other) }
+            → (told_by self.new).serves other ≡ has_place_of (files_of self.old) name.now other) }
 
         // It fails exactly at the calls of these numbers, and where no file has the name; each
         // failure is counted.
         ensures fails { IsErr result
             ↔ (IsNone (place_of (files_of self.old) name.now) ⊎ FailsNext self.old) }
         ensures counted { OnErr result
-            (Raises (has_place_of (files_of self.old) name.now) (faults_of self.old)
-            (faults_of self.new)) }
-
-        ensures calls { calls_of self.new ≡ one_more (calls_of self.old) }
-        ensures files { files_of self.new ≡ files_of self.old }
-        ensures failing { failing_of self.new ≡ failing_of self.old }
+            (Raises (has_place_of (files_of self.old) name.now) (told_by self.old).faults
+            (told_by self.new).faults) }
+        ensures next { IsNextCall self.old self.new }
     {
         let fails = next_fails(&mut self.calls, &self.failing);
         self.earlier.put(self.begun, self.is_ended);
@@ -125,34 +99,16 @@ impl Shelf for MemoryShelf {
     }
 
     fn read(&mut self, room: &mut [u8]) -> Result<usize, Failed>
-        requires begun { IsTrue (has_begun self.old) }
+        requires begun { IsTrue (told_by self.old).is_begun }
         requires room { 0 < length room.old }
-
-        ensures holds { told_holding self.new ≡ told_holding self.old }
-        ensures begun { IsTrue (has_begun self.new) }
-        ensures bound { IfOk result (λ n. n ≤ length room.new) }
-        ensures bytes { ReadConsumes (rest_of self.old) (rest_of self.new) result room.new }
-        ensures ends { IfOk result
-            (λ n. n ≡ 0 → Changes (told_openings self.old) (told_openings self.new) with_end) }
-        ensures goes_on { IfOk result
-            (λ n. 0 < n → Changes (told_openings self.old) (told_openings self.new) as_before) }
-        ensures stays { OnErr result
-            (Changes (told_openings self.old) (told_openings self.new) as_before) }
-        ensures serves { (other : List ℕ) → serves_of self.new other ≡ serves_of self.old other }
-        ensures cause { OnErr result
-            ((other : List ℕ) → IsTrue (serves_of self.old other)
-            → Rose (faults_of self.old other) (faults_of self.new other)) }
-        ensures uncounted { OnOk result (faults_of self.new ≡ faults_of self.old) }
-        ensures later { (other : List ℕ) → faults_of self.old other ≤ faults_of self.new other }
+        ensures reads { IsRead (told_by self.old) (told_by self.new) room.new result }
 
         // It fails exactly at the calls of these numbers; each failure is counted.
         ensures fails { IsErr result ↔ FailsNext self.old }
         ensures counted { OnErr result
-            (Raises (serves_of self.old) (faults_of self.old) (faults_of self.new)) }
-
-        ensures calls { calls_of self.new ≡ one_more (calls_of self.old) }
-        ensures files { files_of self.new ≡ files_of self.old }
-        ensures failing { failing_of self.new ≡ failing_of self.old }
+            (Raises (told_by self.old).serves (told_by self.old).faults
+            (told_by self.new).faults) }
+        ensures next { IsNextCall self.old self.new }
     {
         let Some(place) = self.begun else {
             unreachable!()

@@ -1,7 +1,7 @@
 // A sink in memory, for tests.
-ghost use Rattle.std.specs.Prelude.{◌≡◌, ◌<◌, ◌≤◌, ◌⊎◌, ◌↔◌, ◌-◌, [], Some, length, take, min, IfOk, OnOk, OnErr, IsErr, IsTrue, Contains, vec_capacity};
+ghost use Rattle.std.specs.Prelude.{◌≡◌, ◌<◌, ◌≤◌, ◌⊎◌, ◌↔◌, ◌-◌, [], length, min, IfOk, OnErr, IsErr, IsTrue, Contains, vec_capacity};
 ghost use Rattle.market_units.specs.Counts.{one_more};
-ghost use Rattle.market_edge.specs.{Faults.Rose, Sinks.Takes};
+ghost use Rattle.market_edge.specs.Sinks.{IsWrite};
 
 use crate::{Failed, Sink};
 use market_units::NoMemory;
@@ -56,24 +56,13 @@ impl MemorySink {
 }
 
 impl Sink for MemorySink {
-    ghost use Rattle.market_edge.specs.MemorySinks.{bytes_of, size_of, failing_of, writes_of, faults_of, IsRefused};
+    ghost use Rattle.market_edge.specs.MemorySinks.{IsNextWrite, IsRefused, bytes_of, faults_of, size_of, taken_by};
 
-    ghost taken = { λ sink. Some (bytes_of sink) };
-
-    ghost faults = { faults_of };
+    ghost shows = { taken_by };
 
     fn write(&mut self, piece: &[u8]) -> Result<usize, Failed>
         requires { 0 < length piece.now }
-
-        ensures some { IfOk result (λ n. 0 < n) }
-        ensures bound { IfOk result (λ n. n ≤ length piece.now) }
-        ensures bytes { IfOk result
-            (λ n. Takes (Some (bytes_of self.old)) (Some (bytes_of self.new)) (take n piece.now)) }
-        ensures none { OnErr result
-            (Takes (Some (bytes_of self.old)) (Some (bytes_of self.new)) []) }
-        ensures cause { OnErr result (Rose (faults_of self.old) (faults_of self.new)) }
-        ensures uncounted { OnOk result (faults_of self.new ≡ faults_of self.old) }
-        ensures later { faults_of self.old ≤ faults_of self.new }
+        ensures writes { IsWrite (taken_by self.old) (taken_by self.new) piece.now result }
 
         // It fails exactly at the calls of these numbers, and where no room is left; each failure
         // is counted.
@@ -81,10 +70,7 @@ impl Sink for MemorySink {
         ensures most { IfOk result
             (λ n. n ≡ min (length piece.now) (size_of self.old - length (bytes_of self.old))) }
         ensures counted { OnErr result (faults_of self.new ≡ one_more (faults_of self.old)) }
-
-        ensures writes { writes_of self.new ≡ one_more (writes_of self.old) }
-        ensures size { size_of self.new ≡ size_of self.old }
-        ensures failing { failing_of self.new ≡ failing_of self.old }
+        ensures next { IsNextWrite self.old self.new }
     {
         let is_refused = self.is_refused();
         self.writes = self.writes.saturating_add(1);

@@ -1,8 +1,8 @@
 // A writer of std, as standard output. What it takes is not told: this is the trusted edge.
-ghost use Rattle.std.specs.Prelude.{◌≡◌, ◌<◌, ◌≤◌, [], None, length, take, IfOk, OnOk, OnErr};
+ghost use Rattle.std.specs.Prelude.{◌≡◌, ◌<◌, None, length, OnErr};
 ghost use Rattle.std.specs.Io.KnownBytes.{WriteAppends};
 ghost use Rattle.market_units.specs.Counts.{one_more};
-ghost use Rattle.market_edge.specs.{Faults.Rose, Sinks.Takes};
+ghost use Rattle.market_edge.specs.Sinks.{IsWrite};
 
 use crate::{Failed, Sink};
 use std::io::Write;
@@ -21,7 +21,7 @@ impl<W: Write + Drop> StdoutSink<W> {
     /// A sink over this writer.
     pub fn new(writer: W) -> Self
         ensures writer { writer_of result ≡ writer }
-        ensures faults { ⟦<StdoutSink<W> as Sink>⟧.faults result ≡ 0 }
+        ensures faults { (⟦<StdoutSink<W> as Sink>⟧.shows result).faults ≡ 0 }
     {
         StdoutSink { writer, faults: 0 }
     }
@@ -30,29 +30,12 @@ impl<W: Write + Drop> StdoutSink<W> {
 impl<W: Write + Drop> Sink for StdoutSink<W> {
     ghost use Rattle.market_edge.specs.StdoutSinks.{writer_of};
 
-    ghost taken = { λ _. None };
-
-    ghost faults = { λ sink. sink.faults };
+    ghost shows = { λ sink. record { taken = None; faults = sink.faults } };
 
     fn write(&mut self, piece: &[u8]) -> Result<usize, Failed>
         requires { 0 < length piece.now }
-
-        ensures some { IfOk result (λ n. 0 < n) }
-        ensures bound { IfOk result (λ n. n ≤ length piece.now) }
-        ensures bytes { IfOk result
-            (λ n. Takes (⟦<StdoutSink<W> as Sink>⟧.taken self.old)
-            (⟦<StdoutSink<W> as Sink>⟧.taken self.new) (take n piece.now)) }
-        ensures none { OnErr result
-            (Takes (⟦<StdoutSink<W> as Sink>⟧.taken self.old)
-            (⟦<StdoutSink<W> as Sink>⟧.taken self.new) []) }
-        ensures cause { OnErr result
-            (Rose (⟦<StdoutSink<W> as Sink>⟧.faults self.old)
-            (⟦<StdoutSink<W> as Sink>⟧.faults self.new)) }
-        ensures uncounted { OnOk result
-            (⟦<StdoutSink<W> as Sink>⟧.faults self.new
-            ≡ ⟦<StdoutSink<W> as Sink>⟧.faults self.old) }
-        ensures later { ⟦<StdoutSink<W> as Sink>⟧.faults self.old
-            ≤ ⟦<StdoutSink<W> as Sink>⟧.faults self.new }
+        ensures writes { IsWrite (⟦<StdoutSink<W> as Sink>⟧.shows self.old)
+            (⟦<StdoutSink<W> as Sink>⟧.shows self.new) piece.now result }
 
         // The piece is passed on to the writer once: what the writer took of it is what is
         // answered, and after a failed call it took none.
@@ -61,8 +44,8 @@ impl<W: Write + Drop> Sink for StdoutSink<W> {
 
         // Each failure is counted.
         ensures counted { OnErr result
-            (⟦<StdoutSink<W> as Sink>⟧.faults self.new
-            ≡ one_more (⟦<StdoutSink<W> as Sink>⟧.faults self.old)) }
+            ((⟦<StdoutSink<W> as Sink>⟧.shows self.new).faults
+            ≡ one_more (⟦<StdoutSink<W> as Sink>⟧.shows self.old).faults) }
     {
         match self.writer.write(piece) {
             Ok(count) if count > 0 => Ok(count),

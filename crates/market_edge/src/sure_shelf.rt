@@ -1,10 +1,8 @@
 // A shelf in memory that never fails.
-ghost use Rattle.std.specs.Prelude.{◌≡◌, ◌<◌, ◌≤◌, Some, None, List, ℕ, false, length, IsTrue, IsOk, IfOk, OnOk, OnErr};
-ghost use Rattle.std.specs.Io.KnownBytes.{ReadConsumes};
+ghost use Rattle.std.specs.Prelude.{◌≡◌, ◌<◌, Some, List, ℕ, false, length, IsTrue, IsOk};
 ghost use Rattle.std.specs.Option.{ForSome};
-ghost use Rattle.market_edge.specs.{Faults.Rose, Holdings.Begins};
 ghost use Rattle.market_edge.specs.MemoryFiles.{IsPlace, has_place_of};
-ghost use Rattle.market_edge.specs.Openings.{Changes, as_before, with_begun, with_end};
+ghost use Rattle.market_edge.specs.Shelves.{IsBegin, IsRead};
 ghost use Rattle.market_edge.specs.SureFiles.{place_of_begun, sure_holding};
 
 use crate::memory_files::{Place, find, put_rest};
@@ -31,12 +29,12 @@ pub struct SureShelf {
 }
 
 impl SureShelf {
-    ghost use Rattle.market_edge.specs.SureShelves.{has_begun, held_by};
+    ghost use Rattle.market_edge.specs.SureShelves.{shown_by};
 
     /// A shelf of these files, with nothing begun.
     pub fn make(files: Vec<(String, Vec<u8>)>) -> SureShelf
-        ensures holds { held_by result ≡ Some (sure_holding files.items) }
-        ensures begun { has_begun result ≡ false }
+        ensures holds { (shown_by result).holds ≡ Some (sure_holding files.items) }
+        ensures begun { (shown_by result).is_begun ≡ false }
     {
         SureShelf {
             files,
@@ -46,41 +44,17 @@ impl SureShelf {
 }
 
 impl Shelf for SureShelf {
-    ghost use Rattle.market_edge.specs.SureShelves.{files_of, has_begun, held_by, rest_of, serves_of};
+    ghost use Rattle.market_edge.specs.SureShelves.{files_of, shown_by};
 
-    ghost holds = { held_by };
-
-    ghost left = { rest_of };
-
-    ghost is_begun = { has_begun };
-
-    ghost serves = { serves_of };
-
-    ghost openings = { λ _. None };
-
-    ghost faults = { λ _ _. 0 };
+    ghost shows = { shown_by };
 
     fn begin(&mut self, name: &str) -> Result<(), Failed>
-        ensures holds { held_by self.new ≡ held_by self.old }
-        ensures begun { OnOk result (IsTrue (has_begun self.new)) }
-        ensures text { OnOk result (Begins (held_by self.old) name.now (rest_of self.new)) }
-        ensures serves { OnOk result (IsTrue (serves_of self.new name.now)) }
-        ensures none { OnErr result (has_begun self.new ≡ false) }
-        ensures opens { OnOk result
-            (Changes (⟦<SureShelf as Shelf>⟧.openings self.old)
-            (⟦<SureShelf as Shelf>⟧.openings self.new) (with_begun name.now)) }
-        ensures opens_none { OnErr result
-            (Changes (⟦<SureShelf as Shelf>⟧.openings self.old)
-            (⟦<SureShelf as Shelf>⟧.openings self.new) as_before) }
-        ensures cause { OnErr result (Rose 0 0) }
-        ensures uncounted { OnOk result
-            (⟦<SureShelf as Shelf>⟧.faults self.new ≡ ⟦<SureShelf as Shelf>⟧.faults self.old) }
-        ensures later { List ℕ → 0 ≤ 0 }
+        ensures begins { IsBegin (shown_by self.old) (shown_by self.new) name.now result }
 
         // It never fails, and serves the name of the begun text alone.
         ensures sure { IsOk result }
         ensures alone { (other : List ℕ)
-            → serves_of self.new other ≡ has_place_of (files_of self.old) name.now other }
+            → (shown_by self.new).serves other ≡ has_place_of (files_of self.old) name.now other }
         ensures files { files_of self.new ≡ files_of self.old }
     {
         let Some(file) = find(&self.files, name) else {
@@ -92,30 +66,9 @@ impl Shelf for SureShelf {
     }
 
     fn read(&mut self, room: &mut [u8]) -> Result<usize, Failed>
-        requires begun { IsTrue (has_begun self.old) }
+        requires begun { IsTrue (shown_by self.old).is_begun }
         requires room { 0 < length room.old }
-
-        ensures holds { held_by self.new ≡ held_by self.old }
-        ensures begun { IsTrue (has_begun self.new) }
-        ensures bound { IfOk result (λ n. n ≤ length room.new) }
-        ensures bytes { ReadConsumes (rest_of self.old) (rest_of self.new) result room.new }
-        ensures ends { IfOk result
-            (λ n. n ≡ 0
-            → Changes (⟦<SureShelf as Shelf>⟧.openings self.old)
-            (⟦<SureShelf as Shelf>⟧.openings self.new) with_end) }
-        ensures goes_on { IfOk result
-            (λ n. 0 < n
-            → Changes (⟦<SureShelf as Shelf>⟧.openings self.old)
-            (⟦<SureShelf as Shelf>⟧.openings self.new) as_before) }
-        ensures stays { OnErr result
-            (Changes (⟦<SureShelf as Shelf>⟧.openings self.old)
-            (⟦<SureShelf as Shelf>⟧.openings self.new) as_before) }
-        ensures serves { (other : List ℕ) → serves_of self.new other ≡ serves_of self.old other }
-        ensures cause { OnErr result
-            ((other : List ℕ) → IsTrue (serves_of self.old other) → Rose 0 0) }
-        ensures uncounted { OnOk result
-            (⟦<SureShelf as Shelf>⟧.faults self.new ≡ ⟦<SureShelf as Shelf>⟧.faults self.old) }
-        ensures later { List ℕ → 0 ≤ 0 }
+        ensures reads { IsRead (shown_by self.old) (shown_by self.new) room.new result }
 
         // It never fails.
         ensures sure { IsOk result }

@@ -1,6 +1,6 @@
 // A sink in memory that never fails.
-ghost use Rattle.std.specs.Prelude.{◌≡◌, ◌<◌, ◌≤◌, ◌+◌, ◌^◌, ◌-◌, ◌↔◌, [], Some, None, length, take, min, IfOk, OnOk, OnErr, IsOk, IsNone, IfSome, IfNone, vec_capacity};
-ghost use Rattle.market_edge.specs.{Faults.Rose, Sinks.Takes, Sinks.told_within};
+ghost use Rattle.std.specs.Prelude.{◌≡◌, ◌<◌, ◌≤◌, ◌+◌, ◌^◌, ◌-◌, ◌↔◌, [], Some, None, length, min, IfOk, IsOk, IsNone, IfSome, IfNone, vec_capacity};
+ghost use Rattle.market_edge.specs.Sinks.{IsWrite, told_within};
 
 use crate::{Failed, Sink};
 use market_units::NoMemory;
@@ -50,24 +50,13 @@ impl SureSink {
 }
 
 impl Sink for SureSink {
-    ghost use Rattle.market_edge.specs.SureSinks.{count_of, size_of, told_bytes};
+    ghost use Rattle.market_edge.specs.SureSinks.{count_of, shown_by, size_of, told_bytes};
 
-    ghost taken = { told_bytes };
-
-    ghost faults = { λ _. 0 };
+    ghost shows = { shown_by };
 
     fn write(&mut self, piece: &[u8]) -> Result<usize, Failed>
         requires { 0 < length piece.now }
-
-        ensures some { IfOk result (λ n. 0 < n) }
-        ensures bound { IfOk result (λ n. n ≤ length piece.now) }
-        ensures bytes { IfOk result
-            (λ n. Takes (told_bytes self.old) (told_bytes self.new) (take n piece.now)) }
-        ensures none { OnErr result (Takes (told_bytes self.old) (told_bytes self.new) []) }
-        ensures cause { OnErr result (Rose 0 0) }
-        ensures uncounted { OnOk result
-            (⟦<SureSink as Sink>⟧.faults self.new ≡ ⟦<SureSink as Sink>⟧.faults self.old) }
-        ensures later { 0 ≤ 0 }
+        ensures writes { IsWrite (shown_by self.old) (shown_by self.new) piece.now result }
 
         // It never fails, and takes the whole piece.
         ensures sure { IsOk result }

@@ -53,33 +53,35 @@ pub fn read_whole<H: Shelf>(
 ) -> Result<Vec<u8>, Taking>
     requires { limit ≤ MAX_TEXT_BYTES }
 
-    ensures whole { IfOk result (λ text. IsTextOf (H.holds shelf.old) name.now text.items) }
-    ensures end { OnOk result (IsReadOut (H.holds shelf.old) (H.left shelf.new)) }
+    ensures whole { IfOk result (λ text. IsTextOf (H.shows shelf.old).holds name.now text.items) }
+    ensures end { OnOk result (IsReadOut (H.shows shelf.old).holds (H.shows shelf.new).left) }
     // The text is begun and read to its end, or begun at most; nothing else is begun.
     ensures read_out { OnOk result
-        (Changes (H.openings shelf.old) (H.openings shelf.new) (with_read_out (name.now ∷ []))) }
-    ensures begun { ¬ IsErrOf result Taking.ShelfFault → IsTrue (H.is_begun shelf.new) }
+        (Changes (H.shows shelf.old).openings (H.shows shelf.new).openings
+        (with_read_out (name.now ∷ []))) }
+    ensures begun { ¬ IsErrOf result Taking.ShelfFault → IsTrue (H.shows shelf.new).is_begun }
     ensures begun_at_most { OnErr result
-        (BeginsAtMost (H.openings shelf.old) (H.openings shelf.new) name.now
-        (H.is_begun shelf.new)) }
+        (BeginsAtMost (H.shows shelf.old).openings (H.shows shelf.new).openings name.now
+        (H.shows shelf.new).is_begun) }
 
-    ensures served { OnOk result (IsTrue (H.serves shelf.new name.now)) }
+    ensures served { OnOk result (IsTrue ((H.shows shelf.new).serves name.now)) }
     ensures within { IfOk result (λ text. length text.items ≤ limit) }
 
     // It is too long exactly where one byte more than the limit was taken.
     ensures too_long { IsErrOf result Taking.TooLong
-        → TakesExactly (limit + 1) (H.holds shelf.old) name.now (H.left shelf.new) }
-    ensures at_most { ¬ IsErrOf result Taking.TooLong → IsTrue (H.is_begun shelf.new)
-        → TakesAtMost limit (H.holds shelf.old) name.now (H.left shelf.new) }
+        → TakesExactly (limit + 1) (H.shows shelf.old).holds name.now (H.shows shelf.new).left }
+    ensures at_most { ¬ IsErrOf result Taking.TooLong → IsTrue (H.shows shelf.new).is_begun
+        → TakesAtMost limit (H.shows shelf.old).holds name.now (H.shows shelf.new).left }
 
     // A fault is counted exactly where the shelf is at fault.
     ensures shelf_fault { IsErrOf result Taking.ShelfFault
-        → Rose (H.faults shelf.old name.now) (H.faults shelf.new name.now) }
+        → Rose ((H.shows shelf.old).faults name.now) ((H.shows shelf.new).faults name.now) }
     ensures uncounted { ¬ IsErrOf result Taking.ShelfFault
-        → H.faults shelf.new ≡ H.faults shelf.old }
+        → (H.shows shelf.new).faults ≡ (H.shows shelf.old).faults }
 
-    ensures holds { H.holds shelf.new ≡ H.holds shelf.old }
-    ensures later { (other : List ℕ) → H.faults shelf.old other ≤ H.faults shelf.new other }
+    ensures holds { (H.shows shelf.new).holds ≡ (H.shows shelf.old).holds }
+    ensures later { (other : List ℕ)
+        → (H.shows shelf.old).faults other ≤ (H.shows shelf.new).faults other }
 {
     shelf.begin(name)?;
     let mut text = Vec::new(alloc);
@@ -101,11 +103,12 @@ pub fn read_whole<H: Shelf>(
 
 /// Writes the whole text. After a fault some bytes at its end were not taken. It takes no memory.
 pub fn write_whole<K: Sink>(sink: &mut K, text: &[u8]) -> Result<(), SinkFault>
-    ensures whole { OnOk result (Takes (K.taken sink.old) (K.taken sink.new) text.now) }
-    ensures front { OnErr result (TakesFront (K.taken sink.old) (K.taken sink.new) text.now) }
-    ensures cause { OnErr result (Rose (K.faults sink.old) (K.faults sink.new)) }
-    ensures uncounted { OnOk result (K.faults sink.new ≡ K.faults sink.old) }
-    ensures later { K.faults sink.old ≤ K.faults sink.new }
+    ensures whole { OnOk result (Takes (K.shows sink.old).taken (K.shows sink.new).taken text.now) }
+    ensures front { OnErr result
+        (TakesFront (K.shows sink.old).taken (K.shows sink.new).taken text.now) }
+    ensures cause { OnErr result (Rose (K.shows sink.old).faults (K.shows sink.new).faults) }
+    ensures uncounted { OnOk result ((K.shows sink.new).faults ≡ (K.shows sink.old).faults) }
+    ensures later { (K.shows sink.old).faults ≤ (K.shows sink.new).faults }
 {
     let mut done = 0;
     'pieces: while done < text.len() {

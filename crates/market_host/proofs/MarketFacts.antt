@@ -141,7 +141,7 @@ module _ {H : Type 0} (shelf : Shelf.Ghosts H) (form : Form) where
   pub inputs_taken : (s0 s1 s2 : H) (front more : List (List ℕ)) (market : Market) (names sessions : List (List ℕ)) (room : ℕ)
       (streams : List (Vec Command Global))
       → ((texts : List (List ℕ)) × AreTaken shelf form front texts s0 s1 × AreMarket texts market more)
-      → streams_of form ≡ Session → length front ≡ length (front_of form) → AreReadSessions (shelf.holds s1) names sessions streams room
+      → streams_of form ≡ Session → length front ≡ length (front_of form) → AreReadSessions (shelf.shows s1).holds names sessions streams room
       → 1 ≤ length names → IsLastAtEnd (sight shelf s1 s2) names → AreReadOut (trace shelf s1 s2) names → Keeps shelf s1 s2
       → (texts : List (List ℕ)) × AreTaken shelf form (front ++ names) texts s0 s2 × AreInputs texts market more (command_lists streams)
   inputs_taken s0 s1 s2 front more market names sessions room streams said of long are some ended used kept = (

@@ -53,7 +53,7 @@ module _ {H : Type 0} (shelf : Shelf.Ghosts H) where
 
     -- what its text says is had, or the text is refused
     pub read_takes : {A : Type 0} (IsSaidBy : List ℕ → A → Type 0) (IsSo : ℕ → Cause → Type 0) (text : List ℕ) (result : Result A Trouble)
-        → IsTextOf (shelf.holds a) name text → length text ≤ limit_of kind → IsAtEnd (sight shelf a b) name → AreReadOut (trace shelf a b) (name ∷ [])
+        → IsTextOf (shelf.shows a).holds name text → length text ≤ limit_of kind → IsAtEnd (sight shelf a b) name → AreReadOut (trace shelf a b) (name ∷ [])
         → ((texts : List (List ℕ)) → Q texts → (row : ℕ) (cause : Cause) → IsSo row cause → HasFault kind texts row cause text)
         → IfOk result (IsSaidBy text) → IfErr result (IsRefusal IsSo number) → Takes shelf kind name number Q IsSaidBy a b result
     read_takes IsSaidBy IsSo text (Ok said) whole within ended used fault says refused =
@@ -67,7 +67,7 @@ module _ {H : Type 0} (shelf : Shelf.Ghosts H) where
     }
 
     -- the text itself is had
-    pub text_takes : (result : Result (Vec ℕ Global) Trouble) → IfOk result (λ text. IsTextOf (shelf.holds a) name text.items)
+    pub text_takes : (result : Result (Vec ℕ Global) Trouble) → IfOk result (λ text. IsTextOf (shelf.shows a).holds name text.items)
         → IfOk result (λ text. length text.items ≤ limit_of kind) → OnOk result (IsAtEnd (sight shelf a b) name)
         → IfErr result (IsUnread (limit_of kind) (sight shelf a b) name number) → Uses (trace shelf a b) (name ∷ []) number result
         → Takes shelf kind name number Q (λ bytes text. bytes ≡ text.items) a b result
@@ -77,7 +77,7 @@ module _ {H : Type 0} (shelf : Shelf.Ghosts H) where
 
   -- no input is taken yet
   pub none_taken : (form : Form) (a : H) → AreTaken shelf form [] [] a a
-  none_taken form a = record { read = none_read form (shelf.holds a); ended = none_at_end (sight shelf a a); used = none_used shelf a; kept = kept_still a }
+  none_taken form a = record { read = none_read form (shelf.shows a).holds; ended = none_at_end (sight shelf a a); used = none_used shelf a; kept = kept_still a }
 
   -- inputs are taken, and memory is wanted
   pub memory_stops : (form : Form) (names texts : List (List ℕ)) (a b : H) → AreTaken shelf form names texts a b → OneStops shelf form names a b OutOfMemory
@@ -91,11 +91,11 @@ module _ {H : Type 0} (shelf : Shelf.Ghosts H) where
         → AreTaken shelf form (earlier ++ name ∷ []) (texts ++ one.text ∷ []) a c
     one_taken kind name P of front one grammar = record {
       read =
-          front_read form (shelf.holds a) earlier texts name one.text kind taken.read of front
+          front_read form (shelf.shows a).holds earlier texts name one.text kind taken.read of front
           (subst (λ held. IsTextOf held name one.text) taken.kept.holds one.whole) one.within grammar;
       ended =
           added_at_end (sight shelf a c) (earlier ++ name ∷ []) earlier name refl
-          (end_from (shelf.holds a) (shelf.faults a) (sight shelf b c) name taken.kept.holds one.ended);
+          (end_from (shelf.shows a).holds (shelf.shows a).faults (sight shelf b c) name taken.kept.holds one.ended);
       used = read_behind shelf a b c earlier (name ∷ []) taken.used one.used;
       kept = kept_over a b c taken.kept one.kept;
     }
@@ -104,12 +104,12 @@ module _ {H : Type 0} (shelf : Shelf.Ghosts H) where
         → AreReadUntil (trace shelf b c) names (1 + length earlier) stop → Keeps shelf b c → OneStops shelf form (earlier ++ names) a c stop
     stops_whole names stop trouble used kept = record {
       trouble =
-          trouble_before form (shelf.holds a) (shelf.faults a) (sight shelf b c) (earlier ++ names) stop taken.kept.holds taken.kept.later trouble;
+          trouble_before form (shelf.shows a).holds (shelf.shows a).faults (sight shelf b c) (earlier ++ names) stop taken.kept.holds taken.kept.later trouble;
       used = until_behind shelf a b c earlier names 1 stop taken.used used;
       kept = kept_over a b c taken.kept kept;
     }
 
-    read_there : AreRead form (shelf.holds b) earlier texts
+    read_there : AreRead form (shelf.shows b).holds earlier texts
     read_there = subst (λ held. AreRead form held earlier texts) (sym taken.kept.holds) taken.read
 
     -- the next input stops the call, before any behind it
@@ -125,20 +125,20 @@ module _ {H : Type 0} (shelf : Shelf.Ghosts H) where
 
     -- all sessions, which stand behind these inputs, are taken
     pub rest_taken : (names sessions : List (List ℕ)) → streams_of form ≡ Session → length earlier ≡ length (front_of form)
-        → AllZip (λ name text. IsTextOf (shelf.holds b) name text × (length text ≤ limit_of Session)) names sessions
+        → AllZip (λ name text. IsTextOf (shelf.shows b).holds name text × (length text ≤ limit_of Session)) names sessions
         → total command_count sessions ≤ 200000 → 1 ≤ length names → IsLastAtEnd (sight shelf b c) names → AreReadOut (trace shelf b c) names
         → Keeps shelf b c → AreTaken shelf form (earlier ++ names) (texts ++ sessions) a c
     rest_taken names sessions streams front each count some ended used kept =
-        let long : length texts ≡ length earlier = texts_long form (shelf.holds a) earlier texts taken.read in
+        let long : length texts ≡ length earlier = texts_long form (shelf.shows a).holds earlier texts taken.read in
         let none : commands_among form texts ≡ 0 = no_commands form texts (omega (arith, long, front)) in
         record {
           read =
-              sessions_read form (shelf.holds a) earlier texts names sessions taken.read streams (omega (arith, long, front))
+              sessions_read form (shelf.shows a).holds earlier texts names sessions taken.read streams (omega (arith, long, front))
               (subst (λ held. AllZip (λ name text. IsTextOf held name text × (length text ≤ limit_of Session)) names sessions) taken.kept.holds each)
               (omega (arith, none, count));
           ended =
               behind_at_end (sight shelf a c) (earlier ++ names) earlier names refl some
-              (subst (λ held. IsLastAtEnd (seen_from held (shelf.faults a) (sight shelf b c)) names) taken.kept.holds ended);
+              (subst (λ held. IsLastAtEnd (seen_from held (shelf.shows a).faults (sight shelf b c)) names) taken.kept.holds ended);
           used = read_behind shelf a b c earlier names taken.used used;
           kept = kept_over a b c taken.kept kept;
         }
@@ -157,7 +157,7 @@ module _ {H : Type 0} (shelf : Shelf.Ghosts H) where
         → number ≡ length earlier + 1 → room ≡ 200000 → IsTroubleOfSession (sight shelf b c) room name number stop
         → AreReadUntil (trace shelf b c) (name ∷ []) number stop → Keeps shelf b c → OneStops shelf form (earlier ++ name ∷ []) a c stop
     session_stops name number room stop streams front is all stops used kept =
-        let long : length texts ≡ length earlier = texts_long form (shelf.holds a) earlier texts taken.read in
+        let long : length texts ≡ length earlier = texts_long form (shelf.shows a).holds earlier texts taken.read in
         let none : commands_among form texts ≡ 0 = no_commands form texts (omega (arith, long, front)) in
         let place : number ≡ 1 + length earlier = omega (arith, is) in
         stops_whole (name ∷ []) stop (stops form earlier texts [] read_there streams (omega (arith, front)) is (omega (arith, none, all)))

@@ -59,7 +59,7 @@ further OutOfMemory first front ended begun is = is
 module _ {H : Type 0} (shelf : Shelf.Ghosts H) where
   -- no input is read
   pub none_used : (a : H) → AreReadOut (trace shelf a a) []
-  none_used a = (refl, unchanged (shelf.openings a)) where
+  none_used a = (refl, unchanged (shelf.shows a).openings) where
     unchanged : (told : Option (List Opening)) → Changes told told (with_read_out [])
     unchanged None = tt
     unchanged (Some openings) = sym (append-nil openings)
@@ -69,8 +69,8 @@ module _ {H : Type 0} (shelf : Shelf.Ghosts H) where
       → AreReadOut (trace shelf a c) (front ++ names)
   read_behind a b c front names p q = (
     q.0 ∙ p.0,
-    changes_by (shelf.openings a) (shelf.openings c) _ _ (read_out_too front names)
-        (changes_then (shelf.openings a) (shelf.openings b) (shelf.openings c) (with_read_out front) (with_read_out names) p.1 q.1),
+    changes_by (shelf.shows a).openings (shelf.shows c).openings _ _ (read_out_too front names)
+        (changes_then (shelf.shows a).openings (shelf.shows b).openings (shelf.shows c).openings (with_read_out front) (with_read_out names) p.1 q.1),
   )
 
   -- these inputs are read to their ends, and one of those stops the call
@@ -78,14 +78,14 @@ module _ {H : Type 0} (shelf : Shelf.Ghosts H) where
       → AreReadUntil (trace shelf b c) names (first + length front) stop
       → AreReadUntil (trace shelf a c) (front ++ names) first stop
   until_behind a b c front names first stop p (stand, ended, begun, later, split, last, q) = (
-    stand_from stop (shelf.faults a) (shelf.faults b) (shelf.faults c) p.0 stand,
+    stand_from stop (shelf.shows a).faults (shelf.shows b).faults (shelf.shows c).faults p.0 stand,
     front ++ ended,
     begun,
     later,
     ap (λ rest. front ++ rest) split ∙ sym (append_assoc front ended (begun ++ later)),
     rw (length-append front ended) (further stop first (length front) (length ended) (length begun) last),
-    changes_by (shelf.openings a) (shelf.openings c) _ _ (begun_too front ended begun)
-        (changes_then (shelf.openings a) (shelf.openings b) (shelf.openings c) (with_read_out front) (with_begun_too ended begun) p.1 q),
+    changes_by (shelf.shows a).openings (shelf.shows c).openings _ _ (begun_too front ended begun)
+        (changes_then (shelf.shows a).openings (shelf.shows b).openings (shelf.shows c).openings (with_read_out front) (with_begun_too ended begun) p.1 q),
   )
 
   -- one of these inputs stops the call, before any behind them
@@ -104,12 +104,12 @@ module _ {H : Type 0} (shelf : Shelf.Ghosts H) where
   -- these inputs are read to their ends, and memory is wanted
   pub until_memory : (a b : H) (names : List (List ℕ)) (first : ℕ) → AreReadOut (trace shelf a b) names → AreReadUntil (trace shelf a b) names first OutOfMemory
   until_memory a b names first p =
-      (p.0, names, [], [], sym (append-nil names), omega arith, changes_by (shelf.openings a) (shelf.openings b) _ _ (begun_none names) p.1)
+      (p.0, names, [], [], sym (append-nil names), omega arith, changes_by (shelf.shows a).openings (shelf.shows b).openings _ _ (begun_none names) p.1)
 
   -- an input is begun at most, and this stops the call
-  pub until_begun : (a b : H) (name : List ℕ) (number : ℕ) (begun : Bool) (stop : Trouble) → CountsStand stop (shelf.faults a) (shelf.faults b)
+  pub until_begun : (a b : H) (name : List ℕ) (number : ℕ) (begun : Bool) (stop : Trouble) → CountsStand stop (shelf.shows a).faults (shelf.shows b).faults
       → IsLastBegun stop number (cond begun 1 0)
-      → BeginsAtMost (shelf.openings a) (shelf.openings b) name begun → AreReadUntil (trace shelf a b) (name ∷ []) number stop
+      → BeginsAtMost (shelf.shows a).openings (shelf.shows b).openings name begun → AreReadUntil (trace shelf a b) (name ∷ []) number stop
   until_begun a b name number true stop stand last begins = (stand, [], name ∷ [], [], refl, rw (add_zero number) last, begins)
   until_begun a b name number false stop stand last begins = (
     stand,
@@ -118,25 +118,25 @@ module _ {H : Type 0} (shelf : Shelf.Ghosts H) where
     name ∷ [],
     refl,
     rw (add_zero number) last,
-    changes_by (shelf.openings a) (shelf.openings b) _ _ (λ openings. sym (append-nil openings)) begins,
+    changes_by (shelf.shows a).openings (shelf.shows b).openings _ _ (λ openings. sym (append-nil openings)) begins,
   )
 
   -- the shelf is at fault
-  pub until_fault : (a b : H) (name : List ℕ) (number : ℕ) (begun : Bool) → BeginsAtMost (shelf.openings a) (shelf.openings b) name begun
+  pub until_fault : (a b : H) (name : List ℕ) (number : ℕ) (begun : Bool) → BeginsAtMost (shelf.shows a).openings (shelf.shows b).openings name begun
       → AreReadUntil (trace shelf a b) (name ∷ []) number (ShelfFault number)
   until_fault a b name number true begins = until_begun a b name number true (ShelfFault number) tt (refl, omega arith) begins
   until_fault a b name number false begins = until_begun a b name number false (ShelfFault number) tt (refl, omega arith) begins
 
   -- an input has more bytes than its limit
-  pub until_too_long : (a b : H) (name : List ℕ) (number : ℕ) (begun : Bool) → shelf.faults b ≡ shelf.faults a → IsTrue begun
-      → BeginsAtMost (shelf.openings a) (shelf.openings b) name begun
+  pub until_too_long : (a b : H) (name : List ℕ) (number : ℕ) (begun : Bool) → (shelf.shows b).faults ≡ (shelf.shows a).faults → IsTrue begun
+      → BeginsAtMost (shelf.shows a).openings (shelf.shows b).openings name begun
       → AreReadUntil (trace shelf a b) (name ∷ []) number (TooLong number)
   until_too_long a b name number true same is begins = until_begun a b name number true (TooLong number) same (refl, omega arith) begins
   until_too_long a b name number false same is begins = absurd cc
 
   -- there is no memory for an input
-  pub until_no_room : (a b : H) (name : List ℕ) (number : ℕ) (begun : Bool) → shelf.faults b ≡ shelf.faults a
-      → BeginsAtMost (shelf.openings a) (shelf.openings b) name begun → AreReadUntil (trace shelf a b) (name ∷ []) number OutOfMemory
+  pub until_no_room : (a b : H) (name : List ℕ) (number : ℕ) (begun : Bool) → (shelf.shows b).faults ≡ (shelf.shows a).faults
+      → BeginsAtMost (shelf.shows a).openings (shelf.shows b).openings name begun → AreReadUntil (trace shelf a b) (name ∷ []) number OutOfMemory
   until_no_room a b name number true same begins = until_begun a b name number true OutOfMemory same (omega arith) begins
   until_no_room a b name number false same begins = until_begun a b name number false OutOfMemory same (omega arith) begins
 
@@ -144,7 +144,7 @@ module _ {H : Type 0} (shelf : Shelf.Ghosts H) where
   pub until_refused : (a b : H) (name : List ℕ) (number : ℕ) (IsSo : ℕ → Cause → Type 0) (stop : Trouble) → AreReadOut (trace shelf a b) (name ∷ [])
       → IsRefusal IsSo number stop → AreReadUntil (trace shelf a b) (name ∷ []) number stop
   until_refused a b name number IsSo (Refused n row cause) p refusal =
-      (p.0, name ∷ [], [], [], refl, (omega (arith, refusal.0), refl), changes_by (shelf.openings a) (shelf.openings b) _ _ (begun_none (name ∷ [])) p.1)
+      (p.0, name ∷ [], [], [], refl, (omega (arith, refusal.0), refl), changes_by (shelf.shows a).openings (shelf.shows b).openings _ _ (begun_none (name ∷ [])) p.1)
   until_refused a b name number IsSo OutOfMemory p refusal = until_memory a b (name ∷ []) number p
   until_refused a b name number IsSo (ShelfFault n) p refusal = absurd refusal
   until_refused a b name number IsSo (TooLong n) p refusal = absurd refusal
@@ -153,7 +153,7 @@ module _ {H : Type 0} (shelf : Shelf.Ghosts H) where
   pub until_surplus : (a b : H) (name text : List ℕ) (room number : ℕ) (stop : Trouble) → AreReadOut (trace shelf a b) (name ∷ [])
       → IsSurplus text room number stop → AreReadUntil (trace shelf a b) (name ∷ []) number stop
   until_surplus a b name text room number (TooLong n) p surplus =
-      (p.0, name ∷ [], [], [], refl, (omega (arith, surplus.0), omega arith), changes_by (shelf.openings a) (shelf.openings b) _ _ (begun_none (name ∷ [])) p.1)
+      (p.0, name ∷ [], [], [], refl, (omega (arith, surplus.0), omega arith), changes_by (shelf.shows a).openings (shelf.shows b).openings _ _ (begun_none (name ∷ [])) p.1)
   until_surplus a b name text room number OutOfMemory p surplus = until_memory a b (name ∷ []) number p
   until_surplus a b name text room number (ShelfFault n) p surplus = absurd surplus
   until_surplus a b name text room number (Refused n row cause) p surplus = absurd surplus

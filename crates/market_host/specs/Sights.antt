@@ -18,12 +18,12 @@ pub record Sight : Type 0 where
 -- what is seen of a shelf that was the first before a call, and is the second after it
 abbrev pub sight : {H : Type 0} → Shelf.Ghosts H → H → H → Sight
 sight shelf old new = record {
-  held = shelf.holds old;
-  before = shelf.faults old;
-  after = shelf.faults new;
-  begun = shelf.is_begun new;
-  serves = shelf.serves new;
-  left = shelf.left new;
+  held = (shelf.shows old).holds;
+  before = (shelf.shows old).faults;
+  after = (shelf.shows new).faults;
+  begun = (shelf.shows new).is_begun;
+  serves = (shelf.shows new).serves;
+  left = (shelf.shows new).left;
 }
 
 -- What a sink has taken, where it tells, and its count of faults, before and after a call.
@@ -36,8 +36,8 @@ pub record Writing : Type 0 where
 -- what is seen of a sink that was the first before a call, and is the second after it
 abbrev pub writing : {K : Type 0} → Sink.Ghosts K → K → K → Writing
 writing sink old new = record {
-  taken_before = sink.taken old;
-  taken_after = sink.taken new;
-  faults_before = sink.faults old;
-  faults_after = sink.faults new;
+  taken_before = (sink.shows old).taken;
+  taken_after = (sink.shows new).taken;
+  faults_before = (sink.shows old).faults;
+  faults_after = (sink.shows new).faults;
 }

@@ -14,14 +14,14 @@ use Rattle.market_host.specs.Troubles.{HasTrouble, IsAtEnd}
 
 -- what a shelf holds stays, and no count of faults falls
 pub record Keeps {H : Type 0} (shelf : Shelf.Ghosts H) (old new : H) : Type 0 where
-  pub holds : shelf.holds new ≡ shelf.holds old
-  pub later : (other : List ℕ) → shelf.faults old other ≤ shelf.faults new other
+  pub holds : (shelf.shows new).holds ≡ (shelf.shows old).holds
+  pub later : (other : List ℕ) → (shelf.shows old).faults other ≤ (shelf.shows new).faults other
 
 -- an input of this kind and this name was read to its end, and P holds of its text
 pub record IsTaken {H : Type 0} (shelf : Shelf.Ghosts H) (kind : Kind) (name : List ℕ)
     (P : List ℕ → Type 0) (old new : H) : Type 0 where
   pub text : List ℕ
-  pub whole : IsTextOf (shelf.holds old) name text
+  pub whole : IsTextOf (shelf.shows old).holds name text
   pub within : length text ≤ limit_of kind
   pub says : P text
   pub ended : IsAtEnd (sight shelf old new) name
@@ -46,7 +46,7 @@ Takes shelf kind name number Q IsSaidBy old new result =
 -- the inputs of a form that have these names were read to their ends, and have these texts
 pub record AreTaken {H : Type 0} (shelf : Shelf.Ghosts H) (form : Form)
     (names texts : List (List ℕ)) (old new : H) : Type 0 where
-  pub read : AreRead form (shelf.holds old) names texts
+  pub read : AreRead form (shelf.shows old).holds names texts
   pub ended : IsLastAtEnd (sight shelf old new) names
   pub used : AreReadOut (trace shelf old new) names
   pub kept : Keeps shelf old new

@@ -21,10 +21,10 @@ pub record Trace : Type 0 where
 -- the trace of a call, before which the shelf was the first and after which it is the second
 abbrev pub trace : {H : Type 0} → Shelf.Ghosts H → H → H → Trace
 trace shelf old new = record {
-  before = shelf.faults old;
-  after = shelf.faults new;
-  earlier = shelf.openings old;
-  openings = shelf.openings new;
+  before = (shelf.shows old).faults;
+  after = (shelf.shows new).faults;
+  earlier = (shelf.shows old).openings;
+  openings = (shelf.shows new).openings;
 }
 
 -- a text of this name that was begun, and not read to its end

@@ -43,9 +43,10 @@ pub fn course_match<R: Threads + Wait + Sync, H: Shelf, K: Sink>(
         (trace H.Shelf shelf.old shelf.new) (writing K.Sink sink.old sink.new) result }
 
     // What the shelf holds stays, and no count of faults falls.
-    ensures holds { H.holds shelf.new ≡ H.holds shelf.old }
-    ensures later { (other : List ℕ) → H.faults shelf.old other ≤ H.faults shelf.new other }
-    ensures sink_later { K.faults sink.old ≤ K.faults sink.new }
+    ensures holds { (H.shows shelf.new).holds ≡ (H.shows shelf.old).holds }
+    ensures later { (other : List ℕ)
+        → (H.shows shelf.old).faults other ≤ (H.shows shelf.new).faults other }
+    ensures sink_later { (K.shows sink.old).faults ≤ (K.shows sink.new).faults }
 {
     let Some(form) = read_words(words) else {
         return finish(sink, usage().as_bytes(), Status::Usage);
@@ -60,7 +61,7 @@ pub fn course_match<R: Threads + Wait + Sync, H: Shelf, K: Sink>(
 /// unless the sink fails.
 pub fn no_memory_for_words<K: Sink>(sink: &mut K) -> Status
     ensures answered { IsWordless (writing K.Sink sink.old sink.new) result }
-    ensures sink_later { K.faults sink.old ≤ K.faults sink.new }
+    ensures sink_later { (K.shows sink.old).faults ≤ (K.shows sink.new).faults }
 {
     finish(
         sink,
@@ -74,12 +75,14 @@ fn finish<K: Sink>(sink: &mut K, text: &[u8], status: Status) -> Status
     requires { status ≢ Status.SinkFault }
     ensures status { result ≢ Status.SinkFault → result ≡ status }
     ensures written { result ≢ Status.SinkFault
-        → Takes (K.taken sink.old) (K.taken sink.new) text.now }
-    ensures cause { result ≡ Status.SinkFault → Rose (K.faults sink.old) (K.faults sink.new) }
+        → Takes (K.shows sink.old).taken (K.shows sink.new).taken text.now }
+    ensures cause { result ≡ Status.SinkFault
+        → Rose (K.shows sink.old).faults (K.shows sink.new).faults }
     ensures front { result ≡ Status.SinkFault
-        → TakesFront (K.taken sink.old) (K.taken sink.new) text.now }
-    ensures uncounted { result ≢ Status.SinkFault → K.faults sink.new ≡ K.faults sink.old }
-    ensures later { K.faults sink.old ≤ K.faults sink.new }
+        → TakesFront (K.shows sink.old).taken (K.shows sink.new).taken text.now }
+    ensures uncounted { result ≢ Status.SinkFault
+        → (K.shows sink.new).faults ≡ (K.shows sink.old).faults }
+    ensures later { (K.shows sink.old).faults ≤ (K.shows sink.new).faults }
 {
     match write_whole(sink, text) {
         Ok(()) => status,

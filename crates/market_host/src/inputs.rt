@@ -18,13 +18,14 @@ pub fn read_input<H: Shelf>(
     limit: usize,
 ) -> Result<Vec<u8>, Trouble>
     requires { limit ≤ MAX_TEXT_BYTES }
-    ensures whole { IfOk result (λ text. IsTextOf (H.holds shelf.old) name.now text.items) }
+    ensures whole { IfOk result (λ text. IsTextOf (H.shows shelf.old).holds name.now text.items) }
     ensures within { IfOk result (λ text. length text.items ≤ limit) }
     ensures end { OnOk result (IsAtEnd (sight H.Shelf shelf.old shelf.new) name.now) }
     ensures unread { IfErr result
         (IsUnread limit (sight H.Shelf shelf.old shelf.new) name.now input) }
-    ensures holds { H.holds shelf.new ≡ H.holds shelf.old }
-    ensures later { (other : List ℕ) → H.faults shelf.old other ≤ H.faults shelf.new other }
+    ensures holds { (H.shows shelf.new).holds ≡ (H.shows shelf.old).holds }
+    ensures later { (other : List ℕ)
+        → (H.shows shelf.old).faults other ≤ (H.shows shelf.new).faults other }
     ensures used { Uses (trace H.Shelf shelf.old shelf.new) (name.now ∷ []) input result }
 {
     match read_whole(alloc, shelf, name, limit) {

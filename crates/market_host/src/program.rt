@@ -34,9 +34,10 @@ pub fn exit_code<R: Threads + Wait + Sync, H: Shelf, K: Sink>(
         (writing K.Sink sink.old sink.new) status }
 
     // What the shelf holds stays, and no count of faults falls.
-    ensures holds { H.holds shelf.new ≡ H.holds shelf.old }
-    ensures later { (other : List ℕ) → H.faults shelf.old other ≤ H.faults shelf.new other }
-    ensures sink_later { K.faults sink.old ≤ K.faults sink.new }
+    ensures holds { (H.shows shelf.new).holds ≡ (H.shows shelf.old).holds }
+    ensures later { (other : List ℕ)
+        → (H.shows shelf.old).faults other ≤ (H.shows shelf.new).faults other }
+    ensures sink_later { (K.shows sink.old).faults ≤ (K.shows sink.new).faults }
 {
     let status = answered(rt, alloc, args, shelf, sink, gate);
     ExitCode::from(status.number())
@@ -53,9 +54,10 @@ fn answered<R: Threads + Wait + Sync, H: Shelf, K: Sink>(
 ) -> Status
     ensures ends { EndsProcess (words_given args) H.Shelf shelf.old shelf.new
         (writing K.Sink sink.old sink.new) result }
-    ensures holds { H.holds shelf.new ≡ H.holds shelf.old }
-    ensures later { (other : List ℕ) → H.faults shelf.old other ≤ H.faults shelf.new other }
-    ensures sink_later { K.faults sink.old ≤ K.faults sink.new }
+    ensures holds { (H.shows shelf.new).holds ≡ (H.shows shelf.old).holds }
+    ensures later { (other : List ℕ)
+        → (H.shows shelf.old).faults other ≤ (H.shows shelf.new).faults other }
+    ensures sink_later { (K.shows sink.old).faults ≤ (K.shows sink.new).faults }
 {
     match args {
         Ok(args) => match words_behind_name(alloc, args) {

@@ -25,14 +25,15 @@ pub fn take_session<H: Shelf, S: StreamItem>(
     room: u32,
 ) -> Result<Vec<S>, Trouble>
     ensures read { IfOk result
-        (λ items. IsRead Session (H.holds shelf.old) name.now
+        (λ items. IsRead Session (H.shows shelf.old).holds name.now
         (λ text. AllZip S.is_item_of (command_lines (session_text text)) items.items
         × (command_count text ≤ room))) }
     ensures trouble { IfErr result
         (IsTroubleOfSession (sight H.Shelf shelf.old shelf.new) room name.now input) }
     ensures end { OnOk result (IsAtEnd (sight H.Shelf shelf.old shelf.new) name.now) }
-    ensures holds { H.holds shelf.new ≡ H.holds shelf.old }
-    ensures later { (other : List ℕ) → H.faults shelf.old other ≤ H.faults shelf.new other }
+    ensures holds { (H.shows shelf.new).holds ≡ (H.shows shelf.old).holds }
+    ensures later { (other : List ℕ)
+        → (H.shows shelf.old).faults other ≤ (H.shows shelf.new).faults other }
     ensures used { Uses (trace H.Shelf shelf.old shelf.new) (name.now ∷ []) input result }
 {
     let bytes = read_input(alloc, shelf, name, input, MAX_INPUT_BYTES)?;

@@ -24,15 +24,16 @@ pub fn take_sessions<H: Shelf, S: StreamItem>(
     requires first { first ≤ 100 }
     ensures read { IfOk result
         (λ streams. (texts : List (List ℕ)) × (room : ℕ)
-        × AreReadStreams S.is_item_of (H.holds shelf.old) (map string_bytes names.now) texts
+        × AreReadStreams S.is_item_of (H.shows shelf.old).holds (map string_bytes names.now) texts
         streams.items room) }
     ensures trouble { IfErr result
         (IsTroubleOfSessions (sight H.Shelf shelf.old shelf.new) (map string_bytes names.now)
         first) }
     ensures end { OnOk result
         (IsLastAtEnd (sight H.Shelf shelf.old shelf.new) (map string_bytes names.now)) }
-    ensures holds { H.holds shelf.new ≡ H.holds shelf.old }
-    ensures later { (other : List ℕ) → H.faults shelf.old other ≤ H.faults shelf.new other }
+    ensures holds { (H.shows shelf.new).holds ≡ (H.shows shelf.old).holds }
+    ensures later { (other : List ℕ)
+        → (H.shows shelf.old).faults other ≤ (H.shows shelf.new).faults other }
     ensures used { Uses (trace H.Shelf shelf.old shelf.new) (map string_bytes names.now) first
         result }
 {

@@ -6,9 +6,9 @@ use Rattle.market_edge.proofs.whole_text.read_whole.Goals as goal
 
 pub returns-then-count-eq0-clause-read_out : goal.returns-then-count-eq0-clause-read_out
 returns-then-count-eq0-clause-read_out g c =
-    begun_and_ended _ (g.H.Shelf.openings c.pieces.shelf) _ c.args.name.now c.pieces.invariant.opened (c.in_ok-count.ensures.ends c.if-count-eq0.true)
+    begun_and_ended _ (g.H.Shelf.shows c.pieces.shelf).openings _ c.args.name.now c.pieces.invariant.opened (c.in_ok-count.ensures.ends c.if-count-eq0.true)
 
 pub returns-then-len-count-clause-too_long : goal.returns-then-len-count-clause-too_long
 returns-then-len-count-clause-too_long g c _ =
-    taken_exactly (c.args.limit + 1) (g.H.Shelf.holds c.args.shelf.now) c.args.name.now c.pieces.text.items (take c.in_ok-count.count c.read.new.room) _ _
-    c.pieces.invariant.so_far c.in_ok-count.ensures.bytes.0 (grind (arith, common_steps))
+    taken_exactly (c.args.limit + 1) (g.H.Shelf.shows c.args.shelf.now).holds c.args.name.now c.pieces.text.items (take c.in_ok-count.count c.read.new.room) _ _
+    c.pieces.invariant.so_far c.in_ok-count.ensures.bytes (grind (arith, common_steps))

@@ -5,13 +5,13 @@ use Rattle.market_edge.proofs.whole_text.read_whole.Given as goal
 
 abbrev pub invariant-pieces : goal.invariant-pieces
 invariant-pieces g l = record {
-  begun : IsTrue (g.H.Shelf.is_begun l.shelf);
-  serves : IsTrue (g.H.Shelf.serves l.shelf l.name);
-  holds : g.H.Shelf.holds l.shelf ≡ g.H.Shelf.holds l.fn.shelf;
-  opened : Changes (g.H.Shelf.openings l.fn.shelf) (g.H.Shelf.openings l.shelf) (with_begun l.name);
+  begun : IsTrue (g.H.Shelf.shows l.shelf).is_begun;
+  serves : IsTrue ((g.H.Shelf.shows l.shelf).serves l.name);
+  holds : (g.H.Shelf.shows l.shelf).holds ≡ (g.H.Shelf.shows l.fn.shelf).holds;
+  opened : Changes (g.H.Shelf.shows l.fn.shelf).openings (g.H.Shelf.shows l.shelf).openings (with_begun l.name);
   within : length l.text.items ≤ l.limit;
-  so_far : IsReadTo (g.H.Shelf.holds l.fn.shelf) l.name l.text.items (g.H.Shelf.left l.shelf);
-  uncounted : g.H.Shelf.faults l.shelf ≡ g.H.Shelf.faults l.fn.shelf;
+  so_far : IsReadTo (g.H.Shelf.shows l.fn.shelf).holds l.name l.text.items (g.H.Shelf.shows l.shelf).left;
+  uncounted : (g.H.Shelf.shows l.shelf).faults ≡ (g.H.Shelf.shows l.fn.shelf).faults;
 }
 
 -- each turn takes at least one byte

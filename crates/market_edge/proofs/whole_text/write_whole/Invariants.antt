@@ -5,8 +5,8 @@ use Rattle.market_edge.proofs.whole_text.write_whole.Given as goal
 abbrev pub invariant-pieces : goal.invariant-pieces
 invariant-pieces g l = record {
   within : l.done ≤ length l.text;
-  taken : Takes (g.K.Sink.taken l.fn.sink) (g.K.Sink.taken l.sink) (take l.done l.text);
-  uncounted : g.K.Sink.faults l.sink ≡ g.K.Sink.faults l.fn.sink;
+  taken : Takes (g.K.Sink.shows l.fn.sink).taken (g.K.Sink.shows l.sink).taken (take l.done l.text);
+  uncounted : (g.K.Sink.shows l.sink).faults ≡ (g.K.Sink.shows l.fn.sink).faults;
 }
 
 -- each turn takes at least one byte

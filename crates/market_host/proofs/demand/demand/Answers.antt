@@ -78,7 +78,7 @@ pub text_of-requires-clause-sessions : goal.text_of-requires-clause-sessions
 text_of-requires-clause-sessions g c κs within =
     let read = c.in_ok-streams.ensures.read in
     let count =
-    streams_of_names IsCommandOf (g.H.Shelf.holds c.take_prices.new.shelf) (map string_bytes c.args.names.streams.now) read.0 c.in_ok-streams.streams.items
+    streams_of_names IsCommandOf (g.H.Shelf.shows c.take_prices.new.shelf).holds (map string_bytes c.args.names.streams.now) read.0 c.in_ok-streams.streams.items
     read.1 read.2 in
     let long = length-map c.args.names.streams.now string_bytes in
     rw c.deref-2.ensures.value (omega (arith, count, long, c.requires.named.1.some), omega (arith, count, long, c.requires.named.1.few))

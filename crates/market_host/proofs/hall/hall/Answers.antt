@@ -72,7 +72,7 @@ pub opened-requires-clause-sessions : goal.opened-requires-clause-sessions
 opened-requires-clause-sessions g c κs within =
     let read = c.in_ok-streams.ensures.read in
     let count =
-    streams_of_names IsRequestOf (g.H.Shelf.holds c.take_text.new.shelf) (map string_bytes c.args.names.streams.now) read.0 c.in_ok-streams.streams.items
+    streams_of_names IsRequestOf (g.H.Shelf.shows c.take_text.new.shelf).holds (map string_bytes c.args.names.streams.now) read.0 c.in_ok-streams.streams.items
     read.1 read.2 in
     let long = length-map c.args.names.streams.now string_bytes in
     rw c.deref-2.ensures.value (omega (arith, count, long, c.requires.named.1.some), omega (arith, count, long, c.requires.named.1.few))
@@ -129,7 +129,7 @@ returns g c =
     (λ texts. Ends Hall texts ended.status (bytes_of ended.output)) named (
       (tables.0 ++ one.text ∷ []) ++ read.0,
       taken,
-      hall_ended (g.H.Shelf.holds c.take_text.new.shelf) c.in_ok-tables.tables.catalog c.in_ok-tables.tables.roll
+      hall_ended (g.H.Shelf.shows c.take_text.new.shelf).holds c.in_ok-tables.tables.catalog c.in_ok-tables.tables.roll
           c.in_ok-text.text.items one.text tables.0 names read.0 read.1 c.in_ok-streams.streams.items ended.status (bytes_of ended.output) tables.2 one.says read.2
           (rw (c.deref.ensures.value, c.deref-2.ensures.value) at c.in_ok-ended.ensures),
     )

@@ -47,7 +47,7 @@ pub text_of-requires-clause-sessions : goal.text_of-requires-clause-sessions
 text_of-requires-clause-sessions g c κs within =
     let read = c.in_ok-streams.ensures.read in
     let count =
-    streams_of_names IsCommandOf (g.H.Shelf.holds c.take_tables.new.shelf) (map string_bytes c.args.names.streams.now) read.0 c.in_ok-streams.streams.items
+    streams_of_names IsCommandOf (g.H.Shelf.shows c.take_tables.new.shelf).holds (map string_bytes c.args.names.streams.now) read.0 c.in_ok-streams.streams.items
     read.1 read.2 in
     let long = length-map c.args.names.streams.now string_bytes in
     rw c.deref.ensures.value (omega (arith, count, long, c.requires.named.1.some), omega (arith, count, long, c.requires.named.1.few))
@@ -93,6 +93,6 @@ returns g c =
     (λ texts. Ends Prefer texts Done c.in_ok-text.text.items) named (
       tables.0 ++ read.0,
       taken,
-      prefer_done (g.H.Shelf.holds c.take_tables.new.shelf) c.in_ok-tables.tables.catalog c.in_ok-tables.tables.roll tables.0 names
+      prefer_done (g.H.Shelf.shows c.take_tables.new.shelf).holds c.in_ok-tables.tables.catalog c.in_ok-tables.tables.roll tables.0 names
           read.0 read.1 c.in_ok-streams.streams.items c.in_ok-text.text.items tables.2 read.2 (rw c.deref.ensures.value at c.in_ok-text.ensures),
     )

@@ -51,7 +51,7 @@ held-requires-clause-workers g c κs within = c.requires.named.1.has.5
 pub held-requires-clause-sessions : goal.held-requires-clause-sessions
 held-requires-clause-sessions g c κs within =
     let read = c.in_ok-streams.ensures.read in
-    let count = streams_of_names IsCommandOf (g.H.Shelf.holds c.take_market.new.shelf) (map string_bytes c.args.names.streams.now) read.0 c.in_ok-streams.streams.items read.1 read.2 in
+    let count = streams_of_names IsCommandOf (g.H.Shelf.shows c.take_market.new.shelf).holds (map string_bytes c.args.names.streams.now) read.0 c.in_ok-streams.streams.items read.1 read.2 in
     let long = length-map c.args.names.streams.now string_bytes in
     rw c.deref.ensures.value (omega (arith, count, long, c.requires.named.1.some), omega (arith, count, long, c.requires.named.1.few))
 

@@ -44,7 +44,7 @@ sessions-preserved g c =
     let below : c.sessions.name-index < length c.args.names.now = omega arith in
     let read = rw (c.as_str.ensures.value, before.holds) at said.read in
     let ended =
-    end_from (g.H.Shelf.holds c.args.shelf.now) (g.H.Shelf.faults c.args.shelf.now) (sight g.H.Shelf c.sessions.shelf c.take_session.new.shelf)
+    end_from (g.H.Shelf.shows c.args.shelf.now).holds (g.H.Shelf.shows c.args.shelf.now).faults (sight g.H.Shelf c.sessions.shelf c.take_session.new.shelf)
     (string_bytes c.name-item.result) before.holds
     (rw c.as_str.ensures.value at said.end) in
     let many : length c.in_ok-stream.stream.items ≡ command_count said.read.0 =
@@ -60,7 +60,7 @@ sessions-preserved g c =
       number = omega (arith, before.number);
       read = (
         before.read.0 ++ read.0 ∷ [],
-        rw c.in_ok-push.ensures.items (sessions_more g.S.StreamItem.is_item_of (g.H.Shelf.holds c.args.shelf.now) c.args.names.now c.sessions.name-index c.name-item.result before.read.0 c.sessions.streams.items c.sessions.room _
+        rw c.in_ok-push.ensures.items (sessions_more g.S.StreamItem.is_item_of (g.H.Shelf.shows c.args.shelf.now).holds c.args.names.now c.sessions.name-index c.name-item.result before.read.0 c.sessions.streams.items c.sessions.room _
             c.in_ok-stream.stream below c.name-item.is before.read.1 read (omega (arith, said.read.3.1, many, c.len.ensures, c.in_ok-stream.stream.ok.0))),
       );
       ended =
@@ -73,7 +73,7 @@ pub returns-in_err-stream-clause-trouble : goal.returns-in_err-stream-clause-tro
 returns-in_err-stream-clause-trouble g c =
     let p = err_from_is_err_and c.from_residual.result c.from_residual.ensures.1 in
     let before = c.sessions.invariant in
-    rw (p.1, p.2) (trouble_behind (g.H.Shelf.holds c.args.shelf.now) (g.H.Shelf.faults c.args.shelf.now) (sight g.H.Shelf c.sessions.shelf c.take_session.new.shelf) c.args.names.now c.sessions.name-index c.name-item.result
+    rw (p.1, p.2) (trouble_behind (g.H.Shelf.shows c.args.shelf.now).holds (g.H.Shelf.shows c.args.shelf.now).faults (sight g.H.Shelf c.sessions.shelf c.take_session.new.shelf) c.args.names.now c.sessions.name-index c.name-item.result
     c.args.first c.sessions.input c.sessions.room before.read.0 c.in_err-stream.field-0.0 (omega arith) c.name-item.is before.number before.holds before.later
     before.read.1.each before.read.1.count
     (rw c.as_str.ensures.value at c.in_err-stream.ensures.trouble))

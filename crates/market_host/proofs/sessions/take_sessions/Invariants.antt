@@ -9,11 +9,11 @@ use Rattle.market_host.proofs.sessions.take_sessions.Given as goal
 -- the sessions so far were read
 abbrev pub invariant-sessions : goal.invariant-sessions
 invariant-sessions g l = record {
-  holds : g.H.Shelf.holds l.shelf ≡ g.H.Shelf.holds l.fn.shelf;
-  later : (other : List ℕ) → g.H.Shelf.faults l.fn.shelf other ≤ g.H.Shelf.faults l.shelf other;
+  holds : (g.H.Shelf.shows l.shelf).holds ≡ (g.H.Shelf.shows l.fn.shelf).holds;
+  later : (other : List ℕ) → (g.H.Shelf.shows l.fn.shelf).faults other ≤ (g.H.Shelf.shows l.shelf).faults other;
   used : AreReadOut (trace g.H.Shelf l.fn.shelf l.shelf) (map string_bytes (take l.name-index l.names));
   number : l.input ≡ l.first + l.name-index;
   read : (texts : List (List ℕ))
-      × AreReadStreams g.S.StreamItem.is_item_of (g.H.Shelf.holds l.fn.shelf) (map string_bytes (take l.name-index l.names)) texts l.streams.items l.room;
+      × AreReadStreams g.S.StreamItem.is_item_of (g.H.Shelf.shows l.fn.shelf).holds (map string_bytes (take l.name-index l.names)) texts l.streams.items l.room;
   ended : IsLastAtEnd (sight g.H.Shelf l.fn.shelf l.shelf) (map string_bytes (take l.name-index l.names));
 }

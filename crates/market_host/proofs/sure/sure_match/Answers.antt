@@ -1,6 +1,6 @@
 use Rattle.std.proofs.Common.{arith, map}
 use Rattle.std.specs.String.{string_bytes}
-use Rattle.market_edge.specs.SureShelves.{has_begun, held_by, rest_of, serves_of}
+use Rattle.market_edge.specs.SureShelves.{shown_by}
 use Rattle.market_host.specs.Sights.{Sight}
 use Rattle.market_host.proofs.SureEnds.{never_unread}
 use Rattle.market_host.proofs.sure.sure_match.Goals as goal
@@ -9,12 +9,12 @@ pub returns-clause-read : goal.returns-clause-read
 returns-clause-read g c = λ input is.
     let told = c.course_match.ensures.answered.written (λ other. cc) in
     let seen : Sight = record {
-      held = held_by c.args.shelf.now;
+      held = (shown_by c.args.shelf.now).holds;
       before = λ name. 0;
       after = λ name. 0;
-      begun = has_begun c.course_match.new.shelf;
-      serves = serves_of c.course_match.new.shelf;
-      left = rest_of c.course_match.new.shelf;
+      begun = (shown_by c.course_match.new.shelf).is_begun;
+      serves = (shown_by c.course_match.new.shelf).serves;
+      left = (shown_by c.course_match.new.shelf).left;
     } in
     never_unread (map string_bytes c.args.words.now) seen c.course_match.result input told.0 told.1 (λ name rose. absurd (omega (arith, rose))) is
 
