@@ -27,10 +27,10 @@ use Rattle.aftermarket_stage.specs.Passes.{due_of, IsPass, IsAftermarket}
 use Rattle.demand_api.specs.Asking.{AreSectionPrices}
 use Rattle.aftermarket_stage.specs.After.{terms_of, turn_of, turns_of}
 use Rattle.held_seats.specs.Floors.{AreBelow}
-use Rattle.aftermarket_stage.specs.HeldChoices.{AreChoices, AreTerms}
+use Rattle.aftermarket_stage.specs.HeldChoices.{AreChoices}
 use Rattle.aftermarket_stage.specs.Runs.{IsBestAt, HasTurned, HaveTurned}
 use Rattle.aftermarket_stage.proofs.Ranks.{left, bit-le}
-use Rattle.aftermarket_stage.proofs.Turning.{comes, choices_after, choices_stay, within_stays, choice_below, each_append, each_front, each_later, after_append}
+use Rattle.aftermarket_stage.proofs.Turning.{comes, choices_after, within_stays, choice_below, each_append, each_front, each_later, after_append}
 use Rattle.aftermarket_stage.proofs.Passing.{AreBusy, busy_more, busy_end, busy_long, order_low, made_each, joined, joined_more}
 
 -- the student at a place
@@ -71,9 +71,9 @@ best_found crowd seats prices raise i raised menu budget allowed bundle low is h
 }
 
 -- what each student holds is of the crowd's sections
-pub choices_low : (crowd : Crowd) (seats : List ℕ) (prices : List Tokens) (raise : ℕ) (held : List (List ℕ)) → AreTerms crowd seats prices raise
+pub choices_low : (crowd : Crowd) (seats : List ℕ) (prices : List Tokens) (raise : ℕ) (held : List (List ℕ)) → length seats ≡ crowd.sections
     → AreChoices (terms_of crowd seats prices raise) held → AreBelow (length seats) held
-choices_low crowd seats prices raise held are choices k d low s in_it =
+choices_low crowd seats prices raise held seats_each choices k d low s in_it =
     let known = crowd.whole in
     let size = choices.each in
     let nobody : Student = record { menu = record { places = []; pairs = []; clashes = []; credits = 0; courses = 0 }; budget = 0 } in
@@ -83,7 +83,6 @@ choices_low crowd seats prices raise held are choices k d low s in_it =
     let below =
     choice_below (data_of crowd) (price_in prices) _ k _ (λ t. true) holds.bundle known listed holds.choice s
     (ap (λ b. has b s) (sym here) ∙ in_it) in
-    let seats_each = are.seats_each in
     omega (arith, below, seats_each)
 
 pub choices_length : (crowd : Crowd) (seats : List ℕ) (prices : List Tokens) (raise : ℕ) (held : List (List ℕ))
@@ -314,14 +313,13 @@ passes_few terms start held turns number is =
     omega (arith, few, counted, same)
 
 -- a best bundle is of the crowd's sections
-pub best_low : (crowd : Crowd) (seats : List ℕ) (prices : List Tokens) (raise i : ℕ) (allowed : ℕ → Bool) (bundle : List ℕ) → AreTerms crowd seats prices raise
+pub best_low : (crowd : Crowd) (seats : List ℕ) (prices : List Tokens) (raise i : ℕ) (allowed : ℕ → Bool) (bundle : List ℕ) → length seats ≡ crowd.sections
     → IsBestAt (terms_of crowd seats prices raise) i allowed bundle → (s : ℕ) → has bundle s ≡ true → s < length seats
-best_low crowd seats prices raise i allowed bundle are is s in_it =
+best_low crowd seats prices raise i allowed bundle seats_each is s in_it =
     let known = crowd.whole in
     let below =
     choice_below (data_of crowd) (price_in prices) (raised_by raise is.who.budget) i is.who allowed bundle
     known is.listed is.best.choice s in_it in
-    let seats_each = are.seats_each in
     omega (arith, below, seats_each)
 
 -- choices after a turn that was made
@@ -329,12 +327,6 @@ pub choices_turned : (terms : Terms) (pass student : ℕ) (held later : List (Li
     → HasTurned terms pass student held later before after changed → AreChoices terms later
 choices_turned terms pass student held later before after changed are one =
     subst (AreChoices terms) (sym one.holds) (choices_after terms held (turn_of one.turn) are one.is)
-
--- and after turns
-pub choices_run : (terms : Terms) (pass : ℕ) (students : List ℕ) (held later : List (List ℕ)) (before after : List Turn) (changed : Bool)
-    → AreChoices terms held → HaveTurned terms pass students held later before after changed → AreChoices terms later
-choices_run terms pass students held later before after changed are run =
-    subst (AreChoices terms) (sym run.holds) (choices_stay terms held (turns_of run.turns) are run.each)
 
 -- one student more of the order
 pub students_more : (order : List StudentNo) (i : ℕ) (d : StudentNo) → i < length order

@@ -12,11 +12,12 @@ use Rattle.market_units.specs.Members.{has}
 use Rattle.bundle_rules.specs.Menus.{MenuData, wishes_of}
 use Rattle.bundle_rules.specs.Demand.{price_in, IsBest}
 use Rattle.budget_draw.specs.Budgets.{raised_by}
-use Rattle.demand_api.specs.Crowds.{Student, CrowdData}
+use Rattle.demand_api.specs.Crowds.{Student}
 use Rattle.demand_api.specs.Views.{data_of}
 use Rattle.demand_api.specs.declared.crowd.Crowd.{Crowd}
 use Rattle.held_seats.specs.Choices.{is_free, may_choose}
 use Rattle.held_seats.proofs.Gets.{get-set_same, get-set_other, set_again}
+use Rattle.aftermarket_stage.specs.Turns.{Terms}
 use Rattle.aftermarket_stage.specs.After.{terms_of}
 use Rattle.aftermarket_stage.specs.HeldChoices.{AreKnown, IsSettled}
 use Rattle.aftermarket_stage.specs.Runs.{IsBestAt}
@@ -58,7 +59,7 @@ pub settled_best : (crowd : Crowd) (seats : List ℕ) (prices : List Tokens) (ra
     (menu : MenuData) (places : List Rated) (allowed : set.FinSet nat_cmp) (bundle : List ℕ)
     → i < length crowd.menus.items → menu ≡ slice_index_or crowd.menus.items i menu → places ≡ menu.places → slice_get held i ≡ Some bundle
     → ((s : ℕ) → has (slice_index_or held i []) s ≡ true → set.contains allowed s ≡ true)
-    → AreKnown (data_of crowd) prices raise held known → IsSettled known i places allowed
+    → AreKnown (terms_of crowd seats prices raise) held known → IsSettled known i places allowed
     → IsBestAt (terms_of crowd seats prices raise) i (set.contains allowed) bundle
 settled_best crowd seats prices raise i held known menu places allowed bundle low is all there own are settled =
     let budget : ℕ = (slice_index_or crowd.budgets.items i (record { 0 = 0 })).0 in
@@ -75,21 +76,21 @@ settled_best crowd seats prices raise i held known menu places allowed bundle lo
     }
 
 -- nothing is known at first
-pub known_none : (crowd : CrowdData) (prices : List Tokens) (raise : ℕ) (held : List (List ℕ)) (known : List (Option (set.FinSet nat_cmp)))
-    → All (λ one. one ≡ None) known → AreKnown crowd prices raise held known
-known_none crowd prices raise held known none = λ place who bundle sections listed there is.
+pub known_none : (terms : Terms) (held : List (List ℕ)) (known : List (Option (set.FinSet nat_cmp)))
+    → All (λ one. one ≡ None) known → AreKnown terms held known
+known_none terms held known none = λ place who bundle sections listed there is.
     let low = slice_get_within known place (Some sections) is in
     let read : slice_index_or known place None ≡ Some sections = get_or_from_slice_get known place (Some sections) None is in
     let clash : None ≡ Some sections = sym (none place None low) ∙ read in
     absurd (cc clash)
 
 -- what is known after a student was asked
-pub known_asked : (crowd : CrowdData) (prices : List Tokens) (raise i : ℕ) (held : List (List ℕ)) (known : List (Option (set.FinSet nat_cmp))) (who : Student)
+pub known_asked : (terms : Terms) (i : ℕ) (held : List (List ℕ)) (known : List (Option (set.FinSet nat_cmp))) (who : Student)
     (allowed : set.FinSet nat_cmp) (bundle : List ℕ)
-    → AreKnown crowd prices raise held known → slice_get crowd.students i ≡ Some who
-    → IsBest (wishes_of who.menu) (price_in prices) (raised_by raise who.budget) (set.contains allowed) bundle
-    → AreKnown crowd prices raise (slice_set held i bundle) (slice_set known i (Some allowed))
-known_asked crowd prices raise i held known who allowed bundle are listed best = λ place other found sections told there is. elim (cases_eq place i) [
+    → AreKnown terms held known → slice_get terms.crowd.students i ≡ Some who
+    → IsBest (wishes_of who.menu) (price_in terms.prices) (raised_by terms.raise who.budget) (set.contains allowed) bundle
+    → AreKnown terms (slice_set held i bundle) (slice_set known i (Some allowed))
+known_asked terms i held known who allowed bundle are listed best = λ place other found sections told there is. elim (cases_eq place i) [
   | inl same ↦
       let low : i < length held =
       let within = slice_get_within (slice_set held i bundle) place found there in omega (arith, within, length-set held i bundle, same) in
@@ -99,21 +100,21 @@ known_asked crowd prices raise i held known who allowed bundle are listed best =
       let both : Some bundle ≡ Some found = sym (get-set_same held i bundle low) ∙ ap (slice_get (slice_set held i bundle)) (sym same) ∙ there in
       let sets : Some (Some allowed) ≡ Some (Some sections) =
       sym (get-set_same known i (Some allowed) low') ∙ ap (slice_get (slice_set known i (Some allowed))) (sym same) ∙ is in
-      let people : Some who ≡ Some other = sym listed ∙ ap (slice_get crowd.students) (sym same) ∙ told in
+      let people : Some who ≡ Some other = sym listed ∙ ap (slice_get terms.crowd.students) (sym same) ∙ told in
       let one : bundle ≡ found = cc both in
       let two : allowed ≡ sections = cc sets in
       let three : who ≡ other = cc people in
-      subst (λ w. IsBest (wishes_of w.menu) (price_in prices) (raised_by raise w.budget) (set.contains sections) found) three
-      (subst (λ a. IsBest (wishes_of who.menu) (price_in prices) (raised_by raise who.budget) (set.contains a) found) two
-      (subst (λ b. IsBest (wishes_of who.menu) (price_in prices) (raised_by raise who.budget) (set.contains allowed) b) one best))
+      subst (λ w. IsBest (wishes_of w.menu) (price_in terms.prices) (raised_by terms.raise w.budget) (set.contains sections) found) three
+      (subst (λ a. IsBest (wishes_of who.menu) (price_in terms.prices) (raised_by terms.raise who.budget) (set.contains a) found) two
+      (subst (λ b. IsBest (wishes_of who.menu) (price_in terms.prices) (raised_by terms.raise who.budget) (set.contains allowed) b) one best))
   | inr apart ↦
       are place other found sections told (sym (get-set_other held i place bundle apart) ∙ there) (sym (get-set_other known i place (Some allowed) apart) ∙ is)
 ]
 
 -- and after it kept its bundle
-pub known_kept : (crowd : CrowdData) (prices : List Tokens) (raise i : ℕ) (held : List (List ℕ)) (known : List (Option (set.FinSet nat_cmp))) (bundle : List ℕ)
-    → AreKnown crowd prices raise held known → slice_get held i ≡ Some bundle → AreKnown crowd prices raise (slice_set held i bundle) known
-known_kept crowd prices raise i held known bundle are there = subst (λ h. AreKnown crowd prices raise h known) (sym (set_again held i bundle there)) are
+pub known_kept : (terms : Terms) (i : ℕ) (held : List (List ℕ)) (known : List (Option (set.FinSet nat_cmp))) (bundle : List ℕ)
+    → AreKnown terms held known → slice_get held i ≡ Some bundle → AreKnown terms (slice_set held i bundle) known
+known_kept terms i held known bundle are there = subst (λ h. AreKnown terms h known) (sym (set_again held i bundle there)) are
 
 -- a student may choose what it holds
 pub own_allowed : (seats : List ℕ) (held : List (List ℕ)) (i : ℕ) (allowed : set.FinSet nat_cmp)

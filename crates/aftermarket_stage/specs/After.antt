@@ -5,6 +5,7 @@ use Rattle.market_units.specs.declared.units.Tokens.{Tokens}
 use Rattle.bundle_rules.specs.Bundles.{sections_of}
 use Rattle.demand_api.specs.declared.crowd.Crowd.{Crowd}
 use Rattle.demand_api.specs.Views.{data_of}
+use Rattle.aftermarket_stage.specs.declared.terms.Terms as declared
 use Rattle.aftermarket_stage.specs.declared.turns.Turn.{Turn}
 use Rattle.aftermarket_stage.specs.Turns.{Terms, TurnData}
 
@@ -17,6 +18,10 @@ terms_of crowd seats prices raise =
       prices = prices;
       raise = raise;
     }
+
+-- terms as plain data
+abbrev pub terms_in : declared.Terms → Terms
+terms_in terms = terms_of terms.crowd.now terms.seats.now terms.prices.now terms.raise
 
 -- a turn as plain data
 abbrev pub turn_of : Turn → TurnData

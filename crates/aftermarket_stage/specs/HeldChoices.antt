@@ -1,17 +1,15 @@
 -- What students hold, as what they may take and afford with the raise.
-use Rattle.std.specs.Prelude.{ℕ, ◌≤◌, ◌≡◌, ◌||◌, true, not, List, All, IsTrue, length, Option, Some, slice_get}
+use Rattle.std.specs.Prelude.{ℕ, ◌≡◌, ◌||◌, true, not, List, All, IsTrue, length, Option, Some, slice_get}
 use Rattle.std.specs.Ordering.{nat_cmp}
 use Rattle.std.specs.FinSet as set
-use Rattle.market_units.specs.declared.limits.TheConstants.{MAX_RAISE}
 use Rattle.bundle_rules.specs.declared.menu.Rated.{Rated}
-use Rattle.market_units.specs.declared.units.Tokens.{Tokens}
 use Rattle.bundle_rules.specs.Menus.{wishes_of}
 use Rattle.bundle_rules.specs.Demand.{price_in, IsChoice, IsBest}
 use Rattle.budget_draw.specs.Budgets.{raised_by}
-use Rattle.demand_api.specs.Crowds.{Student, CrowdData}
-use Rattle.demand_api.specs.declared.crowd.Crowd.{Crowd}
+use Rattle.demand_api.specs.Crowds.{Student}
+use Rattle.held_seats.specs.declared.floor.Floor.{Floor}
+use Rattle.held_seats.specs.Floors.{IsFloor, held_on}
 use Rattle.aftermarket_stage.specs.Turns.{Terms}
-use Rattle.demand_api.specs.Asking.{AreSectionPrices}
 
 -- a student and what it holds: a bundle that it may take and afford with the raise
 pub record HoldsChoice (terms : Terms) (held : List (List ℕ)) (who : Student)
@@ -27,24 +25,24 @@ pub record AreChoices (terms : Terms) (held : List (List ℕ)) : Type 0 where
   pub choices : (place : ℕ) (who : Student) → slice_get terms.crowd.students place ≡ Some who
       → HoldsChoice terms held who place
 
--- what a stage of a crowd may be held with: a seat number and a price for each section, and a raise
--- of at most 50 percent
-pub record AreTerms (crowd : Crowd) (seats : List ℕ) (prices : List Tokens)
-    (raise : ℕ) : Type 0 where
-  pub seats_each : length seats ≡ crowd.sections
-  pub prices_each : AreSectionPrices crowd.sections prices
-  pub raise_low : raise ≤ MAX_RAISE
-
 -- where sections are known of a student, the bundle that it holds is the best of these within its
 -- raised budget
-abbrev pub AreKnown : CrowdData → List Tokens → ℕ → List (List ℕ)
-    → List (Option (set.FinSet nat_cmp)) → Type 0
-AreKnown crowd prices raise held known =
+abbrev pub AreKnown : Terms → List (List ℕ) → List (Option (set.FinSet nat_cmp)) → Type 0
+AreKnown terms held known =
     (place : ℕ) (who : Student) (bundle : List ℕ) (sections : set.FinSet nat_cmp)
-    → slice_get crowd.students place ≡ Some who → slice_get held place ≡ Some bundle
+    → slice_get terms.crowd.students place ≡ Some who → slice_get held place ≡ Some bundle
     → slice_get known place ≡ Some (Some sections)
-    → IsBest (wishes_of who.menu) (price_in prices) (raised_by raise who.budget)
+    → IsBest (wishes_of who.menu) (price_in terms.prices) (raised_by terms.raise who.budget)
     (set.contains sections) bundle
+
+-- where the aftermarket stands: the floor tells what is held, of which each student holds a bundle
+-- that it may take and afford with the raise, and what is known of each is so
+pub record Stands (terms : Terms) (floor : Floor)
+    (known : List (Option (set.FinSet nat_cmp))) : Type 0 where
+  pub counted : IsFloor terms.seats floor
+  pub choices : AreChoices terms (held_on floor)
+  pub size : length known ≡ length terms.crowd.students
+  pub best : AreKnown terms (held_on floor) known
 
 -- sections are known of a student, and those at these places that are allowed are among them
 pub record IsSettled (known : List (Option (set.FinSet nat_cmp))) (place : ℕ) (places : List Rated)

@@ -3,16 +3,15 @@ ghost use Rattle.std.specs.Prelude.{◌≡◌, ◌<◌, ◌≤◌, ◌||◌, ℕ
 ghost use Rattle.std.specs.FinSet as set;
 ghost use Rattle.market_units.specs.Members.{has};
 ghost use Rattle.bundle_rules.specs.Bundles.{sections_of};
-ghost use Rattle.demand_api.specs.{Asking.AreSectionPrices, Views.data_of};
-ghost use Rattle.aftermarket_stage.specs.After.{terms_of};
+ghost use Rattle.aftermarket_stage.specs.After.{terms_in};
 ghost use Rattle.aftermarket_stage.specs.HeldChoices.{AreKnown, IsSettled};
 ghost use Rattle.aftermarket_stage.specs.Runs.{IsBestAt};
 
+use crate::terms::Terms;
 use budget_draw::raised;
 use bundle_rules::{Bundle, Rated};
-use demand_api::Crowd;
 use demand_oracle::{Workspace, demand_from};
-use market_units::{MAX_RAISE, MAX_SECTIONS, NoMemory, SectionNo, SectionSet, Tokens};
+use market_units::{MAX_SECTIONS, NoMemory, SectionNo, SectionSet};
 use std::alloc::Global;
 
 // Room for demands, and for each student the sections of which the bundle that it holds is known to
@@ -45,37 +44,39 @@ impl Chooser {
     /// since its bundle was found, the bundle is still the best, and no search is made.
     pub(crate) fn best_at(
         &mut self,
-        crowd: &Crowd,
-        prices: &[Tokens],
-        raise: u8,
+        terms: &Terms,
         allowed: &SectionSet,
         held: &[Bundle],
         place: usize,
     ) -> Bundle
-        requires prices { AreSectionPrices crowd.now.sections prices.now }
-        requires raise { raise ≤ MAX_RAISE }
-        requires place { place < length crowd.now.menus.items }
-        requires students { length held.now ≡ length crowd.now.menus.items }
-        requires size { length self.old.known.items ≡ length crowd.now.menus.items }
+        requires place { place < length terms.now.crowd.now.menus.items }
+        requires students { length held.now ≡ length terms.now.crowd.now.menus.items }
+        requires size { length self.old.known.items ≡ length terms.now.crowd.now.menus.items }
         requires held { (s : ℕ) → has (slice_index_or (map sections_of held.now) place []) s ≡ true
             → set.contains allowed.now s ≡ true }
-        requires known { AreKnown (data_of crowd.now) prices.now raise (map sections_of held.now)
+        requires known { AreKnown (terms_in terms.now) (map sections_of held.now)
             self.old.known.items }
-        ensures best { (seats : List ℕ)
-            → IsBestAt (terms_of crowd.now seats prices.now raise) place (set.contains allowed.now)
+        ensures best { IsBestAt (terms_in terms.now) place (set.contains allowed.now)
             (sections_of result) }
         ensures size { length self.new.known.items ≡ length self.old.known.items }
-        ensures known { AreKnown (data_of crowd.now) prices.now raise
+        ensures known { AreKnown (terms_in terms.now)
             (slice_set (map sections_of held.now) place (sections_of result))
             self.new.known.items }
     {
-        let menu = &crowd.menus[place];
+        let menu = &terms.crowd.menus[place];
         if self.is_settled(menu.places(), allowed, place) {
             return held[place];
         }
-        let budget = raised(crowd.budgets[place], raise);
+        let budget = raised(terms.crowd.budgets[place], terms.raise);
         let mine = &held[place];
-        let bundle = demand_from(&mut self.workspace, menu, prices, budget, allowed, mine);
+        let bundle = demand_from(
+            &mut self.workspace,
+            menu,
+            terms.prices,
+            budget,
+            allowed,
+            mine,
+        );
         self.known[place] = Some(*allowed);
         bundle
     }

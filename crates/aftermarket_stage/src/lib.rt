@@ -8,6 +8,7 @@ mod choosing;
 mod counts;
 pub mod laws;
 mod passes;
+mod terms;
 mod turns;
 
 pub use passes::aftermarket;

@@ -1,23 +1,24 @@
 // Turns and passes.
-ghost use Rattle.std.specs.Prelude.{◌≡◌, ◌<◌, ◌≤◌, [], None, IfOk, All, length, map};
+ghost use Rattle.std.specs.Prelude.{◌≡◌, ◌<◌, ◌≤◌, IfOk, All, length, map};
 ghost use Rattle.bundle_rules.specs.{Bundles.sections_of, Demand.price_in, Places.places_from};
 ghost use Rattle.demand_api.specs.{Asking.AreSectionPrices, Crowds.demands, Crowds.holders};
 ghost use Rattle.demand_api.specs.Views.{data_of};
-ghost use Rattle.aftermarket_stage.specs.After.{terms_of, turns_of};
-ghost use Rattle.aftermarket_stage.specs.HeldChoices.{AreChoices, AreKnown, AreTerms};
+ghost use Rattle.aftermarket_stage.specs.After.{terms_in, terms_of, turns_of};
+ghost use Rattle.aftermarket_stage.specs.HeldChoices.{Stands};
 ghost use Rattle.aftermarket_stage.specs.{Passes.IsAftermarket, Runs.HasTurned, Runs.HaveTurned};
 ghost use Rattle.aftermarket_stage.specs.Turns.{after_turns};
 ghost use Rattle.held_seats.specs.Choices.{AreHeldWithin};
-ghost use Rattle.held_seats.specs.Floors.{AreBelow, IsFloor, held_on};
+ghost use Rattle.held_seats.specs.Floors.{held_on};
 
 use crate::choosing::Chooser;
 use crate::counts::narrowed;
+use crate::terms::Terms;
 use crate::{After, Turn};
 use budget_draw::after_order;
 use bundle_rules::Bundle;
 use demand_api::Crowd;
 use held_seats::Floor;
-use market_units::{MAX_RAISE, MAX_SECTIONS, MAX_STUDENTS, NoMemory, StudentNo, Tokens};
+use market_units::{MAX_RAISE, MAX_STUDENTS, NoMemory, StudentNo, Tokens};
 use std::alloc::Global;
 
 // What the aftermarket works in: who seeks the best bundles, what is held, and the turns so far.
@@ -66,116 +67,76 @@ pub fn aftermarket(
         (λ after. AreHeldWithin crowd.now.sections seats.now
         (map sections_of after.bundles.items)) }
 {
+    let terms = Terms {
+        crowd,
+        seats,
+        prices,
+        raise,
+    };
     let order = after_order(alloc, &crowd.budgets)?;
-    let mut stage = Stage::open(alloc, seats, bundles)?;
+    let chooser = Chooser::reserve(alloc, bundles.len())?;
+    let floor = Floor::open(alloc, seats, bundles)?;
+    let turns = Vec::new(alloc);
+    let mut stage = Stage {
+        chooser,
+        floor,
+        turns,
+    };
     let mut passes = 0;
     let mut changed = !crowd.menus.is_empty();
     while changed {
         passes += 1;
-        changed = stage.run_pass(crowd, seats, prices, raise, &order, passes)?;
+        changed = stage.run_pass(&terms, &order, passes)?;
     }
     stage.close(alloc, passes)
 }
 
 impl Stage {
-    // The stage on which these bundles are held, before any turn.
-    fn open(alloc: Global, seats: &[u16], bundles: &[Bundle]) -> Result<Stage, NoMemory>
-        requires sections { length seats.now ≤ MAX_SECTIONS }
-        requires few { length bundles.now ≤ MAX_STUDENTS }
-        requires below { AreBelow (length seats.now) (map sections_of bundles.now) }
-        ensures turns { IfOk result (λ stage. stage.turns.items ≡ []) }
-        ensures held { IfOk result (λ stage. held_on stage.floor ≡ map sections_of bundles.now) }
-        ensures size { IfOk result
-            (λ stage. length stage.chooser.known.items ≡ length bundles.now) }
-        ensures none { IfOk result
-            (λ stage. All (λ known. known ≡ None) stage.chooser.known.items) }
-        ensures floor { IfOk result (λ stage. IsFloor seats.now stage.floor) }
-    {
-        Ok(Stage {
-            chooser: Chooser::reserve(alloc, bundles.len())?,
-            floor: Floor::open(alloc, seats, bundles)?,
-            turns: Vec::new(alloc),
-        })
-    }
-
     // One pass of turns in this order; whether it changed a bundle.
-    fn run_pass(
-        &mut self,
-        crowd: &Crowd,
-        seats: &[u16],
-        prices: &[Tokens],
-        raise: u8,
-        order: &[StudentNo],
-        pass: u64,
-    ) -> Result<bool, NoMemory>
-        requires terms { AreTerms crowd.now seats.now prices.now raise }
-        requires order { All (λ student. student.0 < length crowd.now.menus.items) order.now }
-        requires choices { AreChoices (terms_of crowd.now seats.now prices.now raise)
-            (held_on self.old.floor) }
-        requires floor { IsFloor seats.now self.old.floor }
-        requires size { length self.old.chooser.known.items ≡ length crowd.now.menus.items }
-        requires known { AreKnown (data_of crowd.now) prices.now raise (held_on self.old.floor)
+    fn run_pass(&mut self, terms: &Terms, order: &[StudentNo], pass: u64) -> Result<bool, NoMemory>
+        requires order { All (λ student. student.0 < length terms.now.crowd.now.menus.items)
+            order.now }
+        requires stands { Stands (terms_in terms.now) self.old.floor
             self.old.chooser.known.items }
         ensures turns { IfOk result
-            (λ changed. HaveTurned (terms_of crowd.now seats.now prices.now raise) pass
+            (λ changed. HaveTurned (terms_in terms.now) pass
             (map (λ student. student.0) order.now) (held_on self.old.floor)
             (held_on self.new.floor) self.old.turns.items self.new.turns.items changed) }
-        ensures floor { IfOk result (λ changed. IsFloor seats.now self.new.floor) }
-        ensures size { IfOk result
-            (λ changed. length self.new.chooser.known.items ≡ length self.old.chooser.known.items) }
-        ensures known { IfOk result
-            (λ changed. AreKnown (data_of crowd.now) prices.now raise (held_on self.new.floor)
+        ensures stands { IfOk result
+            (λ changed. Stands (terms_in terms.now) self.new.floor
             self.new.chooser.known.items) }
     {
         let mut changed = false;
         for student in order {
-            changed |= self.take_turn(crowd, seats, prices, raise, pass, *student)?;
+            changed |= self.take_turn(terms, pass, *student)?;
         }
         Ok(changed)
     }
 
     // One turn of a student; whether it changed the student's bundle.
-    fn take_turn(
-        &mut self,
-        crowd: &Crowd,
-        seats: &[u16],
-        prices: &[Tokens],
-        raise: u8,
-        pass: u64,
-        student: StudentNo,
-    ) -> Result<bool, NoMemory>
-        requires terms { AreTerms crowd.now seats.now prices.now raise }
-        requires student { student.0 < length crowd.now.menus.items }
-        requires choices { AreChoices (terms_of crowd.now seats.now prices.now raise)
-            (held_on self.old.floor) }
-        requires floor { IsFloor seats.now self.old.floor }
-        requires size { length self.old.chooser.known.items ≡ length crowd.now.menus.items }
-        requires known { AreKnown (data_of crowd.now) prices.now raise (held_on self.old.floor)
+    fn take_turn(&mut self, terms: &Terms, pass: u64, student: StudentNo) -> Result<bool, NoMemory>
+        requires student { student.0 < length terms.now.crowd.now.menus.items }
+        requires stands { Stands (terms_in terms.now) self.old.floor
             self.old.chooser.known.items }
         ensures turn { IfOk result
-            (λ changed. HasTurned (terms_of crowd.now seats.now prices.now raise) pass student.0
+            (λ changed. HasTurned (terms_in terms.now) pass student.0
             (held_on self.old.floor) (held_on self.new.floor) self.old.turns.items
             self.new.turns.items changed) }
-        ensures floor { IfOk result (λ changed. IsFloor seats.now self.new.floor) }
-        ensures size { IfOk result
-            (λ changed. length self.new.chooser.known.items ≡ length self.old.chooser.known.items) }
-        ensures known { IfOk result
-            (λ changed. AreKnown (data_of crowd.now) prices.now raise (held_on self.new.floor)
+        ensures stands { IfOk result
+            (λ changed. Stands (terms_in terms.now) self.new.floor
             self.new.chooser.known.items) }
     {
         let place = usize::from(student.0);
         let allowed = self.floor.choices(place);
         let held = &self.floor.held;
-        let bundle = self
-            .chooser
-            .best_at(crowd, prices, raise, &allowed, held, place);
+        let bundle = self.chooser.best_at(terms, &allowed, held, place);
         self.turns.push(Turn {
             pass,
             student,
             allowed,
             bundle,
         })?;
-        Ok(self.floor.give(seats, place, bundle))
+        Ok(self.floor.give(terms.seats, place, bundle))
     }
 
     // What the turns come to.

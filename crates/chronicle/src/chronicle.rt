@@ -43,8 +43,8 @@ const NAPS: u32 = 1000;
 
 /// An object that threads share, with the history of their calls. Calls take turns by ticket; a
 /// thread that is not served yet sleeps at the bell of its ticket, which is rung when its turn
-/// comes. Where more wait than processors can serve at once, a thread naps before it draws its
-/// ticket. Contracts see it as its `Origin`.
+/// comes. Where more than two tickets are out, a thread first naps, a bounded number of times, and
+/// then draws its ticket. Contracts see it as its `Origin`.
 #[derive(Drop)]
 pub struct Chronicle<O: Object> {
     bells: Bells,

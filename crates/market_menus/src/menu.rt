@@ -6,7 +6,7 @@ ghost use Rattle.market_menus.specs.{MenusOf.AreMenusOf, MenusOf.IsMenuOf, Stude
 
 use crate::clashes::clashes_of;
 use crate::pairs::pairs_of;
-use crate::places::places_of;
+use crate::places::{Places, places_of};
 use bundle_rules::Menu;
 use course_catalog::Catalog;
 use market_units::{MAX_RATINGS, NoMemory, StudentNo};
@@ -16,6 +16,18 @@ use student_roll::Roll;
 
 // At most this many places are on a menu.
 const PLACES: u8 = MAX_RATINGS as u8;
+
+// The closed preferences of a market: those of each student of the roll, on sections of the
+// catalogue.
+#[derive(Clone, Copy)]
+struct Closed<'a> {
+    catalog: &'a Catalog,
+    roll: &'a Roll,
+    preferences: &'a Preferences,
+    ghost students: { length (preferences_of preferences.now) ≡ length roll.now.students },
+    ghost sections: { All (SectionsBelow (length catalog.now.sections))
+        (preferences_of preferences.now) },
+}
 
 /// The menu of each student of the roll, in file order: the sections that the student rates, with
 /// the catalogue's courses, credits and clashes, the adjustments of the pairs both of whose
@@ -33,37 +45,43 @@ pub fn menus(
         (λ menus. AreMenusOf catalog.now.sections roll.now.students (preferences_of preferences.now)
         menus.items) }
 {
+    let closed = Closed {
+        catalog,
+        roll,
+        preferences,
+    };
     let students = roll.len();
     let mut menus = Vec::with_capacity(alloc, usize::from(students))?;
     'students: for student in 0..students {
-        menus.push(menu_of(alloc, catalog, roll, preferences, StudentNo(student))?)?;
+        menus.push(menu_of(alloc, &closed, StudentNo(student))?)?;
     }
     Ok(menus)
 }
 
 // The menu of one student.
-fn menu_of(
-    alloc: Global,
-    catalog: &Catalog,
-    roll: &Roll,
-    preferences: &Preferences,
-    student: StudentNo,
-) -> Result<Menu, NoMemory>
-    requires student { student.0 < length roll.now.students }
-    requires students { length (preferences_of preferences.now) ≡ length roll.now.students }
-    requires sections { All (SectionsBelow (length catalog.now.sections))
-        (preferences_of preferences.now) }
+fn menu_of(alloc: Global, closed: &Closed, student: StudentNo) -> Result<Menu, NoMemory>
+    requires { student.0 < length closed.now.roll.now.students }
     ensures { IfOk result
-        (λ menu. IsMenuOf catalog.now.sections (student_at roll.now.students student.0)
-        (wanted_by preferences.now student.0) menu) }
+        (λ menu. IsMenuOf closed.now.catalog.now.sections
+        (student_at closed.now.roll.now.students student.0)
+        (wanted_by closed.now.preferences.now student.0) menu) }
 {
+    let Closed {
+        catalog,
+        roll,
+        preferences,
+    } = *closed;
     let _few_sections = catalog.len();
-    let places = places_of(alloc, catalog, preferences.ratings(student))?;
+    let rated = places_of(alloc, catalog, preferences.ratings(student))?;
+    let places = Places {
+        catalog,
+        rated: &rated,
+    };
     let pairs = pairs_of(alloc, &places, preferences.pairs(student))?;
-    let clashes = clashes_of(alloc, catalog, &places)?;
+    let clashes = clashes_of(alloc, &places)?;
     let menu = Menu::build(
         alloc,
-        &places,
+        &rated,
         &pairs,
         &clashes,
         roll.credits(student),

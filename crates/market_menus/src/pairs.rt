@@ -1,24 +1,24 @@
 // The adjusted pairs of a student both of whose sections are rated.
-ghost use Rattle.std.specs.Prelude.{◌≡◌, ◌≤◌, IfOk, length};
+ghost use Rattle.std.specs.Prelude.{◌≡◌, IfOk};
 ghost use Rattle.std.specs.List.{filter_map};
 ghost use Rattle.preference_desk.specs.Rows.{pair_entry};
 ghost use Rattle.market_menus.specs.PairPlaces.{place_among, pair_among};
 
-use bundle_rules::{Rated, place_among};
-use market_units::{MAX_RATINGS, NoMemory, SectionNo};
+use crate::places::Places;
+use bundle_rules::place_among;
+use market_units::{NoMemory, SectionNo};
 use std::alloc::Global;
 
 /// The adjustments of those pairs whose two sections both have places, in their order; each names
 /// the two places instead of the sections. The only error is that memory was not given.
 pub(crate) fn pairs_of(
     alloc: Global,
-    places: &[Rated],
+    places: &Places,
     pairs: &[(SectionNo, SectionNo, i16)],
 ) -> Result<Vec<(u8, u8, i16)>, NoMemory>
-    requires { length places.now ≤ MAX_RATINGS }
     ensures { IfOk result
         (λ kept. kept.items
-        ≡ filter_map (λ pair. pair_among places.now (pair_entry pair)) pairs.now) }
+        ≡ filter_map (λ pair. pair_among places.now.rated.now (pair_entry pair)) pairs.now) }
 {
     let mut kept = Vec::with_capacity(alloc, pairs.len())?;
     'pairs: for pair in pairs {
@@ -30,9 +30,8 @@ pub(crate) fn pairs_of(
 }
 
 // The places of the two sections, with their adjustment, where both have one.
-fn pair_among(places: &[Rated], pair: (SectionNo, SectionNo, i16)) -> Option<(u8, u8, i16)>
-    requires { length places.now ≤ MAX_RATINGS }
-    ensures { result ≡ pair_among places.now (pair_entry pair) }
+fn pair_among(places: &Places, pair: (SectionNo, SectionNo, i16)) -> Option<(u8, u8, i16)>
+    ensures { result ≡ pair_among places.now.rated.now (pair_entry pair) }
 {
     let (first, second, adjustment) = pair;
     let first_place = place_of(places, first)?;
@@ -41,12 +40,11 @@ fn pair_among(places: &[Rated], pair: (SectionNo, SectionNo, i16)) -> Option<(u8
 }
 
 // The place of the section, where it has one.
-fn place_of(places: &[Rated], section: SectionNo) -> Option<u8>
-    requires { length places.now ≤ MAX_RATINGS }
-    ensures { result ≡ place_among places.now section.0 }
+fn place_of(places: &Places, section: SectionNo) -> Option<u8>
+    ensures { result ≡ place_among places.now.rated.now section.0 }
 {
-    let place = place_among(places, section);
-    if place < places.len() {
+    let place = place_among(places.rated, section);
+    if place < places.rated.len() {
         Some(place as u8)
     } else {
         None

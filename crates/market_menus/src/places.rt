@@ -1,5 +1,6 @@
 // The rated sections of a student.
-ghost use Rattle.std.specs.Prelude.{◌≡◌, ◌<◌, All, IfOk, length, map};
+ghost use Rattle.std.specs.Prelude.{◌≡◌, ◌<◌, ◌≤◌, All, IfOk, length, map};
+ghost use Rattle.market_units.specs.declared.limits.TheConstants.{MAX_RATINGS};
 ghost use Rattle.preference_desk.specs.Rows.{rating_entry};
 ghost use Rattle.market_menus.specs.MenusOf.{rated_of};
 
@@ -7,6 +8,15 @@ use bundle_rules::Rated;
 use course_catalog::Catalog;
 use market_units::{NoMemory, SectionNo};
 use std::alloc::Global;
+
+/// The places of a menu, at most 60, with the catalogue of their sections.
+#[derive(Clone, Copy)]
+pub(crate) struct Places<'a> {
+    pub(crate) catalog: &'a Catalog,
+    pub(crate) rated: &'a [Rated],
+    ghost few: { length rated.now ≤ MAX_RATINGS },
+    ghost sections: { All (λ rated. rated.section.0 < length catalog.now.sections) rated.now },
+}
 
 /// The places of a menu: the rated sections in their order, with the catalogue's courses and
 /// credits. The only error is that memory was not given.

@@ -1,6 +1,5 @@
 // Bundles with a count for each section, and bundles that are exchanged for others.
-ghost use Rattle.std.specs.Prelude.{◌≡◌, ◌<◌, ◌≤◌, ℕ, IfOk, All, length, map, true, slice_set};
-ghost use Rattle.market_units.specs.Members.{has};
+ghost use Rattle.std.specs.Prelude.{◌≡◌, ◌<◌, ◌≤◌, IfOk, All, length, map};
 ghost use Rattle.bundle_rules.specs.Bundles.{sections_of};
 ghost use Rattle.own_price.specs.{Exchanges.exchanged, Kept.AreWithin, Kept.IsTally};
 
@@ -43,20 +42,10 @@ pub(crate) fn exchange_all(
     ensures bundles { bundles.new ≡ exchanged bundles.old students.now others.now }
 {
     for place in 0..students.len() {
-        exchange(bundles, counts, students[place], others[place]);
+        let student = usize::from(students[place].0);
+        let other = others[place];
+        uncount_bundle(counts, bundles[student].sections());
+        count_bundle(counts, other.sections());
+        bundles[student] = other;
     }
-}
-
-// Gives a student another bundle.
-fn exchange(bundles: &mut [Bundle], counts: &mut [u32], student: StudentNo, other: Bundle)
-    requires tally { IsTally (length counts.old) bundles.old counts.old }
-    requires range { student.0 < length bundles.old }
-    requires within { (s : ℕ) → has (sections_of other) s ≡ true → s < length counts.old }
-    ensures tally { IsTally (length counts.old) bundles.new counts.new }
-    ensures bundles { bundles.new ≡ slice_set bundles.old student.0 other }
-{
-    let place = usize::from(student.0);
-    uncount_bundle(counts, bundles[place].sections());
-    count_bundle(counts, other.sections());
-    bundles[place] = other;
 }

@@ -1,35 +1,31 @@
 // Vectors in which one section alone has another price.
-ghost use Rattle.std.specs.Prelude.{◌≡◌, ◌<◌, ◌≤◌, ◌++◌, IfOk, length, map, filter, flat_map};
+ghost use Rattle.std.specs.Prelude.{◌≡◌, ◌<◌, ◌++◌, IfOk, length, map, filter, flat_map};
 ghost use Rattle.std.specs.List.{range_with_len};
 ghost use Rattle.bundle_rules.specs.Demand.{price_in};
 ghost use Rattle.demand_api.specs.{Asking.ArePricesFor, Crowds.count, Crowds.counts as counts_of};
 ghost use Rattle.price_neighbours.specs.Asked.{is_over, pair_of};
 ghost use Rattle.price_neighbours.specs.Neighbours.{with_alone, least_fewer, alone};
 
+use crate::taken::Taken;
 use demand_api::Demands;
-use market_units::{MAX_SECTIONS, NoMemory, SectionNo, Tokens};
+use market_units::{NoMemory, SectionNo, Tokens};
 use std::alloc::Global;
 use std::sync::Wait;
 use std::thread::Threads;
 
 // The sections that more students take than they have seats, by ordinal, each with one less than
 // its count.
-fn pairs_over(
-    alloc: Global,
-    counts: &[u32],
-    seats: &[u16],
-) -> Result<Vec<(SectionNo, u32)>, NoMemory>
-    requires few { length counts.now ≤ MAX_SECTIONS }
-    requires seats { length seats.now ≡ length counts.now }
+fn pairs_over(alloc: Global, taken: &Taken) -> Result<Vec<(SectionNo, u32)>, NoMemory>
     ensures { IfOk result
         (λ pairs. pairs.items
-        ≡ map (pair_of counts.now)
-        (filter (is_over counts.now seats.now) (range_with_len 0 (length counts.now)))) }
+        ≡ map (pair_of taken.now.counts.now)
+        (filter (is_over taken.now.counts.now taken.now.seats.now)
+        (range_with_len 0 (length taken.now.counts.now)))) }
 {
     let mut pairs = Vec::new(alloc);
-    for place in 0..counts.len() {
-        let count = counts[place];
-        if count <= u32::from(seats[place]) {
+    for place in 0..taken.counts.len() {
+        let count = taken.counts[place];
+        if count <= u32::from(taken.seats[place]) {
             continue;
         }
         pairs.push((SectionNo(place as u16), count - 1))?;
@@ -61,29 +57,28 @@ pub(crate) fn push_alone<R: Threads + Wait + Sync, D: Demands>(
     alloc: Global,
     demands: &mut D,
     vectors: &mut Vec<Vec<Tokens>>,
-    prices: &[Tokens],
-    counts: &[u32],
-    seats: &[u16],
+    taken: &Taken,
 ) -> Result<(), NoMemory>
-    requires few { (D.crowd demands.old).sections ≤ MAX_SECTIONS }
-    requires seats { length seats.now ≡ (D.crowd demands.old).sections }
-    requires prices { ArePricesFor (D.crowd demands.old) prices.now }
-    requires counts { counts.now ≡ counts_of (D.crowd demands.old) (price_in prices.now) }
+    requires prices { ArePricesFor (D.crowd demands.old) taken.now.prices.now }
+    requires counts { taken.now.counts.now
+        ≡ counts_of (D.crowd demands.old) (price_in taken.now.prices.now) }
     ensures crowd { D.crowd demands.new ≡ D.crowd demands.old }
     ensures value { IfOk result
         (λ done. map (λ vector. vector.items) vectors.new.items
         ≡ map (λ vector. vector.items) vectors.old.items
         ++ flat_map
-        (alone (least_fewer (D.crowd demands.old) (price_in prices.now))
-        (count (D.crowd demands.old) (price_in prices.now)) seats.now prices.now)
-        (range_with_len 0 (length prices.now))) }
+        (alone (least_fewer (D.crowd demands.old) (price_in taken.now.prices.now))
+        (count (D.crowd demands.old) (price_in taken.now.prices.now)) taken.now.seats.now
+        taken.now.prices.now)
+        (range_with_len 0 (length taken.now.prices.now))) }
 {
-    let pairs = pairs_over(alloc, counts, seats)?;
+    let prices = taken.prices;
+    let pairs = pairs_over(alloc, taken)?;
     let least = demands.least_prices(rt, alloc, prices, &pairs)?;
     let mut asked = 0;
     for place in 0..prices.len() {
-        let count = counts[place];
-        let room = u32::from(seats[place]);
+        let count = taken.counts[place];
+        let room = u32::from(taken.seats[place]);
         if count > room {
             vectors.push(with_alone(alloc, prices, place, least[asked])?)?;
             asked += 1;

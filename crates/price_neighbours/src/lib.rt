@@ -9,5 +9,6 @@ mod distinct;
 pub mod laws;
 mod neighbourhood;
 mod steps;
+mod taken;
 
 pub use neighbourhood::neighbours;

@@ -7,6 +7,7 @@ ghost use Rattle.price_neighbours.specs.Neighbours.{neighbours};
 use crate::alone::push_alone;
 use crate::distinct::once;
 use crate::steps::push_stepped;
+use crate::taken::Taken;
 use demand_api::Demands;
 use market_units::{NoMemory, Tokens};
 use std::alloc::Global;
@@ -40,8 +41,13 @@ pub fn neighbours<R: Threads + Wait + Sync, D: Demands>(
         (λ found. All (λ vector. ArePricesFor (D.crowd demands.old) vector.items) found.items) }
 {
     let top = demands.top();
+    let taken = Taken {
+        prices,
+        counts,
+        seats,
+    };
     let mut vectors = Vec::new(alloc);
-    push_stepped(alloc, &mut vectors, top, prices, counts, seats, steps)?;
-    push_alone(rt, alloc, demands, &mut vectors, prices, counts, seats)?;
+    push_stepped(alloc, &mut vectors, top, &taken, steps)?;
+    push_alone(rt, alloc, demands, &mut vectors, &taken)?;
     once(alloc, vectors)
 }

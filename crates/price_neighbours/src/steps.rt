@@ -1,8 +1,9 @@
 // Vectors in which every price makes a step.
-ghost use Rattle.std.specs.Prelude.{◌≡◌, ◌≤◌, pos, nat_abs, ◌*ℤ◌, ◌++◌, IfOk, All, length, map, slice_index};
+ghost use Rattle.std.specs.Prelude.{◌≡◌, ◌≤◌, pos, nat_abs, ◌*ℤ◌, ◌++◌, IfOk, map, slice_index};
 ghost use Rattle.clearing_error.specs.Errors.{excess};
 ghost use Rattle.price_neighbours.specs.Neighbours.{stepped_price, stepped};
 
+use crate::taken::Taken;
 use clearing_error::excess;
 use market_units::{MAX_STUDENTS, NoMemory, Tokens};
 use std::alloc::Global;
@@ -26,20 +27,17 @@ fn stepped_price(top: Tokens, price: Tokens, count: u32, seats: u16, step: u32) 
 }
 
 // The vector in which every price makes the step.
-fn stepped(
-    alloc: Global,
-    top: Tokens,
-    prices: &[Tokens],
-    counts: &[u32],
-    seats: &[u16],
-    step: u32,
-) -> Result<Vec<Tokens>, NoMemory>
-    requires few { All (λ count. count ≤ MAX_STUDENTS) counts.now }
-    requires counts { length counts.now ≡ length prices.now }
-    requires seats { length seats.now ≡ length prices.now }
+fn stepped(alloc: Global, top: Tokens, taken: &Taken, step: u32) -> Result<Vec<Tokens>, NoMemory>
     ensures { IfOk result
-        (λ moved. moved.items ≡ stepped top.0 (slice_index counts.now) seats.now prices.now step) }
+        (λ moved. moved.items
+        ≡ stepped top.0 (slice_index taken.now.counts.now) taken.now.seats.now
+        taken.now.prices.now step) }
 {
+    let Taken {
+        prices,
+        counts,
+        seats,
+    } = *taken;
     let mut moved = Vec::with_capacity(alloc, prices.len())?;
     for place in 0..prices.len() {
         let price = stepped_price(top, prices[place], counts[place], seats[place], step);
@@ -55,21 +53,19 @@ pub(crate) fn push_stepped(
     alloc: Global,
     vectors: &mut Vec<Vec<Tokens>>,
     top: Tokens,
-    prices: &[Tokens],
-    counts: &[u32],
-    seats: &[u16],
+    taken: &Taken,
     steps: &[u32],
 ) -> Result<(), NoMemory>
-    requires few { All (λ count. count ≤ MAX_STUDENTS) counts.now }
-    requires counts { length counts.now ≡ length prices.now }
-    requires seats { length seats.now ≡ length prices.now }
     ensures { IfOk result
         (λ done. map (λ vector. vector.items) vectors.new.items
         ≡ map (λ vector. vector.items) vectors.old.items
-        ++ map (stepped top.0 (slice_index counts.now) seats.now prices.now) steps.now) }
+        ++ map
+        (stepped top.0 (slice_index taken.now.counts.now) taken.now.seats.now
+        taken.now.prices.now)
+        steps.now) }
 {
     for step in steps {
-        let vector = stepped(alloc, top, prices, counts, seats, *step)?;
+        let vector = stepped(alloc, top, taken, *step)?;
         vectors.push(vector)?;
     }
     Ok(())

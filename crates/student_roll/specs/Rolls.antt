@@ -17,6 +17,10 @@ refusal_of (fault.Fields row) = refusal.Fields row
 refusal_of (fault.Name row) = refusal.Name row 1
 refusal_of (fault.Repeated row earlier) = refusal.Repeated row earlier
 
+-- the fields of the first record in version 1
+abbrev pub first_header : List (List ℕ)
+first_header = codes "student" ∷ codes "budget" ∷ codes "credits" ∷ codes "courses" ∷ []
+
 -- the tokens that a row's student carries over: none in version 1, and in version 2 what column 5
 -- says, with the base at most 900,000
 abbrev pub carry_in : ℕ → ℕ → ℕ → List (List ℕ) → Result ℕ RollRefusal
@@ -40,10 +44,6 @@ student_of version row fields = do
         courses = courses;
         carry = carry;
       })
-
--- the fields of the first record in version 1
-abbrev pub first_header : List (List ℕ)
-first_header = codes "student" ∷ codes "budget" ∷ codes "credits" ∷ codes "courses" ∷ []
 
 -- the rules of a roll: its headers, at most 2,000 rows, and what a row is
 abbrev pub roll_rules : Rules Student RollRefusal

@@ -2,7 +2,7 @@
 ghost use Rattle.std.specs.Prelude.{◌≡◌, ◌≤◌, ◌<◌, IfOk, length, map};
 ghost use Rattle.timetable_rules.specs.{Clash.IsClashTable, Clash.tells, Meetings.meetings_of};
 
-use crate::rows::clashing;
+use crate::rows::{Timetable, clashing};
 use crate::{Meetings, Parts};
 use market_units::{MAX_SECTIONS, NoMemory, SectionNo, SectionSet};
 use std::alloc::Global;
@@ -45,9 +45,14 @@ impl ClashTable {
         requires few { length courses.now ≤ MAX_SECTIONS }
         ensures { IfOk result (IsClashTable (map meetings_of meetings.now) courses.now parts.now) }
     {
+        let timetable = Timetable {
+            meetings,
+            courses,
+            parts,
+        };
         let mut rows = Vec::with_capacity(alloc, courses.len())?;
         for section in 0..courses.len() {
-            rows.push(clashing(meetings, courses, parts, section))?;
+            rows.push(clashing(&timetable, section))?;
         }
         Ok(ClashTable { rows })
     }

@@ -1,42 +1,54 @@
 // One row of the table of clashes.
 ghost use Rattle.std.specs.Prelude.{◌≡◌, ◌≤◌, ◌<◌, ◌&&◌, ℕ, length, map, nat_lt};
 ghost use Rattle.std.specs.FinSet as set;
+ghost use Rattle.market_units.specs.declared.limits.TheConstants.{MAX_SECTIONS};
 ghost use Rattle.timetable_rules.specs.{Clash.clashes, Meetings.meetings_of};
 
 use crate::parts_text::share_part;
 use crate::{Meetings, Parts, overlap};
-use market_units::{MAX_SECTIONS, SectionNo, SectionSet};
+use market_units::{SectionNo, SectionSet};
+
+/// When each section meets, its course number and its parts of the term, by ordinal. There are at
+/// most 400 sections.
+#[derive(Clone, Copy)]
+pub(crate) struct Timetable<'a> {
+    pub(crate) meetings: &'a [Meetings],
+    pub(crate) courses: &'a [u16],
+    pub(crate) parts: &'a [Parts],
+    ghost meetings_each: { length meetings.now ≡ length courses.now },
+    ghost parts_each: { length parts.now ≡ length courses.now },
+    ghost few: { length courses.now ≤ MAX_SECTIONS },
+}
 
 /// The sections that clash with this one.
-pub(crate) fn clashing(
-    meetings: &[Meetings],
-    courses: &[u16],
-    parts: &[Parts],
-    section: usize,
-) -> SectionSet
-    requires meetings { length meetings.now ≡ length courses.now }
-    requires parts { length parts.now ≡ length courses.now }
-    requires few { length courses.now ≤ MAX_SECTIONS }
-    requires section { section < length courses.now }
+pub(crate) fn clashing(timetable: &Timetable, section: usize) -> SectionSet
+    requires { section < length timetable.now.courses.now }
     ensures { (other : ℕ) → set.contains result other
-        ≡ (nat_lt other (length courses.now) && clashes (map meetings_of meetings.now) courses.now parts.now section other) }
+        ≡ (nat_lt other (length timetable.now.courses.now)
+        && clashes (map meetings_of timetable.now.meetings.now) timetable.now.courses.now
+        timetable.now.parts.now section other) }
 {
     let mut row = SectionSet::empty();
-    for other in 0..courses.len() {
-        if do_clash(meetings, courses, parts, section, other) {
+    for other in 0..timetable.courses.len() {
+        if do_clash(timetable, section, other) {
             row = row.with(SectionNo(other as u16));
         }
     }
     row
 }
 
-fn do_clash(meetings: &[Meetings], courses: &[u16], parts: &[Parts], a: usize, b: usize) -> bool
-    requires meetings { length meetings.now ≡ length courses.now }
-    requires parts { length parts.now ≡ length courses.now }
-    requires first { a < length courses.now }
-    requires second { b < length courses.now }
-    ensures { result ≡ clashes (map meetings_of meetings.now) courses.now parts.now a b }
+fn do_clash(timetable: &Timetable, a: usize, b: usize) -> bool
+    requires first { a < length timetable.now.courses.now }
+    requires second { b < length timetable.now.courses.now }
+    ensures { result
+        ≡ clashes (map meetings_of timetable.now.meetings.now) timetable.now.courses.now
+        timetable.now.parts.now a b }
 {
+    let Timetable {
+        meetings,
+        courses,
+        parts,
+    } = *timetable;
     a != b
         && (courses[a] == courses[b]
             || (share_part(parts[a], parts[b]) && overlap(&meetings[a], &meetings[b])))

@@ -6,18 +6,17 @@ use Rattle.bundle_rules.specs.Demand.{price_in}
 use Rattle.bundle_rules.specs.Places.{places_from}
 use Rattle.budget_draw.specs.AfterOrder.{after_order_of}
 use Rattle.demand_api.specs.Crowds.{holders}
-use Rattle.demand_api.specs.Views.{data_of}
 use Rattle.demand_api.proofs.Takers.{demands_length}
-use Rattle.demand_api.proofs.Parts.{menus_few}
+use Rattle.demand_api.proofs.Parts.{menus_few, students_length}
 use Rattle.held_seats.specs.Choices.{AreHeldWithin}
 use Rattle.aftermarket_stage.specs.After.{terms_of}
 use Rattle.held_seats.specs.Floors.{held_on}
-use Rattle.aftermarket_stage.specs.HeldChoices.{AreChoices, AreTerms}
+use Rattle.aftermarket_stage.specs.HeldChoices.{AreChoices}
 use Rattle.aftermarket_stage.specs.Runs.{HaveTurned}
 use Rattle.aftermarket_stage.proofs.Turning.{start_choices}
 use Rattle.aftermarket_stage.proofs.Knowing.{known_none}
 use Rattle.held_seats.proofs.Holding.{counts_are, counts_few}
-use Rattle.aftermarket_stage.proofs.Crowding.{begins, budgets_same, choices_length, choices_low, choices_run, goes_on, if_both, is_made, made_within, measure, measure_falls, order_within, passes_few, some_or_none, under_way}
+use Rattle.aftermarket_stage.proofs.Crowding.{begins, budgets_same, choices_length, choices_low, goes_on, if_both, is_made, made_within, measure, measure_falls, order_within, passes_few, some_or_none, under_way}
 use Rattle.aftermarket_stage.proofs.passes.aftermarket.Goals as goal
 
 pub open-requires-clause-few : goal.open-requires-clause-few
@@ -32,30 +31,30 @@ open-requires-clause-few c =
 
 pub open-requires-clause-below : goal.open-requires-clause-below
 open-requires-clause-below c =
-    let are : AreTerms c.args.crowd.now c.args.seats.now c.args.prices.now c.args.raise =
-    record { seats_each = c.requires.seats; prices_each = c.requires.prices; raise_low = c.requires.raise } in
-    choices_low c.args.crowd.now c.args.seats.now c.args.prices.now c.args.raise (map sections_of c.args.bundles.now) are
+    choices_low c.args.crowd.now c.args.seats.now c.args.prices.now c.args.raise (map sections_of c.args.bundles.now) c.requires.seats
     (subst (AreChoices (terms_of c.args.crowd.now c.args.seats.now c.args.prices.now c.args.raise)) (sym c.requires.demands)
     (start_choices (terms_of c.args.crowd.now c.args.seats.now c.args.prices.now c.args.raise)))
 
 pub loop-changed-init : goal.loop-changed-init
 loop-changed-init c =
+    let terms = terms_of c.args.crowd.now c.args.seats.now c.args.prices.now c.args.raise in
     let some = some_or_none c.args.crowd.now.menus.items c.args.crowd.now.budgets.items c.is_empty-changed.result c.args.crowd.now.same (search rules) in (
-      begins (terms_of c.args.crowd.now c.args.seats.now c.args.prices.now c.args.raise) (map sections_of c.args.bundles.now)
-          (held_on c.in_ok-stage.stage.floor) c.in_ok-stage.stage.turns.items (not c.is_empty-changed.result) c.in_ok-stage.ensures.held
-          c.in_ok-stage.ensures.turns some.0 some.1,
-      c.in_ok-stage.ensures.floor,
-      subst (AreChoices (terms_of c.args.crowd.now c.args.seats.now c.args.prices.now c.args.raise)) (sym (c.in_ok-stage.ensures.held ∙ c.requires.demands))
-          (start_choices (terms_of c.args.crowd.now c.args.seats.now c.args.prices.now c.args.raise)),
-      omega (
-        arith,
-        c.in_ok-stage.ensures.size,
-        ap length c.requires.demands,
-        length-map c.args.bundles.now sections_of,
-        demands_length c.args.crowd.now (price_in c.args.prices.now),
-      ),
-      known_none (data_of c.args.crowd.now) c.args.prices.now c.args.raise
-          (held_on c.in_ok-stage.stage.floor) c.in_ok-stage.stage.chooser.known.items c.in_ok-stage.ensures.none,
+      begins terms (map sections_of c.args.bundles.now) (held_on c.in_ok-floor.floor) c.new-turns.result.items (not c.is_empty-changed.result)
+          c.in_ok-floor.ensures.held c.new-turns.ensures.items some.0 some.1,
+      record {
+        counted = c.in_ok-floor.ensures.floor;
+        choices = subst (AreChoices terms) (sym (c.in_ok-floor.ensures.held ∙ c.requires.demands)) (start_choices terms);
+        size =
+            omega (
+              arith,
+              c.in_ok-chooser.ensures.size,
+              ap length c.requires.demands,
+              length-map c.args.bundles.now sections_of,
+              demands_length c.args.crowd.now (price_in c.args.prices.now),
+              students_length c.args.crowd.now,
+            );
+        best = known_none terms (held_on c.in_ok-floor.floor) c.in_ok-chooser.chooser.known.items c.in_ok-chooser.ensures.none;
+      },
     )
 
 pub after_order-requires : goal.after_order-requires
@@ -88,7 +87,7 @@ loop-changed-smaller c =
     < measure (terms_of c.args.crowd.now c.args.seats.now c.args.prices.now c.args.raise) (held_on c.loop-changed.stage.floor) before)
     (sym c.loop-changed-test.true)
     (measure_falls (terms_of c.args.crowd.now c.args.seats.now c.args.prices.now c.args.raise) _ _ (held_on c.loop-changed.stage.floor) (held_on c.run_pass.new.self.floor) c.loop-changed.stage.turns.items c.run_pass.new.self.turns.items c.in_ok-changed.changed
-    c.args.crowd.now.whole c.loop-changed.invariant.2 c.in_ok-changed.ensures.turns)
+    c.args.crowd.now.whole c.loop-changed.invariant.1.choices c.in_ok-changed.ensures.turns)
 
 pub loop-changed-preserved : goal.loop-changed-preserved
 loop-changed-preserved c =
@@ -104,29 +103,23 @@ loop-changed-preserved c =
     let run = subst (λ students. HaveTurned (terms_of c.args.crowd.now c.args.seats.now c.args.prices.now c.args.raise) (c.loop-changed.passes + 1) students (held_on now.floor) (held_on later.floor) now.turns.items later.turns.items c.in_ok-changed.changed) order c.in_ok-changed.ensures.turns in (
       goes_on (terms_of c.args.crowd.now c.args.seats.now c.args.prices.now c.args.raise) (map sections_of c.args.bundles.now) (held_on now.floor)
           (held_on later.floor) now.turns.items later.turns.items c.loop-changed.passes c.in_ok-changed.changed way run,
-      c.in_ok-changed.ensures.floor,
-      choices_run (terms_of c.args.crowd.now c.args.seats.now c.args.prices.now c.args.raise) _ _ (held_on now.floor) (held_on later.floor) now.turns.items
-          later.turns.items c.in_ok-changed.changed c.loop-changed.invariant.2 c.in_ok-changed.ensures.turns,
-      c.in_ok-changed.ensures.size ∙ c.loop-changed.invariant.3,
-      c.in_ok-changed.ensures.known,
+      c.in_ok-changed.ensures.stands,
     )
 
 pub close-requires : goal.close-requires
 close-requires c =
-    let are : AreTerms c.args.crowd.now c.args.seats.now c.args.prices.now c.args.raise =
-    record { seats_each = c.requires.seats; prices_each = c.requires.prices; raise_low = c.requires.raise } in
     let few : length (held_on c.loop-changed.stage.floor) ≤ 2000 =
     omega (
       arith,
-      choices_length c.args.crowd.now c.args.seats.now c.args.prices.now c.args.raise (held_on c.loop-changed.stage.floor) c.loop-changed.invariant.2,
+      choices_length c.args.crowd.now c.args.seats.now c.args.prices.now c.args.raise (held_on c.loop-changed.stage.floor) c.loop-changed.invariant.1.choices,
       menus_few c.args.crowd.now,
     ) in
-    counts_few (length c.args.seats.now) (held_on c.loop-changed.stage.floor) c.loop-changed.stage.floor.used.items c.loop-changed.invariant.1.counts few
+    counts_few (length c.args.seats.now) (held_on c.loop-changed.stage.floor) c.loop-changed.stage.floor.used.items c.loop-changed.invariant.1.counted.counts few
 
 pub returns-clause-used : goal.returns-clause-used
 returns-clause-used c =
     let counts =
-    counts_are (length c.args.seats.now) (held_on c.loop-changed.stage.floor) c.loop-changed.stage.floor.used.items c.loop-changed.invariant.1.counts in
+    counts_are (length c.args.seats.now) (held_on c.loop-changed.stage.floor) c.loop-changed.stage.floor.used.items c.loop-changed.invariant.1.counted.counts in
     if_both c.close.result _ _ _
     (λ after used bundles. used ∙ counts
     ∙ ap (λ items. map (λ s. holders s (map sections_of items)) (places_from 0 (length c.args.seats.now))) (sym bundles)

@@ -6,5 +6,7 @@ use Rattle.market_menus.proofs.clashes.clash_word.Goals as goal
 
 pub others-preserved : goal.others-preserved
 others-preserved c =
-    rw c.with_bit-word.ensures (word_more (λ k. sections_clash c.args.catalog.now.sections c.args.section.0 (section_at c.args.places.now k)) c.others.word c.others.place c.clash.result (omega arith) c.others.invariant
-    (ap (sections_clash c.args.catalog.now.sections c.args.section.0) (section_at-get_or c.args.places.now c.others.place _ (omega arith)) ∙ sym c.clash.ensures.test))
+    rw c.with_bit-word.ensures (word_more (λ k. sections_clash c.args.places.now.catalog.now.sections c.args.section.0
+    (section_at c.args.places.now.rated.now k)) c.others.word c.others.place c.clash.result (omega arith) c.others.invariant
+    (ap (sections_clash c.args.places.now.catalog.now.sections c.args.section.0)
+    (section_at-get_or c.args.places.now.rated.now c.others.place _ (omega arith)) ∙ sym c.clash.ensures.test))

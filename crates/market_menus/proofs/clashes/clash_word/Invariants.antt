@@ -4,4 +4,4 @@ use Rattle.market_menus.proofs.WordBits.{IsWordTo}
 use Rattle.market_menus.proofs.clashes.clash_word.Given as goal
 
 abbrev pub invariant-others : goal.invariant-others
-invariant-others l = IsWordTo (λ k. sections_clash l.catalog.sections l.section.0 (section_at l.places k)) l.word l.place
+invariant-others l = IsWordTo (λ k. sections_clash l.places.catalog.now.sections l.section.0 (section_at l.places.rated.now k)) l.word l.place

@@ -6,6 +6,7 @@ pub places-preserved : goal.places-preserved
 places-preserved c = record {
   long = rw c.in_ok-push.ensures.items (simp length-append (omega arith));
   words = rw c.in_ok-push.ensures.items
-      (words_more c.args.catalog.now.sections c.args.places.now c.places.words.items c.clash_word.result c.places.rated-index _ c.places.invariant.long c.places.invariant.words
-      (section_at-get_or c.args.places.now c.places.rated-index _ (omega arith)) c.clash_word.ensures);
+      (words_more c.args.places.now.catalog.now.sections c.args.places.now.rated.now c.places.words.items c.clash_word.result c.places.rated-index _
+      c.places.invariant.long c.places.invariant.words
+      (section_at-get_or c.args.places.now.rated.now c.places.rated-index _ (omega arith)) c.clash_word.ensures);
 }

@@ -6,11 +6,11 @@ use Rattle.price_neighbours.proofs.alone.pairs_over.Goals as goal
 
 pub loop-place-preserved-then-count-from : goal.loop-place-preserved-then-count-from
 loop-place-preserved-then-count-from c =
-    let few : slice_index c.args.counts.now c.loop-place.place ≤ slice_index c.args.seats.now c.loop-place.place = search rules in
-    pairs_still c.args.counts.now c.args.seats.now c.loop-place.place c.loop-place.pairs.items c.loop-place.invariant (grind (arith, nat_tests))
+    let few : slice_index c.args.taken.now.counts.now c.loop-place.place ≤ slice_index c.args.taken.now.seats.now c.loop-place.place = search rules in
+    pairs_still c.args.taken.now.counts.now c.args.taken.now.seats.now c.loop-place.place c.loop-place.pairs.items c.loop-place.invariant (grind (arith, nat_tests))
 
 pub loop-place-preserved : goal.loop-place-preserved
 loop-place-preserved c =
-    let many : slice_index c.args.seats.now c.loop-place.place < slice_index c.args.counts.now c.loop-place.place = search rules in
-    pairs_then c.args.counts.now c.args.seats.now c.loop-place.place c.loop-place.pairs.items c.push.new.self.items
-    (pair_of c.args.counts.now c.loop-place.place) c.loop-place.invariant (grind (arith, nat_tests)) refl (search rules)
+    let many : slice_index c.args.taken.now.seats.now c.loop-place.place < slice_index c.args.taken.now.counts.now c.loop-place.place = search rules in
+    pairs_then c.args.taken.now.counts.now c.args.taken.now.seats.now c.loop-place.place c.loop-place.pairs.items c.push.new.self.items
+    (pair_of c.args.taken.now.counts.now c.loop-place.place) c.loop-place.invariant (grind (arith, nat_tests)) refl (search rules)

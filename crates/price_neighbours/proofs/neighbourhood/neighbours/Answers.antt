@@ -1,4 +1,4 @@
-use Rattle.std.proofs.Common.{◌≡◌, ◌∙◌, sym, subst, IfOk}
+use Rattle.std.proofs.Common.{◌≡◌, ◌∙◌, arith, sym, subst, IfOk}
 use Rattle.bundle_rules.specs.Demand.{price_in}
 use Rattle.price_neighbours.specs.Distinct.{once, same_prices}
 use Rattle.price_neighbours.specs.Neighbours.{neighbours}
@@ -7,13 +7,16 @@ use Rattle.price_neighbours.proofs.Moves.{length_counts, counts_few}
 use Rattle.price_neighbours.proofs.Neighbourhoods.{all_neighbours, found_are_prices}
 use Rattle.price_neighbours.proofs.neighbourhood.neighbours.Goals as goal
 
-pub push_stepped-requires-clause-few : goal.push_stepped-requires-clause-few
-push_stepped-requires-clause-few g c =
-    counts_few (g.D.Demands.crowd c.args.demands.now) (price_in c.args.prices.now) c.args.counts.now c.top-top.ensures.crowd c.requires.counts
-
-pub push_stepped-requires-clause-counts : goal.push_stepped-requires-clause-counts
-push_stepped-requires-clause-counts g c =
-    length_counts (g.D.Demands.crowd c.args.demands.now) (price_in c.args.prices.now) c.args.counts.now c.requires.counts ∙ sym c.requires.prices.same
+pub invariant_of-taken : goal.invariant_of-taken
+invariant_of-taken g c = record {
+  sections =
+      let known = c.top-top.ensures.crowd in
+      omega (arith, known.sections, c.requires.prices.same);
+  counts_each =
+      length_counts (g.D.Demands.crowd c.args.demands.now) (price_in c.args.prices.now) c.args.counts.now c.requires.counts ∙ sym c.requires.prices.same;
+  seats_each = c.requires.seats ∙ sym c.requires.prices.same;
+  few = counts_few (g.D.Demands.crowd c.args.demands.now) (price_in c.args.prices.now) c.args.counts.now c.top-top.ensures.crowd c.requires.counts;
+}
 
 pub returns-clause-value : goal.returns-clause-value
 returns-clause-value g c =
