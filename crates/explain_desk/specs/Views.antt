@@ -9,8 +9,8 @@ use Rattle.explain_desk.specs.declared.offered.Offered.{Offered}
 use Rattle.explain_desk.specs.Explanations.{ExplainedData, offer_of_all}
 
 -- what is offered to a student
-abbrev pub offer_in : Offered → OfferData
-offer_in offered =
+abbrev pub offer_made : Offered → OfferData
+offer_made offered =
     offer_of_all offered.menu.now offered.prices.now offered.budget.0 offered.sections
 
 -- a bundle with its tree, as their lists

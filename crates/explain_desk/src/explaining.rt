@@ -4,7 +4,7 @@ ghost use Rattle.bundle_rules.specs.Bundles.{sections_of};
 ghost use Rattle.bundle_rules.specs.Demand.{HasPrices, IsBest, price_in};
 ghost use Rattle.bundle_rules.specs.{Given.SomeHas, Menus.wishes_of};
 ghost use Rattle.explain_desk.specs.Explanations.{IsExplained, IsProvedWith, offer_of_all};
-ghost use Rattle.explain_desk.specs.Views.{explained_of, offer_in, proved_of};
+ghost use Rattle.explain_desk.specs.Views.{explained_of, offer_made, proved_of};
 
 use crate::offered::Offered;
 use crate::reasons::{reason_of, tells_best};
@@ -61,7 +61,7 @@ fn best_with(
 ) -> Result<Option<Proved>, NoMemory>
     ensures some { IfOk result
         (λ best. IfSome best
-        (λ proved. IsProvedWith (offer_in offered.now) section.0 (proved_of proved))) }
+        (λ proved. IsProvedWith (offer_made offered.now) section.0 (proved_of proved))) }
     ensures none { IfOk result
         (λ best. IfNone best
         (¬ SomeHas (wishes_of offered.now.menu.now) (price_in offered.now.prices.now)

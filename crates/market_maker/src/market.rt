@@ -8,6 +8,7 @@ use crate::catalog::catalog_text;
 use crate::roll::roll_text;
 use crate::sessions::{first_text, second_text};
 use crate::settings::settings_text;
+use crate::wishes::Wishes;
 use market_units::{MAX_ACCEPT, MAX_SECTIONS, MAX_STUDENTS, NoMemory};
 use std::alloc::Global;
 
@@ -47,11 +48,12 @@ pub fn make(
     ensures first { IfOk result (λ made. made.first.items ≡ first_text seed students sections) }
     ensures second { IfOk result (λ made. made.second.items ≡ second_text seed students sections) }
 {
+    let wishes = Wishes { seed, sections };
     Ok(Made {
         catalog: catalog_text(alloc, students, sections)?,
         roll: roll_text(alloc, students)?,
         settings: settings_text(alloc, seed, accept)?,
-        first: first_text(alloc, seed, students, sections)?,
-        second: second_text(alloc, seed, students, sections)?,
+        first: first_text(alloc, wishes, students)?,
+        second: second_text(alloc, wishes, students)?,
     })
 }

@@ -10,5 +10,5 @@ use Rattle.published_market.specs.declared.best.Best.{Best}
 pub best_holds : (one : Best)
     → IsBest (wishes_of one.menu.now) (price_in one.prices.now) one.budget.0 (set.contains one.allowed.now) (sections_of one.bundle.now)
 best_holds one =
-    subst (IsBest (wishes_of one.menu.now) (price_in one.prices.now) one.budget.0 (set.contains one.allowed.now)) (sym one.is_best)
+    subst (IsBest (wishes_of one.menu.now) (price_in one.prices.now) one.budget.0 (set.contains one.allowed.now)) (sym one.best)
     (best-is one.menu.now (price_in one.prices.now) one.budget.0 (set.contains one.allowed.now))

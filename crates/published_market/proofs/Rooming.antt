@@ -1,5 +1,5 @@
 -- What rooms hold, and what is shown of the trees that are copied out of them.
-use Rattle.std.proofs.Common.{ℕ, ◌≡◌, ◌<◌, ◌+◌, ◌∙◌, false, List, [], ◌∷◌, ◌++◌, map, length, get_or, take, ap, sym, subst, length-append, arith}
+use Rattle.std.proofs.Common.{ℕ, ◌≡◌, ◌<◌, ◌+◌, ◌∙◌, List, [], ◌∷◌, ◌++◌, map, length, get_or, take, ap, sym, subst, length-append, arith}
 use Rattle.std.specs.List.{AllZip}
 use Rattle.std.proofs.lemmas.List.{get_or-map, length-map}
 use Rattle.std.proofs.lemmas.Option.{slice_get-get_or}
@@ -20,15 +20,14 @@ use Rattle.market_certificate.specs.declared.publication.Proved as proved
 use Rattle.market_certificate.specs.declared.publication.ProvedTurn as turn
 use Rattle.market_certificate.specs.Publications.{Proved, ProvedTurn}
 use Rattle.market_certificate.specs.Views.{proved_of, turn_of as published_of}
-use Rattle.published_parts.specs.Offers.{IsProvedBest, IsProvedDemand, offer_to}
-use Rattle.published_parts.proofs.Asked.{nobody}
+use Rattle.published_parts.specs.Offers.{IsProvedBest, IsProvedDemand, nobody, offer_to}
 use Rattle.published_market.specs.declared.chosen.Chosen.{Chosen}
 use Rattle.published_market.specs.declared.rooms.Room.{Room}
 use Rattle.published_market.specs.declared.taken.Taken.{Taken}
 use Rattle.published_market.specs.Asked.{offer_chosen, turn_chosen}
 use Rattle.published_market.specs.Making.{AreProved, AreProvedTurns, HasForm, HasTurnForm, IsBestTurn}
 use Rattle.published_market.specs.Rooms.{IsRoomOf}
-use Rattle.published_market.specs.Turns.{IsPublishedTurn, offer_at, offer_for}
+use Rattle.published_market.specs.Turns.{IsPublishedTurn, no_turn, offer_at, offer_for}
 use Rattle.published_market.proofs.Showing.{all_more, asked, asked_at, taken_count, zip_more}
 
 -- a room of the same bundle in the same offer
@@ -49,10 +48,6 @@ pub taken_inside : (taken : Taken) (place : ℕ) → place < length taken.bundle
 taken_inside taken place low =
     let count : length taken.bundles.now ≡ length taken.crowd.now.menus.items = taken_count taken.crowd.now taken.prices.now taken.bundles.now taken.taken in
     omega arith
-
--- no turn of an aftermarket
-abbrev pub no_turn : TurnData
-no_turn = record { pass = 0; student = 0; allowed = λ s. false; bundle = [] }
 
 -- the turn at a place, as plain data
 pub turn_at : (turns : List Turn) (i : ℕ) (turn : Turn) → i < length turns → turn ≡ get_or turns i turn

@@ -23,12 +23,12 @@ use Rattle.market_settings.specs.declared.reader.Settings.{Settings}
 use Rattle.market_certificate.specs.Publications.{Proved, ProvedTurn, Publication}
 use Rattle.published_parts.specs.Markets.{Market, names_in, seats_in}
 use Rattle.published_parts.specs.Journals.{IsJournalOf, wishes_in}
-use Rattle.published_parts.specs.Offers.{IsProvedDemand, all_sections}
+use Rattle.published_parts.specs.Offers.{IsProvedDemand, all_sections, nobody}
 use Rattle.published_market.specs.Turns.{IsPublishedTurn}
 use Rattle.published_parts.specs.Holdings.{AreWithinSeats, demanded, held_after, tokens}
 use Rattle.published_market.specs.Publishing.{IsOutcome, IsPublicationOf, IsPublished, Lengths, terms_at}
 use Rattle.published_market.specs.Laws.{AllocationWithinSeats, BestAtItsTurn, BestWithinBudget, BudgetsAreDrawn, OrderMergesStreams, StageTwoWithinSeats, TurnsWithinSeats}
-use Rattle.published_parts.proofs.Asked.{budget_at, crowd_count, menu_says, nobody, zip_at}
+use Rattle.published_parts.proofs.Asked.{budget_at, crowd_count, menu_says, zip_at}
 use Rattle.published_parts.proofs.OneJournals.{one_journal}
 use Rattle.published_market.proofs.Prices.{price_in_tokens}
 use Rattle.published_market.proofs.Turning.{cut_like, each_there, made_each, same_held}

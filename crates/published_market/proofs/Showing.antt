@@ -16,8 +16,7 @@ use Rattle.demand_api.specs.Parts.{students_of}
 use Rattle.demand_api.specs.Views.{data_of}
 use Rattle.demand_api.proofs.Takers.{demand_at, demands_length}
 use Rattle.oversubscription_stage.specs.Rounds.{AreTaken}
-use Rattle.published_parts.specs.Offers.{all_sections, offer_to, student_in}
-use Rattle.published_parts.proofs.Asked.{nobody}
+use Rattle.published_parts.specs.Offers.{all_sections, nobody, offer_to, student_in}
 
 abbrev pub asked : MenuData → Tokens → Student
 asked menu budget = record { menu = menu; budget = budget.0 }

@@ -22,7 +22,7 @@ use Rattle.preference_desk.specs.Journals.{sessions_of}
 use Rattle.published_market.specs.Making.{IsBestTurn}
 use Rattle.published_market.specs.Publishing.{terms_at}
 use Rattle.published_market.specs.Turns.{best_of, offer_at}
-use Rattle.published_parts.proofs.Asked.{nobody}
+use Rattle.published_parts.specs.Offers.{nobody}
 use Rattle.published_market.proofs.Turning.{made_each}
 
 -- the budgets of a made crowd

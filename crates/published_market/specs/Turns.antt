@@ -1,18 +1,29 @@
 -- Turns of the aftermarket, as they are published.
-use Rattle.std.specs.Prelude.{ℕ, ◌≡◌, Some, List, slice_get}
+use Rattle.std.specs.Prelude.{ℕ, ◌≡◌, false, Some, List, [], slice_get}
+use Rattle.std.specs.FinSet as set
+use Rattle.std.specs.Ordering.{nat_cmp}
 use Rattle.market_units.specs.declared.units.Tokens.{Tokens}
 use Rattle.bundle_rules.specs.Best.{best}
 use Rattle.bundle_rules.specs.Demand.{price_in}
-use Rattle.bundle_bounds.specs.Offers.{OfferData}
+use Rattle.bundle_rules.specs.Menus.{MenuData}
+use Rattle.bundle_bounds.specs.Offers.{OfferData, offer_of}
 use Rattle.budget_draw.specs.Budgets.{raised_by}
 use Rattle.demand_api.specs.Crowds.{CrowdData, Student}
 use Rattle.aftermarket_stage.specs.Turns.{TurnData}
 use Rattle.market_certificate.specs.Publications.{ProvedTurn}
 use Rattle.published_parts.specs.Offers.{IsProvedBest, offer_to, student_in}
 
+-- no turn: it stands for the turn of a number that no turn has
+abbrev pub no_turn : TurnData
+no_turn = record { pass = 0; student = 0; allowed = λ s. false; bundle = [] }
+
 -- what a student takes of an offer: the best bundle
 abbrev pub best_of : OfferData → List ℕ
 best_of offer = best offer.menu offer.price offer.budget offer.allowed
+
+-- the same of a menu at prices, within a budget, of the sections of a set
+abbrev pub best_in : MenuData → List Tokens → ℕ → set.FinSet nat_cmp → List ℕ
+best_in menu prices budget allowed = best_of (offer_of menu prices budget allowed)
 
 -- what is offered to a student at a turn: the sections that it may choose, at the same prices, with
 -- its raised budget

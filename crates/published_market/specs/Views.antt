@@ -5,8 +5,8 @@ use Rattle.bundle_bounds.specs.Offers.{OfferData, offer_of}
 use Rattle.published_market.specs.declared.best.Best as declared
 
 -- what a bundle is the best of
-abbrev pub offer_in : declared.Best → OfferData
-offer_in one = offer_of one.menu.now one.prices.now one.budget.0 one.allowed.now
+abbrev pub offer_of_best : declared.Best → OfferData
+offer_of_best one = offer_of one.menu.now one.prices.now one.budget.0 one.allowed.now
 
 -- the bundle
 abbrev pub bundle_in : declared.Best → List ℕ

@@ -9,7 +9,7 @@ ghost use Rattle.published_parts.specs.Offers.{IsProvedBest, IsProvedDemand};
 ghost use Rattle.published_market.specs.Asked.{bundle_taken, offer_taken};
 ghost use Rattle.published_market.specs.Making.{AreProved, HasForm};
 ghost use Rattle.published_market.specs.Rooms.{AreRoomsOfStudents, IsRoomOf, IsRoomOfStudent};
-ghost use Rattle.published_market.specs.Views.{bundle_in, offer_in};
+ghost use Rattle.published_market.specs.Views.{bundle_in, offer_of_best};
 
 use crate::best::Best;
 use crate::rooms::{Room, reserve_rooms, workers_for};
@@ -31,10 +31,10 @@ const COURSES: usize = MAX_COURSES as usize;
 /// A best bundle with the tree that proves it: the tree of the room, or one that is built now,
 /// where it did not fit the room. The only error is that memory was not given.
 pub(crate) fn prove_bundle(alloc: Global, best: &Best, room: &Room) -> Result<Proved, NoMemory>
-    requires { IsRoomOf (offer_in best.now) (bundle_in best.now) room.now }
+    requires { IsRoomOf (offer_of_best best.now) (bundle_in best.now) room.now }
     ensures bundle { IfOk result (λ proved. sections_of proved.bundle ≡ bundle_in best.now) }
     ensures proved { IfOk result
-        (λ proved. IsProvedBest (offer_in best.now) (sections_of proved.bundle)
+        (λ proved. IsProvedBest (offer_of_best best.now) (sections_of proved.bundle)
         proved.tree.items) }
     ensures form { IfOk result (λ proved. HasForm (sections_of proved.bundle) proved.tree.items) }
 {
@@ -50,7 +50,7 @@ pub(crate) fn prove_bundle(alloc: Global, best: &Best, room: &Room) -> Result<Pr
 // What the student of a number takes, with what it is the best of.
 fn best_at<'a>(taken: &Taken<'a>, place: usize) -> Best<'a>
     requires { place < length taken.now.bundles.now }
-    ensures offer { offer_in result ≡ offer_taken taken.now place }
+    ensures offer { offer_of_best result ≡ offer_taken taken.now place }
     ensures bundle { bundle_in result ≡ bundle_taken taken.now place }
 {
     let crowd = taken.crowd;
@@ -65,15 +65,6 @@ fn best_at<'a>(taken: &Taken<'a>, place: usize) -> Best<'a>
         allowed: taken.allowed,
         bundle,
     }
-}
-
-// Writes the tree of what the student of a number takes to the room, where it fits.
-fn fill_room(taken: &Taken, place: usize, room: &mut Room)
-    requires { place < length taken.now.bundles.now }
-    ensures { IsRoomOfStudent taken.now place room.new }
-{
-    let best = best_at(taken, place);
-    room.fill(&best);
 }
 
 // Writes the trees of what the students from the first on take to the rooms, one to each, in
@@ -97,7 +88,7 @@ fn fill_rooms<R: Threads + Sync>(
         &|n, room|
             requires { first + n < length taken.now.bundles.now }
             ensures { IsRoomOfStudent taken.entry.now (first + n) room.exit.now }
-        { fill_room(taken, first + n, room) },
+        { room.fill(&best_at(taken, first + n)) },
     );
 }
 

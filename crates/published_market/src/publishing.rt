@@ -3,7 +3,7 @@ ghost use Rattle.std.specs.Prelude.{◌≡◌, ℕ, Err, IfOk, All, length};
 ghost use Rattle.demand_api.specs.Views.{data_of};
 ghost use Rattle.market_certificate.specs.Publications.{IsPublication, IsSession};
 ghost use Rattle.market_certificate.specs.{Tables.Tables, Views.publication_of};
-ghost use Rattle.tabu_search.specs.Search.{FindsNone, IsFound};
+ghost use Rattle.tabu_search.specs.Search.{FindsNone};
 ghost use Rattle.preference_desk.specs.Journals.{sessions_of};
 ghost use Rattle.published_parts.specs.{Crowds.IsCrowdIn, Markets.seats_in, Markets.tables_in};
 ghost use Rattle.published_parts.specs.Views.{market_in};
@@ -18,7 +18,6 @@ use crate::writers::Writers;
 use aftermarket_stage::{After, aftermarket};
 use demand_api::{Crowd, Demands};
 use market_certificate::Publication;
-use market_settings::Settings;
 use market_units::NoMemory;
 use oversubscription_stage::{Settled, settle};
 use preference_desk::Entry;
@@ -124,7 +123,11 @@ fn hold_stages<R: Threads + Wait + Sync, D: Demands>(
     ensures no_prices { (least : ℕ) → result ≡ Err (PublishEnd.NoPrices least)
         → FindsNone (data_of crowd.now) seats.now market.now.settings.now least }
 {
-    let found = find_prices(rt, alloc, demands, seats, market.settings)?;
+    let found = match search(rt, alloc, demands, seats, market.settings) {
+        Ok(found) => found,
+        Err(SearchEnd::NoPrices { least }) => return Err(PublishEnd::NoPrices { least }),
+        Err(SearchEnd::NoMemory) => return Err(PublishEnd::NoMemory),
+    };
     let settled = settle(rt, alloc, demands, seats, &found.prices)?;
     let after = aftermarket(
         alloc,
@@ -139,29 +142,6 @@ fn hold_stages<R: Threads + Wait + Sync, D: Demands>(
         settled,
         after,
     })
-}
-
-// Searches for prices.
-fn find_prices<R: Threads + Wait + Sync, D: Demands>(
-    rt: &R,
-    alloc: Global,
-    demands: &mut D,
-    seats: &[u16],
-    settings: &Settings,
-) -> Result<Found, PublishEnd>
-    requires { length seats.now ≡ (D.crowd demands.old).sections }
-    ensures crowd { D.crowd demands.new ≡ D.crowd demands.old }
-    ensures found { IfOk result
-        (λ found. IsFound (D.crowd demands.old) seats.now settings.now found.prices.items
-        found.error found.turns) }
-    ensures none { (least : ℕ) → result ≡ Err (PublishEnd.NoPrices least)
-        → FindsNone (D.crowd demands.old) seats.now settings.now least }
-{
-    match search(rt, alloc, demands, seats, settings) {
-        Ok(found) => Ok(found),
-        Err(SearchEnd::NoPrices { least }) => Err(PublishEnd::NoPrices { least }),
-        Err(SearchEnd::NoMemory) => Err(PublishEnd::NoMemory),
-    }
 }
 
 // The publication of these stages.

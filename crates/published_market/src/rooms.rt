@@ -1,7 +1,7 @@
 // Rooms that threads write trees to: each has its memory before a thread starts.
 ghost use Rattle.std.specs.Prelude.{◌<◌, None, IfOk, length};
 ghost use Rattle.proof_tree.specs.Texts.{IsTreeText};
-ghost use Rattle.published_market.specs.{Rooms.IsRoomOf, Views.bundle_in, Views.offer_in};
+ghost use Rattle.published_market.specs.{Rooms.IsRoomOf, Views.bundle_in, Views.offer_of_best};
 
 use crate::best::Best;
 use market_units::NoMemory;
@@ -28,7 +28,7 @@ impl Room {
     /// Writes the tree of a best bundle to the room. Where it does not fit, the room tells that it
     /// has none. It takes no memory.
     pub(crate) fn fill(&mut self, best: &Best)
-        ensures { IsRoomOf (offer_in best.now) (bundle_in best.now) self.new }
+        ensures { IsRoomOf (offer_of_best best.now) (bundle_in best.now) self.new }
     {
         self.written = build_into(
             best.menu,
@@ -43,9 +43,9 @@ impl Room {
     /// A copy of the tree that was written to the room. Where it did not fit, the same tree is
     /// built now.
     pub(crate) fn tree(&self, alloc: Global, best: &Best) -> Result<Vec<u8>, NoMemory>
-        requires { IsRoomOf (offer_in best.now) (bundle_in best.now) self.now }
+        requires { IsRoomOf (offer_of_best best.now) (bundle_in best.now) self.now }
         ensures { IfOk result
-            (λ tree. IsTreeText (offer_in best.now) None (bundle_in best.now) tree.items) }
+            (λ tree. IsTreeText (offer_of_best best.now) None (bundle_in best.now) tree.items) }
     {
         match self.written {
             Some(count) => Ok(self.bytes[..count].to_vec(alloc)?),

@@ -41,7 +41,7 @@ fn say_each(rt: &impl Abort, desk: &mut Desk, commands: &[Command])
 }
 
 // The text that the market publishes after the desk's journal, or the least error where no prices
-// are found. So its trees are written.
+// are found. Its trees are written by these writers.
 fn text_of<R: Abort + Threads + Wait + Sync>(
     rt: &R,
     alloc: Global,
@@ -84,7 +84,7 @@ fn held<R: Abort + Threads + Wait + Sync>(
     held_by(rt, alloc, Writers::of(1), texts)
 }
 
-// The same, where its trees are written so.
+// The same, where these writers write its trees.
 fn held_by<R: Abort + Threads + Wait + Sync>(
     rt: &R,
     alloc: Global,

@@ -8,7 +8,7 @@ ghost use Rattle.market_certificate.specs.Views.{turn_of as published_of};
 ghost use Rattle.published_market.specs.Asked.{offer_chosen, turn_chosen};
 ghost use Rattle.published_market.specs.Making.{AreProvedTurns, HasTurnForm, IsBestTurn};
 ghost use Rattle.published_market.specs.Rooms.{AreRoomsOfTurns, IsRoomOfTurn};
-ghost use Rattle.published_market.specs.{Turns.IsPublishedTurn, Views.bundle_in, Views.offer_in};
+ghost use Rattle.published_market.specs.{Turns.IsPublishedTurn, Views.bundle_in, Views.offer_of_best};
 
 use crate::best::Best;
 use crate::bundles::prove_bundle;
@@ -46,7 +46,7 @@ fn of_turn(pass: u64, student: StudentNo, proved: Proved) -> ProvedTurn
 // The bundle of the turn of a number, with what it is the best of.
 fn best_at<'a>(chosen: &Chosen<'a>, place: usize) -> Best<'a>
     requires { place < length chosen.now.turns.now }
-    ensures offer { offer_in result ≡ offer_chosen chosen.now place }
+    ensures offer { offer_of_best result ≡ offer_chosen chosen.now place }
     ensures bundle { bundle_in result ≡ (turn_chosen chosen.now place).bundle }
 {
     let crowd = chosen.crowd;
@@ -85,15 +85,6 @@ fn prove_turn(
     Ok(of_turn(turn.pass, turn.student, proved))
 }
 
-// Writes the tree of the bundle of the turn of a number to the room, where it fits.
-fn fill_room(chosen: &Chosen, place: usize, room: &mut Room)
-    requires { place < length chosen.now.turns.now }
-    ensures { IsRoomOfTurn chosen.now place room.new }
-{
-    let best = best_at(chosen, place);
-    room.fill(&best);
-}
-
 // Writes the trees of the turns from the first on to the rooms, one to each, in threads.
 fn fill_rooms<R: Threads + Sync>(
     rt: &R,
@@ -114,7 +105,7 @@ fn fill_rooms<R: Threads + Sync>(
         &|n, room|
             requires { first + n < length chosen.now.turns.now }
             ensures { IsRoomOfTurn chosen.entry.now (first + n) room.exit.now }
-        { fill_room(chosen, first + n, room) },
+        { room.fill(&best_at(chosen, first + n)) },
     );
 }
 

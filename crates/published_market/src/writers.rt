@@ -14,9 +14,10 @@ pub struct Writers {
 }
 
 impl Writers {
-    /// At most so many workers, with rooms that few trees do not fit.
+    /// At most so many workers, with rooms of 16,384 bytes, which few trees do not fit.
     pub fn of(workers: u16) -> Writers
-        ensures { result.workers ≡ workers }
+        ensures workers { result.workers ≡ workers }
+        ensures room { result.room ≡ ROOM }
     {
         Writers {
             workers,

@@ -14,11 +14,8 @@ use Rattle.student_roll.specs.Students.{Student}
 use Rattle.published_parts.specs.Markets.{Market, names_in}
 use Rattle.published_parts.specs.Journals.{wanted_in, wishes_in}
 use Rattle.published_parts.specs.Crowds.{IsCrowdIn}
+use Rattle.published_parts.specs.Offers.{nobody}
 use Rattle.published_parts.proofs.LowerFirst.{wanted_lower}
-
--- a student of no menu and no budget
-abbrev pub nobody : Asked
-nobody = record { menu = record { places = []; pairs = []; clashes = []; credits = 0; courses = 0 }; budget = 0 }
 
 -- items of two lists at one place
 pub zip_at : {A B : Type 0} (R : A → B → Type 0) (xs : List A) (ys : List B) (k : ℕ) (d : A) (e : B) → AllZip R xs ys → k < length xs

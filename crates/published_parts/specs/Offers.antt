@@ -11,15 +11,17 @@ use Rattle.market_certificate.specs.Publications.{Proved}
 abbrev pub all_sections : ℕ → ℕ → Bool
 all_sections count s = nat_lt s count
 
--- the student of a number; a number that no student has stands for one that wants nothing and has a
--- budget of 0
-abbrev pub student_in : CrowdData → ℕ → Student
-student_in crowd student =
-    slice_index_or crowd.students student
-    (record {
+-- one who wants nothing and has a budget of 0
+abbrev pub nobody : Student
+nobody =
+    record {
       menu = record { places = []; pairs = []; clashes = []; credits = 0; courses = 0 };
       budget = 0;
-    })
+    }
+
+-- the student of a number; a number that no student has stands for nobody
+abbrev pub student_in : CrowdData → ℕ → Student
+student_in crowd student = slice_index_or crowd.students student nobody
 
 -- what is offered to a student at given prices, with this budget and these sections
 abbrev pub offer_to : Student → (ℕ → ℕ) → ℕ → (ℕ → Bool) → OfferData

@@ -25,7 +25,7 @@ invariant_of-result c =
     let taken = c.args.taken.now in
     record {
       priced = priced_at taken.crowd.now taken.prices.now c.args.place c.index-menu.result.now taken.priced (taken_inside taken c.args.place c.requires) c.index-menu.ensures;
-      is_best =
+      best =
           best-only c.index-menu.result.now (price_in taken.prices.now) c.index-budget.result.now.0 (set.contains taken.allowed.now)
           (sections_of c.index-bundles-place.result)
           (taken_best taken.crowd.now taken.prices.now taken.bundles.now c.args.place c.index-menu.result.now c.index-budget.result.now

@@ -4,8 +4,7 @@ use Rattle.bundle_rules.specs.Demand.{price_in}
 use Rattle.demand_api.specs.Views.{data_of}
 use Rattle.demand_api.proofs.Parts.{students_length}
 use Rattle.market_certificate.specs.Views.{proved_of}
-use Rattle.published_parts.specs.Offers.{IsProvedBest, IsProvedDemand}
-use Rattle.published_parts.proofs.Asked.{nobody}
+use Rattle.published_parts.specs.Offers.{IsProvedBest, IsProvedDemand, nobody}
 use Rattle.published_market.specs.Rooms.{IsRoomOfStudent}
 use Rattle.published_market.proofs.Rooming.{proved_more, room_at, room_for, taken_inside}
 use Rattle.published_market.proofs.bundles.put_bundles.Goals as goal

@@ -14,50 +14,50 @@ use Rattle.published_market.proofs.publishing.hold_stages.Goals as goal
 pub settle-requires-clause-prices : goal.settle-requires-clause-prices
 settle-requires-clause-prices g c = λ lifetimes outlives.
     let old = g.D.Demands.crowd c.args.demands.now in
-    subst (ArePricesFor (g.D.Demands.crowd c.find_prices.new.demands)) (sym c.deref.ensures.value)
-    (subst (λ (crowd : CrowdData). ArePricesFor crowd c.in_ok-found.found.prices.items) (sym c.find_prices.ensures.crowd)
-    (found_prices old c.args.seats.now c.args.market.now.settings.now c.in_ok-found.found.prices.items c.in_ok-found.found.error c.in_ok-found.found.turns c.in_ok-found.ensures.found))
+    subst (ArePricesFor (g.D.Demands.crowd c.search.new.demands)) (sym c.deref.ensures.value)
+    (subst (λ (crowd : CrowdData). ArePricesFor crowd c.in-Ok.found.prices.items) (sym c.search.ensures.crowd)
+    (found_prices old c.args.seats.now c.args.market.now.settings.now c.in-Ok.found.prices.items c.in-Ok.found.error c.in-Ok.found.turns c.in-Ok.ensures.found))
 
 pub aftermarket-requires-clause-prices : goal.aftermarket-requires-clause-prices
 aftermarket-requires-clause-prices g c =
     let crowd = data_of c.args.crowd.now in
     let known = c.args.crowd.now.whole in
-    let found : IsFound crowd c.args.seats.now c.args.market.now.settings.now c.in_ok-found.found.prices.items c.in_ok-found.found.error c.in_ok-found.found.turns =
+    let found : IsFound crowd c.args.seats.now c.args.market.now.settings.now c.in-Ok.found.prices.items c.in-Ok.found.error c.in-Ok.found.turns =
     subst
-    (λ (asked : CrowdData). IsFound asked c.args.seats.now c.args.market.now.settings.now c.in_ok-found.found.prices.items c.in_ok-found.found.error
-    c.in_ok-found.found.turns)
-    c.requires.asked c.in_ok-found.ensures.found in
+    (λ (asked : CrowdData). IsFound asked c.args.seats.now c.args.market.now.settings.now c.in-Ok.found.prices.items c.in-Ok.found.error
+    c.in-Ok.found.turns)
+    c.requires.asked c.in-Ok.ensures.found in
     let start =
-    found_prices crowd c.args.seats.now c.args.market.now.settings.now c.in_ok-found.found.prices.items c.in_ok-found.found.error c.in_ok-found.found.turns found in
-    let settled : IsSettled crowd c.args.seats.now c.in_ok-found.found.prices.items c.in_ok-settled.settled.prices.items c.in_ok-settled.settled.rounds =
+    found_prices crowd c.args.seats.now c.args.market.now.settings.now c.in-Ok.found.prices.items c.in-Ok.found.error c.in-Ok.found.turns found in
+    let settled : IsSettled crowd c.args.seats.now c.in-Ok.found.prices.items c.in_ok-settled.settled.prices.items c.in_ok-settled.settled.rounds =
     subst
-    (λ (asked : CrowdData). IsSettled asked c.args.seats.now c.in_ok-found.found.prices.items c.in_ok-settled.settled.prices.items
+    (λ (asked : CrowdData). IsSettled asked c.args.seats.now c.in-Ok.found.prices.items c.in_ok-settled.settled.prices.items
     c.in_ok-settled.settled.rounds)
-    (c.find_prices.ensures.crowd ∙ c.requires.asked)
+    (c.search.ensures.crowd ∙ c.requires.asked)
     (rw c.deref.ensures.value at c.in_ok-settled.ensures.value) in
     rw c.deref-2.ensures.value
-    (last_priced crowd c.args.seats.now c.in_ok-found.found.prices.items c.in_ok-settled.settled.prices.items c.in_ok-settled.settled.rounds known start
+    (last_priced crowd c.args.seats.now c.in-Ok.found.prices.items c.in_ok-settled.settled.prices.items c.in_ok-settled.settled.rounds known start
     settled)
 
 pub returns-clause-stages : goal.returns-clause-stages
 returns-clause-stages g c =
     let crowd = data_of c.args.crowd.now in
-    let found : IsFound crowd c.args.seats.now c.args.market.now.settings.now c.in_ok-found.found.prices.items c.in_ok-found.found.error c.in_ok-found.found.turns =
+    let found : IsFound crowd c.args.seats.now c.args.market.now.settings.now c.in-Ok.found.prices.items c.in-Ok.found.error c.in-Ok.found.turns =
     subst
-    (λ (asked : CrowdData). IsFound asked c.args.seats.now c.args.market.now.settings.now c.in_ok-found.found.prices.items c.in_ok-found.found.error
-    c.in_ok-found.found.turns)
-    c.requires.asked c.in_ok-found.ensures.found in
+    (λ (asked : CrowdData). IsFound asked c.args.seats.now c.args.market.now.settings.now c.in-Ok.found.prices.items c.in-Ok.found.error
+    c.in-Ok.found.turns)
+    c.requires.asked c.in-Ok.ensures.found in
     let start =
-    found_prices crowd c.args.seats.now c.args.market.now.settings.now c.in_ok-found.found.prices.items c.in_ok-found.found.error c.in_ok-found.found.turns found in
-    let settled : IsSettled crowd c.args.seats.now c.in_ok-found.found.prices.items c.in_ok-settled.settled.prices.items c.in_ok-settled.settled.rounds =
+    found_prices crowd c.args.seats.now c.args.market.now.settings.now c.in-Ok.found.prices.items c.in-Ok.found.error c.in-Ok.found.turns found in
+    let settled : IsSettled crowd c.args.seats.now c.in-Ok.found.prices.items c.in_ok-settled.settled.prices.items c.in_ok-settled.settled.rounds =
     subst
-    (λ (asked : CrowdData). IsSettled asked c.args.seats.now c.in_ok-found.found.prices.items c.in_ok-settled.settled.prices.items
+    (λ (asked : CrowdData). IsSettled asked c.args.seats.now c.in-Ok.found.prices.items c.in_ok-settled.settled.prices.items
     c.in_ok-settled.settled.rounds)
-    (c.find_prices.ensures.crowd ∙ c.requires.asked)
+    (c.search.ensures.crowd ∙ c.requires.asked)
     (rw c.deref.ensures.value at c.in_ok-settled.ensures.value) in
     let taken : map sections_of c.in_ok-settled.settled.bundles.items ≡ demands crowd (price_in c.in_ok-settled.settled.prices.items) =
     subst (λ (asked : CrowdData). map sections_of c.in_ok-settled.settled.bundles.items ≡ demands asked (price_in c.in_ok-settled.settled.prices.items))
-    (c.find_prices.ensures.crowd ∙ c.requires.asked) c.in_ok-settled.ensures.bundles in
+    (c.search.ensures.crowd ∙ c.requires.asked) c.in_ok-settled.ensures.bundles in
     record {
       found = found;
       settled = settled;
@@ -68,6 +68,6 @@ returns-clause-stages g c =
       within = c.in_ok-after.ensures.within;
       start_are = start;
       prices_are =
-          settled_prices crowd c.args.seats.now c.in_ok-found.found.prices.items c.in_ok-settled.settled.prices.items c.in_ok-settled.settled.rounds start
+          settled_prices crowd c.args.seats.now c.in-Ok.found.prices.items c.in_ok-settled.settled.prices.items c.in_ok-settled.settled.rounds start
           settled;
     }

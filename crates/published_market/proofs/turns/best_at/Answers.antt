@@ -36,13 +36,13 @@ invariant_of-result c =
     let chosen = c.args.chosen.now in
     let turn = c.index-turns-place.result in
     let inside = turn_inside chosen c.args.place c.from-student.result turn c.requires c.index-turns-place.is c.from-student.ensures in
-    let best = turn_best chosen c.args.place turn c.requires c.index-turns-place.is in
+    let made = turn_best chosen c.args.place turn c.requires c.index-turns-place.is in
     let offer =
     offer_turned chosen c.from-student.result (turn_of turn) c.index-menu.result.now c.index.result.now c.raised-budget.result.0 c.from-student.ensures inside
     c.index-menu.ensures c.index.ensures c.raised-budget.ensures in
     record {
       priced = priced_at chosen.crowd.now chosen.prices.now c.from-student.result c.index-menu.result.now chosen.priced inside c.index-menu.ensures;
-      is_best = best.best ∙ ap best_of (sym offer);
+      best = made.best ∙ ap best_of (sym offer);
     }
 
 pub returns-clause-offer : goal.returns-clause-offer

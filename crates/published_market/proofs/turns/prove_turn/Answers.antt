@@ -2,7 +2,7 @@ use Rattle.std.proofs.Common.{◌∙◌, subst, sym}
 use Rattle.market_certificate.specs.Publications.{ProvedTurn}
 use Rattle.market_certificate.specs.Views.{turn_of as published_of}
 use Rattle.published_market.specs.Making.{HasForm}
-use Rattle.published_market.specs.Views.{offer_in}
+use Rattle.published_market.specs.Views.{offer_of_best}
 use Rattle.published_market.proofs.Rooming.{room_for, turn_shown}
 use Rattle.published_market.proofs.turns.prove_turn.Goals as goal
 
@@ -11,7 +11,7 @@ prove_bundle-requires c = room_for c.args.room.now (sym c.best_at-best.ensures.o
 
 pub returns-clause-published : goal.returns-clause-published
 returns-clause-published c =
-    turn_shown c.args.chosen.now c.args.place c.index-turns-place.result (offer_in c.best_at-best.result) c.in_ok-proved.proved (published_of c.of_turn.result)
+    turn_shown c.args.chosen.now c.args.place c.index-turns-place.result (offer_of_best c.best_at-best.result) c.in_ok-proved.proved (published_of c.of_turn.result)
     c.requires.place c.index-turns-place.is c.best_at-best.ensures.offer c.in_ok-proved.ensures.proved
     (c.in_ok-proved.ensures.bundle ∙ c.best_at-best.ensures.bundle) c.of_turn.ensures.turn
 

@@ -4,9 +4,9 @@ use Rattle.demand_api.specs.Views.{data_of}
 use Rattle.aftermarket_stage.specs.After.{turn_of, turns_of}
 use Rattle.market_certificate.specs.Views.{turn_of as published_of}
 use Rattle.published_market.specs.Asked.{turn_chosen}
-use Rattle.published_market.specs.Turns.{IsPublishedTurn}
+use Rattle.published_market.specs.Turns.{IsPublishedTurn, no_turn}
 use Rattle.published_market.specs.Rooms.{IsRoomOfTurn}
-use Rattle.published_market.proofs.Rooming.{no_turn, room_at, turns_more}
+use Rattle.published_market.proofs.Rooming.{room_at, turns_more}
 use Rattle.published_market.proofs.turns.put_turns.Goals as goal
 
 pub prove_turn-requires-clause-room : goal.prove_turn-requires-clause-room

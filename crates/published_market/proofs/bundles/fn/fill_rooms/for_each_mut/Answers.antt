@@ -1,6 +1,7 @@
 use Rattle.std.proofs.Common.{rules, ◌≡◌, ◌<◌, ◌≤◌, ◌+◌, ◌^◌, length, arith}
 use Rattle.demand_api.proofs.Parts.{menus_few}
 use Rattle.published_market.proofs.Showing.{taken_count}
+use Rattle.published_market.proofs.Rooming.{room_for}
 use Rattle.published_market.proofs.bundles.fn.fill_rooms.for_each_mut.Goals as goal
 
 pub overflow_add-first : goal.overflow_add-first
@@ -11,3 +12,6 @@ overflow_add-first c =
     let below : c.captures.first + c.args.n < length taken.bundles.now = c.requires in
     let low : c.captures.first + c.args.n < 2 ^ 64 = omega arith in
     search rules
+
+pub returns : goal.returns
+returns c = room_for c.fill.new.self c.best_at.ensures.offer c.best_at.ensures.bundle c.fill.ensures
