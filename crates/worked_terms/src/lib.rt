@@ -1,7 +1,7 @@
 //! Terms worked by hand, for the tests of several crates: the inputs of small markets, what is
-//! published of them, and what is told of them at a desk, in an audit and in a hall of drop and add.
-//! These texts were computed apart from this program. A constant is named for its term, and then for
-//! the part of it that it is.
+//! published of them, and what is told of them at a desk, in an audit and in a hall of drop and
+//! add. These texts were computed apart from this program. A constant is named for its term, and
+//! then for the part of it that it is.
 // Neither: that these texts were computed apart from this program. No clause cites them.
 #![tactic(auto)]
 

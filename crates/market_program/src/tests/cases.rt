@@ -1,11 +1,11 @@
 // Cases as text. A case begins with `== ` and what it shows; below stand its commands, one a line;
-// one with the word `1,2,16` stands for three, by so many workers. Then come its files, each below a
-// line of `-- ` and the file's name, and its lawful answers, each below a line of `=> ` and the
+// one with the word `1,2,16` stands for three, by so many workers. Then come its files, each below
+// a line of `-- ` and the file's name, and its lawful answers, each below a line of `=> ` and the
 // number of the status, or the status as it prints itself. A file that does not end in a line feed
 // is followed by the next mark at once. Where a line of a file or of an answer names a text of the
-// shelf too, it is that text, but for the lines that stand below (`changes`). An answer with the line
-// `order any` is lawful with each order of two sessions with two commands each. A command may name
-// what stands on the shelf, too.
+// shelf too, it is that text, but for the lines that stand below (`changes`). An answer with the
+// line `order any` is lawful with each order of two sessions with two commands each. A command may
+// name what stands on the shelf, too.
 use super::changes::text_with;
 use super::shelf::text_named;
 use super::*;

@@ -153,8 +153,8 @@ fn assert_front<R: Abort>(
     );
 }
 
-// Each call of the shelf and each write of the sink. Where the first write fails nothing is written;
-// a second one is not made.
+// Each call of the shelf and each write of the sink. Where the first write fails nothing is
+// written; a second one is not made.
 fn try_calls<R: Threads + Wait + Sync + Abort>(
     rt: &R,
     alloc: Global,

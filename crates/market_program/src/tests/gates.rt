@@ -4,7 +4,7 @@ use market_edge::MeetingGate;
 use worked_terms::{FIVE_SECTIONS_HELD, FOUR_ENVY};
 
 // What stands on a shelf, and whoever passes this gate: the text of a command whose work is done.
-fn done_past<R: Threads + Wait + Sync + Abort>(
+pub(super) fn done_past<R: Threads + Wait + Sync + Abort>(
     rt: &R,
     alloc: Global,
     line: &str,
@@ -13,7 +13,7 @@ fn done_past<R: Threads + Wait + Sync + Abort>(
 ) -> Result<String, Fail> {
     let held = all_files(alloc, line, files)?;
     let (status, text) = run_held(rt, alloc, line, held, (0, 0), ROOM, gate)?;
-    assert_eq!(rt; status, Status::Done);
+    assert_eq!(rt; status, Status::Done, "{line}");
     Ok(text)
 }
 
@@ -48,7 +48,7 @@ fn assert_entries<R: Abort>(
 }
 
 // The sessions started and made so many calls, and met; nothing else passed.
-fn assert_counts<R: Abort>(rt: &R, gate: &MeetingGate, counts: [(u64, u64); 3]) {
+pub(super) fn assert_counts<R: Abort>(rt: &R, gate: &MeetingGate, counts: [(u64, u64); 3]) {
     let found = [
         gate.first.counts(),
         gate.second.counts(),
@@ -59,7 +59,7 @@ fn assert_counts<R: Abort>(rt: &R, gate: &MeetingGate, counts: [(u64, u64); 3]) 
 }
 
 // The workers made a call each, and together at least so many.
-fn assert_workers_met<R: Abort>(rt: &R, gate: &MeetingGate, least: u64) {
+pub(super) fn assert_workers_met<R: Abort>(rt: &R, gate: &MeetingGate, least: u64) {
     let (_, of_first) = gate.first_worker.counts();
     let (_, of_second) = gate.second_worker.counts();
     assert!(rt; of_first > 0 && of_second > 0);

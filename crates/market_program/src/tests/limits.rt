@@ -105,7 +105,7 @@ rate ann S400 8
 => 0
 bundle ann [S399]
 utility 7
-== one more
+== one section more
 quote CAT S1 ann 10 8
 -- S1
 rate ann S399 7
@@ -129,7 +129,7 @@ rate t1999 B 100
 => 0
 entry 1 done rate t1999 B 100
 rate t1999 B 100
-== one more
+== one student more
 prefer TWO STU NONE
 -- STU
 student,budget,credits,courses

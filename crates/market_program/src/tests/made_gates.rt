@@ -1,4 +1,5 @@
 // The sessions and workers of a made market that meet.
+use super::gates::{assert_counts, assert_workers_met, done_past};
 use super::*;
 use market_edge::{MeetingGate, Stop};
 use std::sync::atomic::{AtomicU64, Ordering};
@@ -6,29 +7,14 @@ use std::sync::atomic::{AtomicU64, Ordering};
 // How often a worker looks for the others before it passes on alone.
 const TURNS: u32 = 1_000_000_000;
 
-// The summary of a made market whose sessions and workers pass this gate.
-fn made_past<R: Threads + Wait + Sync + Abort>(
-    rt: &R,
-    alloc: Global,
-    line: &str,
-    gate: &(dyn Gate + Sync),
-) -> Result<String, Fail> {
-    let (status, text) = run_by(rt, alloc, line, (0, 0), ROOM, gate)?;
-    assert_eq!(rt; status, Status::Done, "{line}");
-    Ok(text)
-}
-
 // Two sessions whose calls meet, and two workers: each student rates two sections and pairs them,
-// and there is a task for each student.
+// and there is a task for each of two students.
 #[test]
 fn two_workers_of_a_made_market_post_at_once(rt: HostRuntime) -> Result<(), Fail> {
     let gate = MeetingGate::new();
-    let _text = made_past(&rt, rt.alloc(), "make 2 7 2 2 0", &gate)?;
-    assert_eq!(rt; [gate.first.counts(), gate.second.counts()], [(1, 3); 2]);
-    let (_, of_first) = gate.first_worker.counts();
-    let (_, of_second) = gate.second_worker.counts();
-    assert!(rt; of_first > 0 && of_second > 0);
-    assert_eq!(rt; (gate.missed(), gate.others()), (0, 0));
+    done_past(&rt, rt.alloc(), "make 2 7 2 2 0", &[], &gate)?;
+    assert_counts(&rt, &gate, [(1, 3), (1, 3), (0, 0)]);
+    assert_workers_met(&rt, &gate, 2);
     Ok(())
 }
 
@@ -85,9 +71,11 @@ impl Gate for FourGate {
 #[test]
 fn four_workers_make_what_one_makes(rt: HostRuntime) -> Result<(), Fail> {
     let alloc = rt.alloc();
-    let alone = made_past(&rt, alloc, "make 1 11 300 60 1000000000000", &OpenGate)?;
+    let line = "make 1 11 300 60 1000000000000";
+    let alone = done_past(&rt, alloc, line, &[], &OpenGate)?;
     let gate = FourGate::new();
-    let together = made_past(&rt, alloc, "make 4 11 300 60 1000000000000", &gate)?;
+    let line = "make 4 11 300 60 1000000000000";
+    let together = done_past(&rt, alloc, line, &[], &gate)?;
     assert_eq!(rt; together, alone);
     assert!(rt; gate.have_all_posted());
     assert_eq!(rt; gate.missed.load(Ordering::SeqCst), 0);

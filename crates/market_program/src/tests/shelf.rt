@@ -1,5 +1,5 @@
-// What stands on the shelf where a command names it: small tables, sessions, the parts of worked terms,
-// and what is told of them.
+// What stands on the shelf where a command names it: small tables, sessions, the parts of worked
+// terms, and what is told of them.
 use super::*;
 use worked_terms::{
     ACCEPT_0, ACCEPT_1, ACCEPT_8, ACCEPT_9, ACCEPT_99, BEYOND_ONE_ENVY, BEYOND_ONE_MARKET,
@@ -93,7 +93,8 @@ static SESSIONS: [File<'static>; 12] = [
 ];
 
 // What is told: in an audit, of a student whose sections have rating 10, in a hall of drop and add,
-// and of what students take, the four of one seat at price 102 and those of the ordinary term at 104.
+// and of what students take, the four of one seat at price 102 and those of the ordinary term at
+// 104.
 static TOLD: [(&str, &str); 11] = [
     ("term.envy", ORDINARY_ENVY),
     ("four.envy", FOUR_ENVY),

@@ -89,8 +89,8 @@ fn two_workers_meet_in_the_elimination(rt: HostRuntime) -> Result<(), Fail> {
     Ok(())
 }
 
-// A hundred and fifty sections of one seat, each of which two students want, and one turn: it raises
-// the price of the first section until one of its two leaves.
+// A hundred and fifty sections of one seat, each of which two students want, and one turn: it
+// raises the price of the first section until one of its two leaves.
 #[test]
 fn two_workers_meet_in_the_search(rt: HostRuntime) -> Result<(), Fail> {
     let alloc = rt.alloc();

@@ -9,8 +9,8 @@ use std::test::Fail;
 use std::thread::Threads;
 use tabu_search::{Found, SearchEnd, search};
 
-/// Settings of a search: the seed, the accepted error, the turns, the tabu window, the patience, and
-/// the steps.
+/// Settings of a search: the seed, the accepted error, the turns, the tabu window, the patience,
+/// and the steps.
 pub(crate) fn settings_of<R: Abort>(
     rt: &R,
     alloc: Global,
