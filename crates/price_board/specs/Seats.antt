@@ -1,8 +1,9 @@
 -- A seat of a round's board, by version and student.
-use Rattle.std.specs.Prelude.{ℕ, ◌<◌, ⊤}
+use Rattle.std.specs.Prelude.{ℕ, ◌<◌, ⊤, List}
 use Rattle.bundle_rules.specs.declared.bundle.Bundle.{Bundle}
 use Rattle.task_board.specs.Seats.{BoardOf, SeatOf}
 use Rattle.task_board.specs.Seats.{IsSeatOf as IsBoardSeat, HoldsNothing as HoldsNoTask, IsFree as IsFreeSeat, IsHolding as HoldsTask, IsFinished as IsFinishedSeat}
+use Rattle.task_board.specs.Seats.{HasBegun as HasBoardBegun, AreBack as AreBoardBack}
 use Rattle.price_board.specs.declared.calls.Draw.{Draw}
 use Rattle.price_board.specs.declared.calls.Draw.TheVariants.{Task as Drawn, Done}
 use Rattle.price_board.specs.declared.terms.Terms.{Terms}
@@ -36,6 +37,14 @@ IsHolding board version student seat =
 -- a worker that was answered that there is no task
 abbrev pub IsFinished : RoundBoard → RoundSeat → Type 0
 IsFinished board seat = IsFinishedSeat round_rules board seat
+
+-- a board that has just begun, with its seats, one for each of so many workers
+abbrev pub HasBegun : RoundBoard → List RoundSeat → ℕ → Type 0
+HasBegun board seats workers = HasBoardBegun round_rules board seats workers
+
+-- all seats are back, and no worker has a task or is left one
+abbrev pub AreBack : RoundBoard → List RoundSeat → Type 0
+AreBack board seats = AreBoardBack round_rules board seats
 
 -- a drawn task is of a version and a student of the round
 abbrev pub IsWithin : Terms → Draw → Type 0

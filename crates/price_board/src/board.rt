@@ -1,5 +1,5 @@
 // The board that workers share.
-ghost use Rattle.std.specs.Prelude.{◌≡◌, ◌≤◌, ◌<◌, [], ℕ, IfOk, All, Any, length, vec_len, slice_index_or};
+ghost use Rattle.std.specs.Prelude.{◌≡◌, ◌≤◌, ◌<◌, ℕ, IfOk};
 ghost use Rattle.std.specs.Arc.{arc_value};
 ghost use Rattle.bundle_rules.specs.Bundles.{sections_of};
 ghost use Rattle.task_board.specs.{Closings.IsEndOf, Fates.IsTaken, Fates.IsWorked};
@@ -7,7 +7,7 @@ ghost use Rattle.task_board.specs.{Seats.dones, Seats.posts, Turns.HasDrawn, Tur
 ghost use Rattle.price_board.specs.{Asked.round_rules, Closings.AreSettled};
 ghost use Rattle.price_board.specs.Openings.{terms_of, IsRound};
 ghost use Rattle.price_board.specs.Rows.{number_drawn, number_of};
-ghost use Rattle.price_board.specs.Seats.{HoldsNothing, IsFinished, IsFree, IsSeatOf, IsWithin};
+ghost use Rattle.price_board.specs.Seats.{AreBack, HasBegun, HoldsNothing, IsSeatOf, IsWithin};
 ghost use Rattle.price_board.specs.Settling.{ask_of};
 ghost use Rattle.price_board.specs.Terms.{demand_of, student_count, task_count, version_count};
 
@@ -64,12 +64,7 @@ impl Board {
         requires round { IsRound (terms_of (arc_value crowd) round) }
         requires workers { (1 ≤ workers) × (workers ≤ MAX_WORKERS) }
         ensures terms { IfOk result (λ r. r.0.base ≡ terms_of (arc_value crowd) round) }
-        ensures allotments { IfOk result (λ r. length r.0.allotments ≡ workers) }
-        ensures count { IfOk result (λ r. vec_len r.1 ≡ workers) }
-        ensures numbers { IfOk result
-            (λ r. (n : ℕ) (d : _) → n < workers → (slice_index_or r.1.items n d).number ≡ n) }
-        ensures free { IfOk result (λ r. All (λ s. IsFree r.0 s) r.1.items) }
-        ensures fresh { IfOk result (λ r. All (λ s. (s.seen ≡ []) × (s.own ≡ [])) r.1.items) }
+        ensures begun { IfOk result (λ r. HasBegun r.0 r.1.items workers) }
     {
         let tasks = RoundTasks::make(alloc, crowd, round)?;
         let students = tasks.students();
@@ -134,8 +129,7 @@ impl Board {
     /// Ends the round: with all seats back, in any order, of which none holds a task and each was
     /// answered `Done`, the answers come out, with the one history of all calls.
     pub fn close(self, seats: Vec<BoardSeat>) -> Answers
-        requires all { (n : ℕ) → n < length self.allotments → Any (λ s. s.number ≡ n) seats.items }
-        requires finished { All (λ s. IsFinished self s) seats.items }
+        requires back { AreBack self seats.items }
         ensures end { IsEndOf round_rules self seats.items result }
         ensures settled { AreSettled result.terms result.marks }
         ensures counts { (version student : ℕ) → version < version_count self.base

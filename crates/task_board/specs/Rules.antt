@@ -1,5 +1,5 @@
 -- What the tasks of a board ask.
-use Rattle.std.specs.Prelude.{ℕ, ◌≡◌, ◌<◌, Bool, true, Option, Some, None, List, length, slice_index_or, slice_set}
+use Rattle.std.specs.Prelude.{ℕ, ◌≡◌, ◌<◌, Bool, true, false, Option, Some, None, List, length, slice_index_or, slice_set}
 
 -- By the terms B, the rules of tasks that are numbered from 0 and have answers A
 pub record Rules (B A : Type 0) : Type 0 where
@@ -19,3 +19,18 @@ IsLasting {B = B} {A = A} rules =
     → length answers ≡ rules.count terms → other < length answers
     → slice_index_or answers other (Some answer) ≡ None → rules.is_over terms answers task ≡ true
     → rules.is_over terms (slice_set answers other (Some answer)) task ≡ true
+
+-- By how many tasks there are and which answers are right: the rules of tasks none of which is over
+-- before it is posted
+abbrev pub all_asked : {B A : Type 0} → (B → ℕ) → (B → ℕ → A → Bool) → Rules B A
+all_asked count is_right =
+    record {
+      count = count;
+      is_right = is_right;
+      is_over = λ terms answers task. false;
+      tally = λ terms answers task. 0;
+    }
+
+pub never_over : {B A : Type 0} (count : B → ℕ) (is_right : B → ℕ → A → Bool)
+    → IsLasting (all_asked count is_right)
+never_over count is_right terms answers task other answer each below none over = over

@@ -1,5 +1,5 @@
 -- A seat of a board between its calls.
-use Rattle.std.specs.Prelude.{ℕ, ◌≡◌, ◌<◌, ◌≤◌, ◌+◌, ◌-◌, Bool, true, false, List, Some, None, length, filter, take}
+use Rattle.std.specs.Prelude.{ℕ, ◌≡◌, ◌<◌, ◌≤◌, ◌+◌, ◌-◌, Bool, true, false, List, [], Some, None, All, Any, length, filter, slice_index_or, take}
 use Rattle.std.specs.List.{count_by}
 use Rattle.chronicle.specs.declared.journal.StepOf.{StepOf}
 use Rattle.chronicle.specs.declared.origin.Origin.{Origin}
@@ -112,3 +112,18 @@ module _ {B A : Type 0} (rules : Rules B A) where
     pub is_seat : IsSeatOf board seat
     pub holds_nothing : HoldsNothing board seat
     pub done : dones seat.own ≡ 1
+
+  -- A board that has just begun, and its seats: one for each of so many workers, numbered from 0,
+  -- which may draw and has seen nothing
+  pub record HasBegun (board : BoardOf B A) (seats : List (SeatOf B A)) (workers : ℕ) : Type 0 where
+    pub allotments : length board.allotments ≡ workers
+    pub count : length seats ≡ workers
+    pub numbers : (n : ℕ) (d : SeatOf B A) → n < workers → (slice_index_or seats n d).number ≡ n
+    pub free : All (IsFree board) seats
+    pub fresh : All (λ (s : SeatOf B A). (s.seen ≡ []) × (s.own ≡ [])) seats
+
+  -- all seats of the board are back, in any order, and no worker has a task or is left one
+  pub record AreBack (board : BoardOf B A) (seats : List (SeatOf B A)) : Type 0 where
+    pub all : (n : ℕ) → n < length board.allotments
+        → Any (λ (s : SeatOf B A). s.number ≡ n) seats
+    pub finished : All (IsFinished board) seats

@@ -2,6 +2,7 @@
 ghost use Rattle.std.specs.Prelude.{◌≡◌, true, IfSome, length};
 ghost use Rattle.task_board.specs.{Kept.AreRight, Marks.answer_in, Marks.answers_in, Marks.mark_at};
 
+use crate::mark::Mark;
 use crate::state::BoardState;
 use crate::tasks::Tasks;
 use chronicle::Journal;
@@ -29,7 +30,10 @@ impl<T: Tasks> Answers<T> {
         ensures right { IfSome result
             (λ answer. T.rules.is_right self.now.terms task answer ≡ true) }
     {
-        self.state.answer(task)
+        match self.state.marks.get(task as usize) {
+            Some(Mark::Filled(_, answer)) => Some(*answer),
+            _ => None,
+        }
     }
 
     /// The tasks, which noted all answers that were posted.
@@ -39,7 +43,7 @@ impl<T: Tasks> Answers<T> {
         ensures right { AreRight T.rules self.now.terms self.now.marks }
         ensures each { length self.now.marks ≡ T.rules.count self.now.terms }
     {
-        self.state.tasks()
+        &self.state.tasks
     }
 
     /// The history of all calls on the board.

@@ -1,7 +1,7 @@
 // The board that workers share.
-ghost use Rattle.std.specs.Prelude.{◌≡◌, ◌≤◌, ◌<◌, [], true, ℕ, IfOk, All, Any, length, vec_len, slice_index_or};
+ghost use Rattle.std.specs.Prelude.{◌≡◌, ◌≤◌, ◌<◌, true, IfOk};
 ghost use Rattle.task_board.specs.{Closings.IsEndOf, Openings.no_answers};
-ghost use Rattle.task_board.specs.Seats.{HoldsNothing, IsFinished, IsFree, IsSeatOf, dones, posts};
+ghost use Rattle.task_board.specs.Seats.{AreBack, HasBegun, HoldsNothing, IsSeatOf, dones, posts};
 ghost use Rattle.task_board.specs.Turns.{HasDrawn, HasPosted};
 
 use crate::answers::Answers;
@@ -47,12 +47,7 @@ impl<T: Tasks> Board<T> {
         requires fresh { T.noted tasks (no_answers T.rules (T.terms tasks)) }
         requires workers { 1 ≤ workers }
         ensures terms { IfOk result (λ r. r.0.base ≡ T.terms tasks) }
-        ensures allotments { IfOk result (λ r. length r.0.allotments ≡ workers) }
-        ensures count { IfOk result (λ r. vec_len r.1 ≡ workers) }
-        ensures numbers { IfOk result
-            (λ r. (n : ℕ) (d : _) → n < workers → (slice_index_or r.1.items n d).number ≡ n) }
-        ensures free { IfOk result (λ r. All (λ s. IsFree T.rules r.0 s) r.1.items) }
-        ensures fresh { IfOk result (λ r. All (λ s. (s.seen ≡ []) × (s.own ≡ [])) r.1.items) }
+        ensures begun { IfOk result (λ r. HasBegun T.rules r.0 r.1.items workers) }
     {
         let state = BoardState::make(alloc, tasks, workers)?;
         let share = 2 * u64::from(state.count()) + 1;
@@ -102,8 +97,7 @@ impl<T: Tasks> Board<T> {
     /// answered that there is none, the answers come out, with the one history of all calls. Each
     /// task is then answered or over.
     pub fn close(self, seats: Vec<BoardSeat<T>>) -> Answers<T>
-        requires all { (n : ℕ) → n < length self.allotments → Any (λ s. s.number ≡ n) seats.items }
-        requires finished { All (λ s. IsFinished T.rules self s) seats.items }
+        requires back { AreBack T.rules self seats.items }
         ensures { IsEndOf T.rules self seats.items result }
     {
         let (state, journal) = self.chronicle.close(seats);

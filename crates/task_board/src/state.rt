@@ -1,8 +1,7 @@
 // A board without threads.
-ghost use Rattle.std.specs.Prelude.{◌≡◌, ◌≤◌, ◌<◌, ◌+◌, ◌*◌, ℕ, true, false, IfOk, IfSome, length, replicate};
+ghost use Rattle.std.specs.Prelude.{◌≡◌, ◌≤◌, ◌<◌, ◌+◌, ◌*◌, ℕ, true, false, IfOk, length, replicate};
 ghost use Rattle.chronicle.specs.History.{state_after};
-ghost use Rattle.task_board.specs.Kept.{AreRight};
-ghost use Rattle.task_board.specs.Marks.{answer_in, answers_in, is_held_by, mark_at};
+ghost use Rattle.task_board.specs.Marks.{is_held_by, mark_at};
 ghost use Rattle.task_board.specs.Openings.{no_answers, opening_of};
 ghost use Rattle.task_board.specs.Steps.{first_left, is_left, is_over, marks_drawn, marks_posted, post_answer};
 
@@ -17,8 +16,8 @@ use std::marker::Model;
 /// number of tasks.
 #[derive(Drop)]
 pub struct BoardState<T: Tasks> {
-    tasks: T,
-    marks: Vec<Mark<T::Answer>>,
+    pub(crate) tasks: T,
+    pub(crate) marks: Vec<Mark<T::Answer>>,
     // No task before this one is left.
     next: u32,
     calls: u64,
@@ -146,27 +145,6 @@ impl<T: Tasks> BoardState<T> {
             Mark::Held(other) => other == worker,
             Mark::Open | Mark::Filled(_, _) | Mark::Spent(_) => false,
         }
-    }
-
-    /// The answer that was posted for the task.
-    pub(crate) fn answer(&self, task: u32) -> Option<T::Answer>
-        ensures posted { result ≡ answer_in (mark_at self.now.marks task) }
-        ensures right { AreRight T.rules self.now.terms self.now.marks }
-    {
-        match self.marks.get(task as usize) {
-            Some(Mark::Filled(_, answer)) => Some(*answer),
-            _ => None,
-        }
-    }
-
-    /// The tasks, which noted the answers in the marks.
-    pub(crate) fn tasks(&self) -> &T
-        ensures terms { T.terms result.now ≡ self.now.terms }
-        ensures noted { T.noted result.now (answers_in self.now.marks) }
-        ensures right { AreRight T.rules self.now.terms self.now.marks }
-        ensures each { length self.now.marks ≡ T.rules.count self.now.terms }
-    {
-        &self.tasks
     }
 
     /// One call of those that the board has room for.

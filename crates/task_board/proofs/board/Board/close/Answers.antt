@@ -24,13 +24,13 @@ returns g c =
     c.close-state.ensures.last ∙ ap (λ (o : BoardOf _ _). state_after (progress_after rules) o.base o.opening history) c.self.view_is in
     let marks : c.close-state.result.0.marks ≡ marks_after rules board history = ap (λ p. p.marks) last in
     let settled =
-    all_settled rules g.met.T.Tasks.lasting board history seats some c.requires.all c.requires.finished legal c.close-state.ensures.seats
+    all_settled rules g.met.T.Tasks.lasting board history seats some c.requires.back.all c.requires.back.finished legal c.close-state.ensures.seats
     c.close-state.ensures.own c.close-state.ensures.seen c.close-state.ensures.others in
     record {
       terms = terms;
       each =
           ap length marks
-          ∙ each_marked rules g.met.T.Tasks.lasting board history seats some c.requires.all c.requires.finished legal c.close-state.ensures.seats
+          ∙ each_marked rules g.met.T.Tasks.lasting board history seats some c.requires.back.all c.requires.back.finished legal c.close-state.ensures.seats
           c.close-state.ensures.own c.close-state.ensures.seen c.close-state.ensures.others;
       legal = legal;
       last = sym last;
@@ -39,10 +39,10 @@ returns g c =
       by_seats = c.close-state.ensures.seats;
       own = c.close-state.ensures.own;
       tasks =
-          all_tasks rules g.met.T.Tasks.lasting board history seats some c.requires.all c.requires.finished legal c.close-state.ensures.seats
+          all_tasks rules g.met.T.Tasks.lasting board history seats some c.requires.back.all c.requires.back.finished legal c.close-state.ensures.seats
           c.close-state.ensures.own c.close-state.ensures.seen c.close-state.ensures.others;
       taken =
           subst (λ m. (task : _) → IsSome (answer_in (mark_at m task)) → IsWorked rules IsTaken board.base history task) (sym marks)
-          (all_taken rules g.met.T.Tasks.lasting board history seats some c.requires.all c.requires.finished legal c.close-state.ensures.seats
+          (all_taken rules g.met.T.Tasks.lasting board history seats some c.requires.back.all c.requires.back.finished legal c.close-state.ensures.seats
           c.close-state.ensures.own c.close-state.ensures.seen c.close-state.ensures.others);
     }

@@ -17,29 +17,30 @@ start-requires-clause-room g c =
     ∙ sym c.in_ok-state.ensures.room in
     let goal : a ≤ b = omega arith in goal
 
-pub returns-clause-numbers : goal.returns-clause-numbers
-returns-clause-numbers g c = λ n d low.
-    ap (λ s. s.number) (c.in_ok-chronicle.ensures.seats n d (omega (arith, low, c.in_ok-allotments.ensures.len, c.from-2.ensures)))
-
-pub returns-clause-free : goal.returns-clause-free
-returns-clause-free g c = λ k d below.
-    let count : length c.in_ok-chronicle.seats.items ≡ c.args.workers =
-    omega (arith, c.in_ok-chronicle.ensures.count, c.in_ok-chronicle.seats.ok.0, c.in_ok-allotments.ensures.len, c.from-2.ensures) in
-    let low : k < c.args.workers = subst (λ n. k < n) count below in
-    let inside : k < c.from-2.result = subst (λ n. k < n) (sym c.from-2.ensures) low in
-    let opening : c.in_ok-chronicle.chronicle.opening ≡ opening_of g.T.Tasks.rules c.in_ok-chronicle.chronicle.base =
+pub returns-clause-begun : goal.returns-clause-begun
+returns-clause-begun g c =
+    let board = c.in_ok-chronicle.chronicle in
+    let many : length c.in_ok-allotments.allotments.items ≡ c.args.workers =
+    omega (arith, c.in_ok-allotments.ensures.len, c.in_ok-allotments.allotments.ok.0, c.from-2.ensures) in
+    let opening : board.opening ≡ opening_of g.T.Tasks.rules board.base =
     c.in_ok-chronicle.ensures.chronicle.1 ∙ ap progress c.in_ok-state.ensures.opening
     ∙ ap (opening_of g.T.Tasks.rules) (sym (c.in_ok-chronicle.ensures.chronicle.0 ∙ c.in_ok-state.ensures.terms)) in
-    new_free g.T.Tasks.rules c.in_ok-chronicle.chronicle k (slice_index c.in_ok-allotments.allotments.items k) _
-    (c.in_ok-chronicle.ensures.seats k d (omega (arith, low, c.in_ok-allotments.ensures.len, c.from-2.ensures))) opening
-    (ap (λ l. slice_index l k) (c.in_ok-allotments.ensures.items_if_clones_equal (λ y is. is))
-    ∙ get_or-replicate c.from-2.result k (2 * c.from.result + 1) 0 inside
-    ∙ ap (λ n. 2 * n + 1) (c.from.ensures ∙ c.count.ensures ∙ ap g.T.Tasks.rules.count (sym c.in_ok-chronicle.ensures.chronicle.0)))
-
-pub returns-clause-fresh : goal.returns-clause-fresh
-returns-clause-fresh g c = λ k d below.
     let count : length c.in_ok-chronicle.seats.items ≡ c.args.workers =
-    omega (arith, c.in_ok-chronicle.ensures.count, c.in_ok-chronicle.seats.ok.0, c.in_ok-allotments.ensures.len, c.from-2.ensures) in
-    let low : k < c.args.workers = subst (λ n. k < n) count below in
-    let is = c.in_ok-chronicle.ensures.seats k d (omega (arith, low, c.in_ok-allotments.ensures.len, c.from-2.ensures)) in
-    (ap (λ s. s.seen) is, ap (λ s. s.own) is)
+    omega (arith, c.in_ok-chronicle.ensures.count, c.in_ok-chronicle.seats.ok.0, many) in
+    record {
+      allotments = ap length c.in_ok-chronicle.ensures.chronicle.2 ∙ many;
+      count = count;
+      numbers = λ n d low. ap (λ s. s.number) (c.in_ok-chronicle.ensures.seats n d (omega (arith, low, many)));
+      free =
+          λ k d below. let low : k < c.args.workers = subst (λ n. k < n) count below in
+          let inside : k < c.from-2.result = subst (λ n. k < n) (sym c.from-2.ensures) low in
+          new_free g.T.Tasks.rules board k (slice_index c.in_ok-allotments.allotments.items k) _
+          (c.in_ok-chronicle.ensures.seats k d (omega (arith, low, many))) opening
+          (ap (λ l. slice_index l k) (c.in_ok-allotments.ensures.items_if_clones_equal (λ y is. is))
+          ∙ get_or-replicate c.from-2.result k (2 * c.from.result + 1) 0 inside
+          ∙ ap (λ n. 2 * n + 1) (c.from.ensures ∙ c.count.ensures ∙ ap g.T.Tasks.rules.count (sym c.in_ok-chronicle.ensures.chronicle.0)));
+      fresh =
+          λ k d below. let low : k < c.args.workers = subst (λ n. k < n) count below in
+          let is = c.in_ok-chronicle.ensures.seats k d (omega (arith, low, many)) in
+          (ap (λ s. s.seen) is, ap (λ s. s.own) is);
+    }
