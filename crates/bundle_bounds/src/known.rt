@@ -1,10 +1,8 @@
 // What a few bounds of a resource tell of the others: as a function of its price, a resource's
 // bound is convex.
-ghost use Rattle.std.specs.Prelude.{◌≡◌, ◌<◌, ◌≤◌, ◌≤ℤ◌, ◌+◌, ◌*◌, ◌/◌, ◌+ℤ◌, ℤ, ℕ, List, pos, IsTrue};
+ghost use Rattle.std.specs.Prelude.{◌≡◌, ◌<◌, ◌≤◌, ◌≤ℤ◌, ◌+◌, ◌-◌, ◌*◌, ◌/◌, ◌^◌, ◌+ℤ◌, ℤ, ℕ, List, pos, IsTrue};
 ghost use Rattle.bundle_bounds.specs.{Bounds.at_price, declared.prospects.Prospect.Prospect};
 ghost use Rattle.bundle_bounds.specs.declared.prospects.Resource.{Resource};
-
-use market_units::MAX_PRICE;
 
 // More than any price of a bound.
 const HIGHEST: u64 = 20_000_001;
@@ -34,7 +32,7 @@ impl Known {
     /// is not below the limit. The price is the quotient, rounded down.
     pub(crate) fn has_ratio(&self, worth: u64, taken: u64) -> bool
         requires worth { worth ≤ 20000000 }
-        requires taken { taken ≤ MAX_PRICE }
+        requires taken { taken < 2 ^ 32 }
         requires low { self.now.low ≤ 20000002 }
         requires high { self.now.high ≤ 20000001 }
         ensures { IsTrue result → 0 < taken → (base limit : ℤ) (rest : ℕ) (resource : Resource) (all : List Prospect) → IsKnown base limit rest resource all self.now
@@ -78,7 +76,7 @@ impl Known {
 // How many steps of this height stay within the margin, but no more than these, which are as good
 // as all.
 fn steps_within(margin: u64, height: u64, most: u64) -> u64
-    requires margin { margin ≤ 1000000000000000000 }
+    requires { margin < 2 ^ 64 - 1 }
     ensures within { result * height ≤ margin }
     ensures high { result ≤ most }
 {

@@ -1,10 +1,23 @@
 // What open places make without the first of them.
-ghost use Rattle.std.specs.Prelude.{◌≡◌, ◌≤◌, ◌*◌, ◌∷◌, ℕ, false, IfSome, length, drop, All};
-ghost use Rattle.bundle_bounds.specs.Courses.{HasAllOfCourse, has_course, by_course};
+ghost use Rattle.std.specs.Prelude.{◌≡◌, ◌≤◌, ◌*◌, ◌+◌, ◌-◌, ◌∷◌, ℕ, false, IfSome, length, drop, All};
+ghost use Rattle.bundle_bounds.specs.Bounds.{over_price};
+ghost use Rattle.bundle_bounds.specs.Courses.{HasAllOfCourse, has_course, greatest, by_course};
 ghost use Rattle.bundle_bounds.specs.{Modest.IsModest, Tangents.IsTangent, Tangents.AreTangents};
 
-use crate::prospects::{Prospect, Prospects, Resource, added_twice};
+use crate::prospects::{Prospect, Prospects, Rate, Resource, peak_among, peak_of};
 use crate::tangents::{Tangent, Tangents};
+
+// The first of some open places, those behind it, and of these the first ones: all of its course
+// are among them.
+#[derive(Clone, Copy)]
+struct Front<'p> {
+    one: &'p Prospect,
+    more: &'p [Prospect],
+    firsts: &'p [Prospect],
+    ghost one_modest: { IsModest one.now },
+    ghost modest: { All IsModest firsts.now },
+    ghost has_all: { HasAllOfCourse firsts.now more.now one.now.course },
+}
 
 // How many of these there are up to the last one of the course.
 fn up_to_course(more: &[Prospect], course: u8) -> usize
@@ -39,48 +52,48 @@ pub(crate) fn leave(all: &Prospects, plain: u64, tangents: Tangents) -> (u64, Ta
         [] => (plain, tangents),
         [one, more @ ..] => {
             let firsts = &more[..up_to_course(more, one.course)];
+            let front = Front { one, more, firsts };
             let later = Tangents {
-                money: later(tangents.money, Resource::Money, one, more, firsts),
-                credits: later(tangents.credits, Resource::Credits, one, more, firsts),
-                courses: later(tangents.courses, Resource::Count, one, more, firsts),
+                money: later(tangents.money, Resource::Money, &front),
+                credits: later(tangents.credits, Resource::Credits, &front),
+                courses: later(tangents.courses, Resource::Count, &front),
             };
-            (plain_later(plain, one, more, firsts), later)
+            (plain_later(plain, &front), later)
         }
     }
 }
 
-// The plain sum without the first open place. All of its course are among the first of the others.
+// The plain sum without the first open place.
 #[inline(always)]
-fn plain_later(plain: u64, one: &Prospect, more: &[Prospect], firsts: &[Prospect]) -> u64
-    requires one_modest { IsModest one.now }
-    requires modest { All IsModest firsts.now }
-    requires firsts { HasAllOfCourse firsts.now more.now one.now.course }
-    requires plain { plain ≡ by_course (λ p. 1000 * p.worth) (one.now ∷ more.now) }
-    ensures value { result ≡ by_course (λ p. 1000 * p.worth) more.now }
+fn plain_later(plain: u64, front: &Front) -> u64
+    requires plain { plain
+        ≡ by_course (λ p. 1000 * p.worth) (front.now.one.now ∷ front.now.more.now) }
+    ensures value { result ≡ by_course (λ p. 1000 * p.worth) front.now.more.now }
     ensures less { result ≤ plain }
 {
-    plain - added_twice(one, firsts, Resource::Count, 0).0
+    let free = Rate {
+        resource: Resource::Count,
+        price: 0,
+    };
+    plain - added_twice(front, free).0
 }
 
 // The tangent of a resource without it.
 #[inline(always)]
-fn later(
-    tangent: Option<Tangent>,
-    resource: Resource,
-    one: &Prospect,
-    more: &[Prospect],
-    firsts: &[Prospect],
-) -> Option<Tangent>
-    requires one_modest { IsModest one.now }
-    requires modest { All IsModest firsts.now }
-    requires firsts { HasAllOfCourse firsts.now more.now one.now.course }
-    requires tangent { (rest : ℕ) × IfSome tangent (IsTangent rest resource (one.now ∷ more.now)) }
-    ensures { (rest : ℕ) → IfSome tangent (IsTangent rest resource (one.now ∷ more.now))
-        → IfSome result (IsTangent rest resource more.now) }
+fn later(tangent: Option<Tangent>, resource: Resource, front: &Front) -> Option<Tangent>
+    requires tangent { (rest : ℕ)
+        × IfSome tangent (IsTangent rest resource (front.now.one.now ∷ front.now.more.now)) }
+    ensures { (rest : ℕ)
+        → IfSome tangent (IsTangent rest resource (front.now.one.now ∷ front.now.more.now))
+        → IfSome result (IsTangent rest resource front.now.more.now) }
 {
     match tangent {
         Some(tangent) => {
-            let (here, after) = added_twice(one, firsts, resource, tangent.price);
+            let rate = Rate {
+                resource,
+                price: tangent.price,
+            };
+            let (here, after) = added_twice(front, rate);
             Some(Tangent {
                 price: tangent.price,
                 sum: tangent.sum - here,
@@ -89,4 +102,25 @@ fn later(
         }
         None => None,
     }
+}
+
+// How much the first open place adds to the sum of each course's greatest `over_price`: what it has
+// more than the greatest of its course behind it, or 0; and the same at the next price.
+#[inline(always)]
+fn added_twice(front: &Front, rate: Rate) -> (u64, u64)
+    ensures here { result.0
+        ≡ over_price rate.resource rate.price front.now.one.now
+        - greatest (over_price rate.resource rate.price) front.now.one.now.course
+        front.now.firsts.now }
+    ensures after { result.1
+        ≡ over_price rate.resource (rate.price + 1) front.now.one.now
+        - greatest (over_price rate.resource (rate.price + 1)) front.now.one.now.course
+        front.now.firsts.now }
+{
+    let own = peak_of(front.one, rate);
+    let most = peak_among(front.firsts, rate, front.one.course);
+    (
+        own.here.saturating_sub(most.here),
+        own.after.saturating_sub(most.after),
+    )
 }

@@ -1,7 +1,8 @@
 // Nodes of the search: what is open there, and which bound prunes them.
 ghost use Rattle.std.specs.Prelude.{◌≡◌, ◌<◌, ◌&&◌, ℤ, nat_le, IfSome, IfNone, length};
 ghost use Rattle.bundle_rules.specs.{Ahead.is_ahead, Bundles.sections_of, Demand.HasPrices};
-ghost use Rattle.bundle_rules.specs.{Menus.wishes_of, Wishes.IsFeasible, Wishes.utility};
+ghost use Rattle.bundle_rules.specs.Wishes.{utility};
+ghost use Rattle.bundle_rules.specs.{Menus.wishes_of, Wishes.AllRated, Wishes.IsFeasible};
 ghost use Rattle.bundle_bounds.specs.Ahead.{limit_of, first_pruning};
 ghost use Rattle.bundle_bounds.specs.Bounds.{bounds, HasBound, IsFirstPruning, NonePrunes};
 ghost use Rattle.bundle_bounds.specs.{Laws.IsNode, Offers.offer_of, Offers.places_of};
@@ -10,9 +11,10 @@ ghost use Rattle.bundle_bounds.specs.Opens.{is_open};
 use crate::Offer;
 use crate::base::Base;
 use crate::chosen::Chosen;
-use crate::opens::{collect, is_open_at, rests_of};
+use crate::opens::{Picks, collect, is_open_at, rests_of};
 use crate::prospects::{NO_PROSPECTS, Prospects};
-use crate::pruning::{bound_of, first_below};
+use crate::pruning::{bound_of, first_with, plain_sum};
+use crate::tangents::Tangents;
 use bundle_rules::{Bundle, Menu, Places, is_ahead, utility};
 use market_units::{SectionSet, Tokens};
 
@@ -63,7 +65,11 @@ pub fn is_open(
     };
     let places = Places::of(menu, &node.chosen);
     let places = places.as_slice();
-    let rests = rests_of(&offer, places);
+    let picks = Picks {
+        offer: &offer,
+        places,
+    };
+    let rests = rests_of(&picks);
     let chosen = Chosen {
         offer: &offer,
         places,
@@ -103,7 +109,11 @@ pub fn bound(
     };
     let places = Places::of(menu, &node.chosen);
     let places = places.as_slice();
-    let rests = rests_of(&offer, places);
+    let picks = Picks {
+        offer: &offer,
+        places,
+    };
+    let rests = rests_of(&picks);
     let chosen = Chosen {
         offer: &offer,
         places,
@@ -150,7 +160,11 @@ pub fn bound_closes(
     };
     let places = Places::of(menu, &node.chosen);
     let places = places.as_slice();
-    let rests = rests_of(&offer, places);
+    let picks = Picks {
+        offer: &offer,
+        places,
+    };
+    let rests = rests_of(&picks);
     let chosen = Chosen {
         offer: &offer,
         places,
@@ -163,14 +177,16 @@ pub fn bound_closes(
     let list = &room[start..];
     let all = Prospects { list };
     let limit = limit_of(menu, node, places, champion);
-    first_below(base, limit, rests, &all)
+    let plain = plain_sum(&all);
+    let mut tangents = Tangents::none();
+    first_with(base, limit, rests, &all, plain, &mut tangents)
 }
 
 /// A bound below this number prunes the node: 1000 u, u being the champion's utility; or
 /// 1000 (u + 1), where the champion has the first decided place on which it and the chosen ones
 /// differ.
 pub(crate) fn limit_of(menu: &Menu, node: &Node, chosen: &[u8], champion: &Bundle) -> i64
-    requires champion { IsFeasible (wishes_of menu.now) (sections_of champion.now) }
+    requires { AllRated (wishes_of menu.now) (sections_of champion.now) }
     ensures { result
         ≡ limit_of (utility (wishes_of menu.now) (sections_of champion.now))
         (is_ahead node.now.place (places_of menu.now (sections_of champion.now)) chosen.now) }

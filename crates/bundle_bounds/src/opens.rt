@@ -1,8 +1,8 @@
 // Which places are open at a node, and the most that each can add.
 ghost use Rattle.std.specs.Prelude.{◌≡◌, ◌<◌, ◌≤◌, ◌-◌, ◌+◌, ◌*◌, ◌≤ℤ◌, ◌+ℤ◌, neg_ℤ, pos, unsigned_abs, nat_le, ◌&&◌, length, map, drop, All};
 ghost use Rattle.market_units.specs.Totals.{total};
-ghost use Rattle.bundle_rules.specs.Demand.{price_in, HasPrices};
-ghost use Rattle.bundle_rules.specs.Menus.{section_at, credits_at, adjustment_in, IsMenu};
+ghost use Rattle.market_units.specs.declared.limits.TheConstants.{MAX_COURSES};
+ghost use Rattle.bundle_rules.specs.Menus.{credits_at, adjustment_in};
 ghost use Rattle.bundle_bounds.specs.Modest.{IsModest, AreOn};
 ghost use Rattle.bundle_bounds.specs.Offers.{AreOnMenu, allowed_at, price_at};
 ghost use Rattle.bundle_bounds.specs.Opens.{is_apart, opens_from, hopes, prospect, prospects, first_of_course, above_zero};
@@ -14,7 +14,7 @@ use crate::places::{adjustments_with, is_apart, price_of_place};
 use crate::prospects::Prospect;
 use bundle_rules::{Menu, Rated};
 use market_units::{
-    MAX_ADJUSTMENT, MAX_COURSES, MAX_PRICE, MAX_RATING, MAX_RATINGS, MAX_SECTION_CREDITS, Tokens,
+    MAX_ADJUSTMENT, MAX_COURSES, MAX_PRICE, MAX_RATING, MAX_RATINGS, MAX_SECTION_CREDITS,
 };
 
 /// What the chosen places leave of each resource.
@@ -25,47 +25,61 @@ pub(crate) struct Rests {
     pub(crate) courses: u32,
 }
 
-/// What places that are chosen of an offer leave of its budget in tokens, of the credit cap and of
-/// the course cap; 0 where they take more.
-pub(crate) fn rests_of(offer: &Offer, chosen: &[u8]) -> Rests
-    requires on_menu { AreOnMenu offer.now.menu.now chosen.now }
-    requires few { length chosen.now ≤ MAX_COURSES }
-    ensures { AreRests (data_of offer.now) chosen.now result }
+/// Places of an offer's menu, at most 8 of them.
+#[derive(Clone, Copy)]
+pub(crate) struct Picks<'p, 'o> {
+    pub(crate) offer: &'p Offer<'o>,
+    pub(crate) places: &'p [u8],
+    ghost on_menu: { AreOnMenu offer.now.menu.now places.now },
+    ghost few: { length places.now ≤ MAX_COURSES },
+}
+
+/// What places that are chosen leave of the budget in tokens, of the credit cap and of the course
+/// cap; 0 where they take more.
+pub(crate) fn rests_of(picks: &Picks) -> Rests
+    ensures { AreRests (data_of picks.now.offer.now) picks.now.places.now result }
 {
-    let menu = offer.menu;
+    let menu = picks.offer.menu;
+    let budget = picks.offer.budget.0;
     Rests {
-        budget: offer
-            .budget
-            .0
-            .saturating_sub(price_of(menu, offer.prices, chosen)),
-        credits: u32::from(menu.credits()).saturating_sub(credits_of(menu, chosen)),
-        courses: u32::from(menu.courses()).saturating_sub(chosen.len() as u32),
+        budget: budget.saturating_sub(price_of(picks)),
+        credits: u32::from(menu.credits()).saturating_sub(credits_of(picks)),
+        courses: u32::from(menu.courses()).saturating_sub(picks.places.len() as u32),
     }
 }
 
-fn price_of(menu: &Menu, prices: &[Tokens], chosen: &[u8]) -> u32
-    requires prices { HasPrices menu.now prices.now }
-    requires on_menu { AreOnMenu menu.now chosen.now }
-    requires few { length chosen.now ≤ MAX_COURSES }
+fn price_of(picks: &Picks) -> u32
+    ensures value { result ≡ total (price_at (data_of picks.now.offer.now)) picks.now.places.now }
+    ensures high { result ≤ MAX_PRICE * length picks.now.places.now }
+{
+    let offer = picks.offer;
+    match picks.places {
+        [] => 0,
+        [place, more @ ..] => {
+            let later = Picks {
+                offer,
+                places: more,
+            };
+            price_of_place(offer.menu, offer.prices, *place) + price_of(&later)
+        }
+    }
+}
+
+fn credits_of(picks: &Picks) -> u32
     ensures value { result
-        ≡ total (λ place. price_in prices.now (section_at menu.now.places place)) chosen.now }
-    ensures high { result ≤ MAX_PRICE * length chosen.now }
+        ≡ total (credits_at picks.now.offer.now.menu.now.places) picks.now.places.now }
+    ensures high { result ≤ MAX_SECTION_CREDITS * length picks.now.places.now }
 {
-    match chosen {
+    let offer = picks.offer;
+    match picks.places {
         [] => 0,
-        [place, more @ ..] => price_of_place(menu, prices, *place) + price_of(menu, prices, more),
-    }
-}
-
-fn credits_of(menu: &Menu, chosen: &[u8]) -> u32
-    requires on_menu { AreOnMenu menu.now chosen.now }
-    requires few { length chosen.now ≤ MAX_COURSES }
-    ensures value { result ≡ total (credits_at menu.now.places) chosen.now }
-    ensures high { result ≤ MAX_SECTION_CREDITS * length chosen.now }
-{
-    match chosen {
-        [] => 0,
-        [place, more @ ..] => u32::from(menu.rated(*place).credits) + credits_of(menu, more),
+        [place, more @ ..] => {
+            let later = Picks {
+                offer,
+                places: more,
+            };
+            u32::from(offer.menu.rated(*place).credits) + credits_of(&later)
+        }
     }
 }
 
@@ -145,8 +159,7 @@ pub(crate) fn worth_of(rating: u8, adjustments: i32, hopes: u32) -> u32
 
 // The first place of a course on the menu.
 fn course_of(menu: &Menu, course: u16) -> u8
-    ensures value { result ≡ first_of_course menu.now.places course }
-    ensures menu { IsMenu menu.now }
+    ensures { result ≡ first_of_course menu.now.places course }
 {
     first_of_course(menu.places(), course) as u8
 }
@@ -163,6 +176,7 @@ fn prospect_at(chosen: &Chosen, place: u8, later: &[Prospect]) -> Prospect
     ensures place { result.place < length chosen.now.offer.now.menu.now.places }
 {
     let menu = chosen.offer.menu;
+    prove!(place < menu.len());
     let rated = menu.rated(place);
     let adjustments = adjustments_with(menu, chosen.places, place);
     let later_ones = hopes(menu, place, later);

@@ -1,12 +1,12 @@
 // What is known of open places, and what one of each course can add at most.
-ghost use Rattle.std.specs.Prelude.{◌≡◌, ◌≤◌, ◌*◌, ◌+◌, ◌-◌, ◌==◌, if◌then◌else◌, max, false, IsTrue, length, All};
+ghost use Rattle.std.specs.Prelude.{◌≡◌, ◌≤◌, ◌<◌, ◌^◌, ◌*◌, ◌+◌, ◌-◌, ◌==◌, if◌then◌else◌, max, false, IsTrue, length, All};
 ghost use Rattle.market_units.specs.declared.limits.TheConstants.{MAX_RATINGS};
 ghost use Rattle.bundle_bounds.specs.Bounds.{over_price, at_price};
 ghost use Rattle.bundle_bounds.specs.Courses.{takes_of, has_course, greatest, by_course};
 ghost use Rattle.bundle_bounds.specs.{Modest.IsModest, Peaks.IsPeak};
 
 use crate::words::{is_in, with};
-use market_units::{MAX_PRICE, MAX_RATINGS};
+use market_units::MAX_RATINGS;
 
 /// What a bundle takes of: the budget, the credits, the number of sections.
 #[derive(Clone, Copy, Debug, PartialEq, Eq)]
@@ -14,6 +14,14 @@ pub(crate) enum Resource {
     Money,
     Credits,
     Count,
+}
+
+/// A resource at a price, in millionths of a point of utility for what is taken of it.
+#[derive(Clone, Copy)]
+pub(crate) struct Rate {
+    pub(crate) resource: Resource,
+    pub(crate) price: u64,
+    ghost high: { price ≤ 20000000 },
 }
 
 /// An open place: the first place of its course, by which courses are told apart, the most that it
@@ -46,26 +54,14 @@ pub(crate) const NO_PROSPECTS: [Prospect; MAX_RATINGS] = [Prospect {
 
 /// How much the place takes of a resource: its price in tokens, its credits, or 1 section.
 pub(crate) fn takes(prospect: &Prospect, resource: Resource) -> u64
-    requires { IsModest prospect.now }
     ensures value { result ≡ takes_of resource prospect.now }
-    ensures high { result ≤ MAX_PRICE }
+    ensures high { result < 2 ^ 32 }
 {
     match resource {
         Resource::Money => u64::from(prospect.price),
         Resource::Credits => u64::from(prospect.credits),
         Resource::Count => 1,
     }
-}
-
-/// 1000 times the worth of a place, less this price times what the place takes of the resource; 0
-/// where that is negative.
-pub(crate) fn over_price(prospect: &Prospect, resource: Resource, price: u64) -> u64
-    requires modest { IsModest prospect.now }
-    requires price { price ≤ 20000001 }
-    ensures value { result ≡ over_price resource price prospect.now }
-    ensures high { result ≤ 20000000 }
-{
-    (1000 * u64::from(prospect.worth)).saturating_sub(price * takes(prospect, resource))
 }
 
 /// What is left over a price by a prospect, or at most by those of its course; and what is left over
@@ -77,60 +73,53 @@ pub(crate) struct Peak {
     pub(crate) after: u64,
 }
 
-/// What is left over the price by a prospect.
+/// What is left of 1000 times a prospect's worth over the price of what it takes of the resource.
 #[inline(always)]
-pub(crate) fn peak_of(prospect: &Prospect, resource: Resource, price: u64) -> Peak
+pub(crate) fn peak_of(prospect: &Prospect, rate: Rate) -> Peak
     requires modest { IsModest prospect.now }
-    requires price { price ≤ 20000000 }
     ensures course { result.course ≡ prospect.now.course }
-    ensures here { result.here ≡ over_price resource price prospect.now }
-    ensures after { result.after ≡ over_price resource (price + 1) prospect.now }
+    ensures here { result.here ≡ over_price rate.resource rate.price prospect.now }
+    ensures after { result.after ≡ over_price rate.resource (rate.price + 1) prospect.now }
     ensures high { result.here ≤ 20000000 }
     ensures after_high { result.after ≤ 20000000 }
 {
-    let here = over_price(prospect, resource, price);
+    let taken = takes(prospect, rate.resource);
+    let here = (1000 * u64::from(prospect.worth)).saturating_sub(rate.price * taken);
     Peak {
         course: prospect.course,
         here,
-        after: here.saturating_sub(takes(prospect, resource)),
+        after: here.saturating_sub(taken),
     }
 }
 
 /// The price times what is left of the resource, and for each course the greatest `over_price` of
 /// its open places, added up.
 #[inline(always)]
-pub(crate) fn at_price(all: &Prospects, resource: Resource, rest: u32, price: u64) -> u64
-    requires price { price ≤ 20000000 }
-    ensures value { result ≡ at_price resource rest price all.now.list.now }
+pub(crate) fn at_price(all: &Prospects, rate: Rate, rest: u32) -> u64
+    ensures value { result ≡ at_price rate.resource rest rate.price all.now.list.now }
     ensures high { result ≤ 20000000 * rest + 20000000 * MAX_RATINGS }
 {
-    at_two_prices(all, resource, rest, price).0
+    at_two_prices(all, rate, rest).0
 }
 
 /// What `at_price` gives at this price, and what it gives at the price that is greater by 1.
 #[inline(always)]
-pub(crate) fn at_two_prices(
-    all: &Prospects,
-    resource: Resource,
-    rest: u32,
-    price: u64,
-) -> (u64, u64)
-    requires price { price ≤ 20000000 }
-    ensures here { result.0 ≡ at_price resource rest price all.now.list.now }
-    ensures after { result.1 ≡ at_price resource rest (price + 1) all.now.list.now }
+pub(crate) fn at_two_prices(all: &Prospects, rate: Rate, rest: u32) -> (u64, u64)
+    ensures here { result.0 ≡ at_price rate.resource rest rate.price all.now.list.now }
+    ensures after { result.1 ≡ at_price rate.resource rest (rate.price + 1) all.now.list.now }
     ensures high { result.0 ≤ 20000000 * rest + 20000000 * MAX_RATINGS }
 {
-    let (here, after) = add_up_twice(all, resource, price);
+    let (here, after) = add_up_twice(all, rate);
     let rest = u64::from(rest);
-    (price * rest + here, (price + 1) * rest + after)
+    (rate.price * rest + here, (rate.price + 1) * rest + after)
 }
 
 // For each course the most that is left over the price, added up; and the same at the next price.
 #[inline(always)]
-fn add_up_twice(all: &Prospects, resource: Resource, price: u64) -> (u64, u64)
-    requires price { price ≤ 20000000 }
-    ensures here { result.0 ≡ by_course (over_price resource price) all.now.list.now }
-    ensures after { result.1 ≡ by_course (over_price resource (price + 1)) all.now.list.now }
+fn add_up_twice(all: &Prospects, rate: Rate) -> (u64, u64)
+    ensures here { result.0 ≡ by_course (over_price rate.resource rate.price) all.now.list.now }
+    ensures after { result.1
+        ≡ by_course (over_price rate.resource (rate.price + 1)) all.now.list.now }
     ensures high { result.0 ≤ 20000000 * length all.now.list.now }
     ensures after_high { result.1 ≤ 20000000 * length all.now.list.now }
 {
@@ -147,8 +136,8 @@ fn add_up_twice(all: &Prospects, resource: Resource, price: u64) -> (u64, u64)
         let prospect = &list[index];
         let more = &list[index + 1..];
         let is_new = !is_in(courses, prospect.course);
-        let most = peak_behind(more, resource, price, prospect.course, is_new, last);
-        let own = peak_of(prospect, resource, price);
+        let most = peak_behind(more, rate, prospect.course, is_new, last);
+        let own = peak_of(prospect, rate);
         sum += own.here.saturating_sub(most.here);
         next += own.after.saturating_sub(most.after);
         last = higher(own, most);
@@ -160,20 +149,12 @@ fn add_up_twice(all: &Prospects, resource: Resource, price: u64) -> (u64, u64)
 // The peak of a course among those behind a prospect, where that of the first one's course is at
 // hand. Of a new course there are none. Sections of one course mostly stand side by side.
 #[inline(always)]
-fn peak_behind(
-    more: &[Prospect],
-    resource: Resource,
-    price: u64,
-    course: u8,
-    is_new: bool,
-    last: Peak,
-) -> Peak
-    requires modest { All IsModest more.now }
-    requires price { price ≤ 20000000 }
+fn peak_behind(more: &[Prospect], rate: Rate, course: u8, is_new: bool, last: Peak) -> Peak
+    requires behind { All IsModest more.now }
     requires none { IsTrue is_new → has_course more.now course ≡ false }
-    requires last { IsPeak resource price more.now last }
+    requires last { IsPeak rate.resource rate.price more.now last }
     ensures course { result.course ≡ course }
-    ensures peak { IsPeak resource price more.now result }
+    ensures peak { IsPeak rate.resource rate.price more.now result }
 {
     if course == last.course {
         return last;
@@ -185,11 +166,7 @@ fn peak_behind(
             after: 0,
         };
     }
-    Peak {
-        course,
-        here: greatest_of(more, resource, price, course),
-        after: greatest_of(more, resource, price + 1, course),
-    }
+    peak_among(more, rate, course)
 }
 
 // The higher one of two peaks of one course, at each of the two prices.
@@ -206,57 +183,43 @@ fn higher(own: Peak, most: Peak) -> Peak
     }
 }
 
-/// How much a prospect in front of others adds to the sum of each course's greatest `over_price`:
-/// what it has more than the greatest of its course behind it, or 0; and the same at the next price.
-#[inline(always)]
-pub(crate) fn added_twice(
-    prospect: &Prospect,
-    more: &[Prospect],
-    resource: Resource,
-    price: u64,
-) -> (u64, u64)
-    requires one_modest { IsModest prospect.now }
-    requires modest { All IsModest more.now }
-    requires price { price ≤ 20000000 }
-    ensures here { result.0
-        ≡ over_price resource price prospect.now
-        - greatest (over_price resource price) prospect.now.course more.now }
-    ensures after { result.1
-        ≡ over_price resource (price + 1) prospect.now
-        - greatest (over_price resource (price + 1)) prospect.now.course more.now }
+/// The peak of a course among these.
+pub(crate) fn peak_among(prospects: &[Prospect], rate: Rate, course: u8) -> Peak
+    requires { All IsModest prospects.now }
+    ensures course { result.course ≡ course }
+    ensures peak { IsPeak rate.resource rate.price prospects.now result }
 {
-    let own = peak_of(prospect, resource, price);
-    let most = greatest_of(more, resource, price, prospect.course);
-    let most_after = greatest_of(more, resource, price + 1, prospect.course);
-    (
-        own.here.saturating_sub(most),
-        own.after.saturating_sub(most_after),
-    )
-}
-
-// The most that is left over the price by one of a course.
-fn greatest_of(prospects: &[Prospect], resource: Resource, price: u64, course: u8) -> u64
-    requires modest { All IsModest prospects.now }
-    requires price { price ≤ 20000001 }
-    ensures { result ≡ greatest (over_price resource price) course prospects.now }
-{
-    let mut most = 0;
+    let mut here = 0;
+    let mut after = 0;
     for prospect in prospects {
-        most = most.max(value_in(prospect, resource, price, course));
+        let own = peak_in(prospect, rate, course);
+        here = here.max(own.here);
+        after = after.max(own.after);
     }
-    most
+    Peak {
+        course,
+        here,
+        after,
+    }
 }
 
-// What is left over the price by a prospect of the course, 0 by one of another.
-fn value_in(prospect: &Prospect, resource: Resource, price: u64, course: u8) -> u64
-    requires modest { IsModest prospect.now }
-    requires price { price ≤ 20000001 }
-    ensures { result
-        ≡ (if prospect.now.course == course then over_price resource price prospect.now else 0) }
+// What is left over the price by a prospect of the course; nothing by one of another.
+fn peak_in(prospect: &Prospect, rate: Rate, course: u8) -> Peak
+    requires { IsModest prospect.now }
+    ensures here { result.here
+        ≡ (if prospect.now.course == course then over_price rate.resource rate.price prospect.now
+        else 0) }
+    ensures after { result.after
+        ≡ (if prospect.now.course == course
+        then over_price rate.resource (rate.price + 1) prospect.now else 0) }
 {
     if prospect.course == course {
-        over_price(prospect, resource, price)
+        peak_of(prospect, rate)
     } else {
-        0
+        Peak {
+            course,
+            here: 0,
+            after: 0,
+        }
     }
 }

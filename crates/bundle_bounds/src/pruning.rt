@@ -11,7 +11,7 @@ use crate::Leaf;
 use crate::base::Base;
 use crate::known::Known;
 use crate::opens::Rests;
-use crate::prospects::{Prospect, Prospects, Resource, at_price, at_two_prices, takes};
+use crate::prospects::{Prospect, Prospects, Rate, Resource, at_price, at_two_prices, takes};
 use crate::tangents::{Tangent, Tangents};
 
 // The leaf of a resource by a place.
@@ -74,7 +74,11 @@ fn is_below(
         return false;
     }
     let price = worth / taken;
-    let (sum, next) = at_two_prices(all, left.resource, left.rest, price);
+    let rate = Rate {
+        resource: left.resource,
+        price,
+    };
+    let (sum, next) = at_two_prices(all, rate, left.rest);
     let bound = base.number + sum as i64;
     if bound < limit {
         return true;
@@ -162,20 +166,8 @@ pub(crate) fn is_plain_below(base: Base, limit: i64, plain: u64) -> bool
 }
 
 /// The leaf of the first bound below the limit, of all bounds in their order; `None` where none is.
-pub(crate) fn first_below(base: Base, limit: i64, rests: Rests, all: &Prospects) -> Option<Leaf>
-    ensures first { IfSome result
-        (IsFirstBelow limit
-        (all_bounds base.number rests.budget rests.credits rests.courses all.now.list.now)) }
-    ensures none { IfNone result
-        (NoneBelow limit
-        (all_bounds base.number rests.budget rests.credits rests.courses all.now.list.now)) }
-{
-    let mut tangents = Tangents::none();
-    first_with(base, limit, rests, all, plain_sum(all), &mut tangents)
-}
-
-/// The same as `first_below`, where the sum of the plain bound and some tangents are at hand.
-/// Tangents that are computed on the way are kept.
+/// The sum of the plain bound is at hand, and some tangents may be; those that are computed on the
+/// way are kept.
 #[inline(always)]
 pub(crate) fn first_with(
     base: Base,
@@ -201,42 +193,10 @@ pub(crate) fn first_with(
     if is_plain_below(base, limit, plain) {
         return Some(Leaf::Plain);
     }
-    let left = Left {
+    let money = Left {
         resource: Resource::Money,
         rest: rests.budget,
     };
-    match first_of_resource(base, limit, left, all, &mut tangents.money) {
-        Some(leaf) => Some(leaf),
-        None => first_after_money(base, limit, rests, all, tangents),
-    }
-}
-
-// The same of the bounds of the credits and of the number of sections.
-#[inline(always)]
-fn first_after_money(
-    base: Base,
-    limit: i64,
-    rests: Rests,
-    all: &Prospects,
-    tangents: &mut Tangents,
-) -> Option<Leaf>
-    requires tangents { AreTangents rests.budget rests.credits rests.courses all.now.list.now
-        tangents.old }
-    ensures first { IfSome result
-        (IsFirstBelow limit
-        (resource_bounds base.number rests.credits Resource.Credits all.now.list.now
-        all.now.list.now
-        ++ resource_bounds base.number rests.courses Resource.Count all.now.list.now
-        all.now.list.now)) }
-    ensures none { IfNone result
-        (NoneBelow limit
-        (resource_bounds base.number rests.credits Resource.Credits all.now.list.now
-        all.now.list.now
-        ++ resource_bounds base.number rests.courses Resource.Count all.now.list.now
-        all.now.list.now)) }
-    ensures tangents { AreTangents rests.budget rests.credits rests.courses all.now.list.now
-        tangents.new }
-{
     let credits = Left {
         resource: Resource::Credits,
         rest: rests.credits,
@@ -245,23 +205,29 @@ fn first_after_money(
         resource: Resource::Count,
         rest: rests.courses,
     };
-    match first_of_resource(base, limit, credits, all, &mut tangents.credits) {
+    match first_of_resource(base, limit, money, all, &mut tangents.money) {
         Some(leaf) => Some(leaf),
-        None => first_of_resource(base, limit, courses, all, &mut tangents.courses),
+        None => match first_of_resource(base, limit, credits, all, &mut tangents.credits) {
+            Some(leaf) => Some(leaf),
+            None => first_of_resource(base, limit, courses, all, &mut tangents.courses),
+        },
     }
 }
 
-// Of each course the greatest worth, a thousandfold, added up.
-fn plain_sum(all: &Prospects) -> u64
+/// Of each course the greatest worth, a thousandfold, added up.
+pub(crate) fn plain_sum(all: &Prospects) -> u64
     ensures value { result ≡ by_course (λ p. 1000 * p.worth) all.now.list.now }
     ensures high { result ≤ 1200000000 }
 {
-    at_price(all, Resource::Count, 0, 0)
+    let free = Rate {
+        resource: Resource::Count,
+        price: 0,
+    };
+    at_price(all, free, 0)
 }
 
 // Whether a prospect is at this place and has a bound.
 fn has_bound_at(prospect: &Prospect, resource: Resource, place: u8) -> bool
-    requires { IsModest prospect.now }
     ensures { result
         ≡ (prospect.now.place == place
         && (nat_lt 0 prospect.now.worth && nat_lt 0 (takes_of resource prospect.now))) }
@@ -289,7 +255,8 @@ fn resource_bound(
             if has_bound_at(prospect, resource, place) {
                 let taken = takes(prospect, resource);
                 let price = 1000 * u64::from(prospect.worth) / taken;
-                return base.number + at_price(all, resource, rest, price) as i64;
+                let rate = Rate { resource, price };
+                return base.number + at_price(all, rate, rest) as i64;
             }
             resource_bound(base, rest, resource, all, more, place)
         }

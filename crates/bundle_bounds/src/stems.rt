@@ -11,11 +11,11 @@ use crate::base::Base;
 use crate::chosen::Chosen;
 use crate::leaving::leave;
 use crate::nodes::{Leaf, Node};
-use crate::opens::{Rests, collect, rests_of};
+use crate::opens::{Picks, Rests, collect, rests_of};
 use crate::places::adjustments_with;
-use crate::prospects::{NO_PROSPECTS, Prospect, Prospects, Resource, at_price};
-use crate::pruning::{first_with, is_plain_below};
-use crate::sifting::{rests_after, sift};
+use crate::prospects::{NO_PROSPECTS, Prospect, Prospects};
+use crate::pruning::{first_with, is_plain_below, plain_sum};
+use crate::sifting::{Widened, rests_after, sift};
 use crate::tangents::Tangents;
 use bundle_rules::{Bundle, Places, is_ahead, utility};
 use market_units::{MAX_COURSES, MAX_RATINGS};
@@ -57,7 +57,8 @@ impl Stem {
             (sections_of champion.now) 0 [] result }
     {
         let places = &[];
-        let rests = rests_of(offer, places);
+        let picks = Picks { offer, places };
+        let rests = rests_of(&picks);
         let chosen = Chosen {
             offer,
             places,
@@ -67,7 +68,7 @@ impl Stem {
         let start = collect(&chosen, 0, &mut room);
         let list = &room[start..];
         let all = Prospects { list };
-        let plain = at_price(&all, Resource::Count, 0, 0);
+        let plain = plain_sum(&all);
         let most = utility(offer.menu, champion);
         Stem {
             champion: Places::of(offer.menu, champion),
@@ -202,10 +203,14 @@ impl Stem {
         };
         let later = &self.room[self.start + 1..];
         let later = Prospects { list: later };
-        let start = sift(&chosen, node.place, &later, &mut below.room);
+        let wider = Widened {
+            chosen,
+            last: node.place,
+        };
+        let start = sift(&wider, &later, &mut below.room);
         let list = &below.room[start..];
         let all = Prospects { list };
-        let plain = at_price(&all, Resource::Count, 0, 0);
+        let plain = plain_sum(&all);
         let champions = self.champion.as_slice();
         let limit = limit_after(self.most, champions, taken, node.place);
         below.champion = self.champion;

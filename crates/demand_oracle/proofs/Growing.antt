@@ -27,19 +27,25 @@ use Rattle.bundle_bounds.proofs.Openings.{has-last, ascending-last}
 pub record AreSmallParts (u adjustments : ℤ) (n rating : ℕ) : Type 0 where
   pub low : neg_ℤ (pos (1700 * n)) ≤ℤ u
   pub high : u ≤ℤ pos (1700 * n)
-  pub room : n < 8
+  pub few : n ≤ 8
   pub rating_high : rating ≤ 100
   pub adjustments_low : neg_ℤ (pos (200 * n)) ≤ℤ adjustments
   pub adjustments_high : adjustments ≤ℤ pos (200 * n)
 
+-- as many places as sections
+pub few_listed : (m : MenuData) (summed : SummedNode) (cs : List ℕ) → cs ≡ places_of m (chosen_of summed) → length cs ≤ 8
+    → length (chosen_of summed) ≤ 8
+few_listed m summed cs are few =
+    let size : length cs ≡ length (chosen_of summed) = ap length are ∙ length-map (chosen_of summed) (place_in m.places) in omega arith
+
 pub small_parts : (m : MenuData) (price : ℕ → ℕ) (summed : SummedNode) → IsSummed m price summed → (cs : List ℕ) (adjustments : ℤ) (rating : ℕ)
-    → cs ≡ places_of m (chosen_of summed) → length (chosen_of summed) < 8 → rating ≤ 100 → neg_ℤ (pos (200 * length cs)) ≤ℤ adjustments
+    → cs ≡ places_of m (chosen_of summed) → length (chosen_of summed) ≤ 8 → rating ≤ 100 → neg_ℤ (pos (200 * length cs)) ≤ℤ adjustments
     → adjustments ≤ℤ pos (200 * length cs) → AreSmallParts summed.utility adjustments (length (chosen_of summed)) rating
-small_parts m price summed is cs adjustments rating are room rating_high low high =
+small_parts m price summed is cs adjustments rating are few rating_high low high =
     let size : length cs ≡ length (chosen_of summed) = ap length are ∙ length-map (chosen_of summed) (place_in m.places) in record {
       low = is.small.utility_low;
       high = is.small.utility_high;
-      room = room;
+      few = few;
       rating_high = rating_high;
       adjustments_low = rw size at low;
       adjustments_high = rw size at high;
@@ -52,7 +58,7 @@ pub parts_sum : (u adjustments read : ℤ) (n rating : ℕ) → AreSmallParts u 
 parts_sum u adjustments read n rating parts is =
     let low = parts.low in
     let high = parts.high in
-    let room = parts.room in
+    let few = parts.few in
     let rating_high = parts.rating_high in
     let adjustments_low = parts.adjustments_low in
     let adjustments_high = parts.adjustments_high in
@@ -63,7 +69,7 @@ pub parts_low : (u adjustments : ℤ) (n rating : ℕ) → AreSmallParts u adjus
     → neg_ℤ (pos (1700 * (n + 1))) ≤ℤ ((u +ℤ pos rating) +ℤ adjustments)
 parts_low u adjustments n rating parts =
     let low = parts.low in
-    let room = parts.room in
+    let few = parts.few in
     let adjustments_low = parts.adjustments_low in
     omega (arith, ints)
 
@@ -71,7 +77,7 @@ pub parts_high : (u adjustments : ℤ) (n rating : ℕ) → AreSmallParts u adju
     → ((u +ℤ pos rating) +ℤ adjustments) ≤ℤ pos (1700 * (n + 1))
 parts_high u adjustments n rating parts =
     let high = parts.high in
-    let room = parts.room in
+    let few = parts.few in
     let rating_high = parts.rating_high in
     let adjustments_high = parts.adjustments_high in
     omega (arith, ints)
@@ -154,14 +160,14 @@ module _ (m : MenuData) (menu : IsMenu m) (price : ℕ → ℕ) (summed : Summed
       omega (arith, ints)
 
   -- the node with one more section
-  pub next_summed : (bundle : Bundle) (ps : List ℕ) (paid credits : ℕ) (utility_ : ℤ) → sections_of bundle ≡ with_place_of m summed place
+  pub next_summed : (bundle : Bundle) (ps : List ℕ) (wide : length ps ≡ 8) (paid credits : ℕ) (utility_ : ℤ) → sections_of bundle ≡ with_place_of m summed place
       → take (length (with_place_of m summed place)) ps ≡ places_of m (with_place_of m summed place)
       → paid ≡ total price (with_place_of m summed place) → credits ≡ total (wishes_of m).credits (with_place_of m summed place)
       → utility_ ≡ utility (wishes_of m) (with_place_of m summed place)
       → AreSmallSums (length (with_place_of m summed place)) paid credits utility_
       → IsSummed m price
-      (record { node = record { place = place + 1; chosen = bundle }; places = ps; paid = paid; credits = credits; utility = utility_ })
-  next_summed bundle ps paid credits utility_ same places paid_is credits_are utility_is small = record {
+      (record { node = record { place = place + 1; chosen = bundle }; places = ps; paid = paid; credits = credits; utility = utility_; wide = wide })
+  next_summed bundle ps wide paid credits utility_ same places paid_is credits_are utility_is small = record {
     rated = subst (AllRated (wishes_of m)) (sym same) rated_next;
     decided = subst (λ l. (s : ℕ) → has l s ≡ true → place_in m.places s < place + 1) (sym same) decided_next;
     places = subst (λ l. take (length l) ps ≡ places_of m l) (sym same) places;

@@ -1,11 +1,11 @@
 // The search below a node: place by place, with a call of itself for each section that is taken.
-ghost use Rattle.std.specs.Prelude.{◌≡◌, ◌<◌, ◌≤◌, ◌+◌, ◌-◌, ◌⊎◌, ◌↔◌, ℕ, List, Some, IfSome, IsTrue, length, drop};
+ghost use Rattle.std.specs.Prelude.{◌≡◌, ◌<◌, ◌≤◌, ◌+◌, ◌-◌, ◌⊎◌, ◌↔◌, ℕ, List, Some, IfSome, IsTrue, length, slice_index, drop};
 ghost use Rattle.market_units.specs.declared.limits.TheConstants.{MAX_RATINGS};
 ghost use Rattle.bundle_rules.specs.{Bundles.sections_of, Menus.wishes_of, Menus.credits_at};
 ghost use Rattle.bundle_rules.specs.{Places.menu_sections, Wishes.IsFeasible};
-ghost use Rattle.bundle_bounds.specs.{Laws.IsTakable, Laws.IsNode, Offers.price_at};
+ghost use Rattle.bundle_bounds.specs.{Laws.IsNode, Offers.price_at};
 ghost use Rattle.bundle_bounds.specs.Prunings.{MayPrune};
-ghost use Rattle.demand_oracle.specs.{Champions.IsChampion, Columns.IsColumnAt};
+ghost use Rattle.demand_oracle.specs.{Champions.IsChampion, Columns.IsColumnFor};
 ghost use Rattle.demand_oracle.specs.OpenWords.{IsOpenWord};
 ghost use Rattle.demand_oracle.specs.Questions.{IsQuestion, offer_asked, wanted_in};
 ghost use Rattle.demand_oracle.specs.Search.{wanted_by, IsBetter, IsSearched};
@@ -13,12 +13,13 @@ ghost use Rattle.demand_oracle.specs.SummedNodes.{chosen_of, with_place_of, IsSu
 
 use crate::question::Question;
 use crate::reach::{Column, is_below, lacking};
+use crate::step::Step;
 use crate::summed_node::SummedNode;
 use bundle_rules::{Bundle, Menu, prefers};
 
 /// Searches what completes a node, and leaves the best of that and of the champion. The word has a
 /// bit for each undecided place that may be taken alone and clashes with no chosen one. How many
-/// times it was looked up what can be reached is told.
+/// nodes were opened is told: the look-ups of `falls_short` are not counted.
 pub(crate) fn below(
     question: &Question,
     summed: &SummedNode,
@@ -63,7 +64,12 @@ pub(crate) fn below(
         if falls_short(question, summed, place, apart, champion) {
             continue;
         }
-        let with_it = summed.with_place(question.offer, place);
+        let step = Step {
+            offer: question.offer,
+            summed,
+            place,
+        };
+        let with_it = step.with_place();
         opened = opened.saturating_add(below(question, &with_it, apart, champion));
         if is_given(question.given, place) {
             return opened;
@@ -129,7 +135,12 @@ fn falls_short(
     let next = apart.trailing_zeros() as u8;
     let column = column_with(question, summed, place);
     let added = reach.added(&column, next);
-    let utility = summed.utility_with(question.offer.menu, place);
+    let step = Step {
+        offer: question.offer,
+        summed,
+        place,
+    };
+    let utility = step.utility_with();
     // Adjustments can only add, so they are looked up where the rest is too little.
     if !is_below(added, lacking(champion.utility(), utility, 0)) {
         return false;
@@ -141,14 +152,13 @@ fn falls_short(
 // What is looked up where the section of a place is chosen too.
 #[inline(always)]
 fn column_with(question: &Question, summed: &SummedNode, place: u8) -> Column
-    requires question { IsQuestion question.now }
-    requires summed { IsSummedOf (offer_asked question.now) summed.now }
-    requires undecided { summed.now.node.place ≤ place }
-    requires on_menu { place < length (offer_asked question.now).menu.places }
-    requires takable { IsTakable (offer_asked question.now)
-        (with_place_of (offer_asked question.now).menu summed.now place) }
-    ensures { IsColumnAt (offer_asked question.now) question.now.reach.now
-        (with_place_of (offer_asked question.now).menu summed.now place) result }
+    requires { place < MAX_RATINGS }
+    ensures { IsColumnFor question.now.reach.now
+        ((offer_asked question.now).menu.courses - length (chosen_of summed.now) - 1)
+        ((offer_asked question.now).budget - summed.now.paid
+        - slice_index question.now.goods.now.prices place)
+        ((offer_asked question.now).menu.credits - summed.now.credits
+        - slice_index question.now.goods.now.credits place) result }
 {
     let at = usize::from(place);
     let budget_left = summed.budget_left(question.offer.budget);

@@ -1,9 +1,9 @@
 // A choice of places to begin a search with, made by what each place adds for what it takes. Any
 // choice is right: a good one only makes the search short.
 ghost use Rattle.std.specs.Prelude.{◌≡◌, ◌<◌, length, IfSome};
-ghost use Rattle.bundle_rules.specs.Menus.{IsMenu};
 
 use crate::multipliers::Multipliers;
+use crate::spot::Spot;
 use crate::tables::{MILLION, PLACES};
 use bundle_bounds::{Offer, price_of_place};
 use market_units::MAX_RATINGS;
@@ -32,7 +32,7 @@ impl Draft {
             let Some(place) = draft.best(offer) else {
                 return draft;
             };
-            draft.choose(offer, place);
+            draft.choose(&Spot { offer, place });
         }
         draft
     }
@@ -48,7 +48,7 @@ impl Draft {
             worth: [0; PLACES],
         };
         for place in 0..menu.len() {
-            draft.worth[usize::from(place)] = worth_of(offer, multipliers, place);
+            draft.worth[usize::from(place)] = worth_of(&Spot { offer, place }, multipliers);
             draft.shut |= u64::from(!offer.allowed.has(menu.rated(place).section)) << place;
         }
         draft
@@ -69,7 +69,7 @@ impl Draft {
         let mut best = menu.len();
         let mut most = i64::MIN;
         for place in 0..menu.len() {
-            let worth = self.worth_if_it_fits(offer, place);
+            let worth = self.worth_if_it_fits(&Spot { offer, place });
             if worth > most {
                 most = worth;
                 best = place;
@@ -79,15 +79,14 @@ impl Draft {
     }
 
     // What a place adds, or the least number where it does not fit.
-    fn worth_if_it_fits(&self, offer: &Offer, place: u8) -> i64
-        requires place { place < length offer.now.menu.now.places }
-        requires menu { IsMenu offer.now.menu.now }
-    {
-        let menu = offer.menu;
+    fn worth_if_it_fits(&self, spot: &Spot) -> i64 {
+        let menu = spot.offer.menu;
+        let place = spot.place;
+        prove!(place < menu.len());
         if (self.shut >> place) & 1 == 1 {
             return i64::MIN;
         }
-        if price_of_place(menu, offer.prices, place) > self.budget {
+        if price_of_place(menu, spot.offer.prices, place) > self.budget {
             return i64::MIN;
         }
         if u32::from(menu.rated(place).credits) > self.credits {
@@ -97,16 +96,15 @@ impl Draft {
     }
 
     // Chooses one more place.
-    fn choose(&mut self, offer: &Offer, place: u8)
-        requires place { place < length offer.now.menu.now.places }
-    {
-        let menu = offer.menu;
+    fn choose(&mut self, spot: &Spot) {
+        let menu = spot.offer.menu;
+        let place = spot.place;
         prove!(place < menu.len());
         self.chosen |= 1 << place;
         self.shut |= 1 << place;
         self.budget = self
             .budget
-            .saturating_sub(price_of_place(menu, offer.prices, place));
+            .saturating_sub(price_of_place(menu, spot.offer.prices, place));
         self.credits = self
             .credits
             .saturating_sub(u32::from(menu.rated(place).credits));
@@ -119,13 +117,11 @@ impl Draft {
 }
 
 // A million times the rating of a place, less what its price and its credits are counted for.
-fn worth_of(offer: &Offer, multipliers: Multipliers, place: u8) -> i64
-    requires place { place < length offer.now.menu.now.places }
-    requires menu { IsMenu offer.now.menu.now }
-{
-    let menu = offer.menu;
-    let rated = menu.rated(place);
-    let price = multipliers.money * u64::from(price_of_place(menu, offer.prices, place));
+fn worth_of(spot: &Spot, multipliers: Multipliers) -> i64 {
+    let menu = spot.offer.menu;
+    let rated = menu.rated(spot.place);
+    let cost = price_of_place(menu, spot.offer.prices, spot.place);
+    let price = multipliers.money * u64::from(cost);
     let credits = multipliers.credits * u64::from(rated.credits);
     let worth = MILLION as i64 * i64::from(rated.rating);
     worth.wrapping_sub((price + credits) as i64)

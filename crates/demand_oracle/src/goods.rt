@@ -7,8 +7,9 @@ ghost use Rattle.bundle_rules.specs.Menus.{credits_at, section_at, IsMenu};
 ghost use Rattle.bundle_bounds.specs.Views.{data_of};
 ghost use Rattle.demand_oracle.specs.OpenWords.{IsWordOf, Clashes, IsAlone};
 
+use crate::step::Step;
 use crate::summed_node::SummedNode;
-use crate::tables::PLACES;
+use crate::tables::{MOST_PLACES, PLACES};
 use bundle_bounds::{Offer, price_of_place};
 use bundle_rules::Menu;
 
@@ -34,6 +35,7 @@ impl Goods {
         ensures menu { IsMenu offer.now.menu.now }
     {
         let menu = offer.menu;
+        prove!(menu.len() <= MOST_PLACES);
         let alone = alone(offer);
         Goods {
             prices: prices_of(offer),
@@ -101,14 +103,18 @@ fn clashing(menu: &Menu, alone: u64, place: u8) -> u64
 
 // The word of the places whose sections may be taken alone.
 fn alone(offer: &Offer) -> u64
-    ensures word { IsWordOf (IsAlone (data_of offer.now))
+    ensures { IsWordOf (IsAlone (data_of offer.now))
         (length offer.now.menu.now.places) result }
-    ensures menu { IsMenu offer.now.menu.now }
 {
     let root = SummedNode::root();
     let mut word = 0;
     for place in 0..offer.menu.len() {
-        let is_takable = root.may_take(offer, place);
+        let step = Step {
+            offer,
+            summed: &root,
+            place,
+        };
+        let is_takable = step.may_take();
         word = with_bit(word, place, is_takable);
     }
     word

@@ -15,6 +15,8 @@ mod oracle;
 mod places;
 mod question;
 mod reach;
+mod spot;
+mod step;
 mod summed_node;
 mod tables;
 

@@ -10,12 +10,14 @@ ghost use Rattle.market_units.specs.Members.{has};
 ghost use Rattle.bundle_bounds.specs.{Laws.IsTakable, Views.data_of};
 ghost use Rattle.demand_oracle.specs.{Beside.LeadsThoseWithout, Champions.IsChampion};
 ghost use Rattle.demand_oracle.specs.Search.{wanted_by, LeadsWanted};
-ghost use Rattle.demand_oracle.specs.SummedNodes.{chosen_of, IsSummedOf};
+ghost use Rattle.demand_oracle.specs.SummedNodes.{chosen_of};
 
 use crate::below::below;
 use crate::goods::Goods;
 use crate::question::Question;
 use crate::reach::{Reach, begun_with};
+use crate::spot::Spot;
+use crate::step::{Step, alone};
 use crate::summed_node::SummedNode;
 use bundle_bounds::Offer;
 use bundle_rules::{Bundle, Menu, prefers};
@@ -202,7 +204,13 @@ fn place_alone(offer: &Offer, section: SectionNo) -> Option<u8>
     if place >= menu.len() {
         return None;
     }
-    if !SummedNode::root().may_take(offer, place) {
+    let root = SummedNode::root();
+    let step = Step {
+        offer,
+        summed: &root,
+        place,
+    };
+    if !step.may_take() {
         return None;
     }
     Some(place)
@@ -254,7 +262,7 @@ fn first_champion(
         (wanted_by offer.now.menu.now given (chosen_of result) ≡ true) }
 {
     match given {
-        Some(place) => begun_beside(offer, place, first),
+        Some(place) => begun_beside(&Spot { offer, place }, first),
         None => {
             let drafted = reach.first_champion(offer);
             from_first(offer, first, drafted)
@@ -264,28 +272,24 @@ fn first_champion(
 
 // The section of the given place alone, or what may be taken of the first bundle, where one is
 // told.
-fn begun_beside(offer: &Offer, place: u8, first: Option<&Bundle>) -> SummedNode
-    requires place { place < length offer.now.menu.now.places }
-    requires alone { IsTakable (data_of offer.now)
-        (section_at offer.now.menu.now.places place ∷ []) }
-    ensures champion { IsChampion (data_of offer.now) result }
+fn begun_beside(spot: &Spot, first: Option<&Bundle>) -> SummedNode
+    requires alone { IsTakable (data_of spot.now.offer.now)
+        (section_at spot.now.offer.now.menu.now.places spot.now.place ∷ []) }
+    ensures champion { IsChampion (data_of spot.now.offer.now) result }
     ensures wanted { IfNone first.entry
-        (has (chosen_of result) (section_at offer.now.menu.now.places place) ≡ true) }
+        (has (chosen_of result)
+        (section_at spot.now.offer.now.menu.now.places spot.now.place) ≡ true) }
 {
     match first {
-        Some(bundle) => begun_with(offer, bundle),
-        None => SummedNode::alone(offer, place),
+        Some(bundle) => begun_with(spot.offer, bundle),
+        None => alone(spot),
     }
 }
 
 // The node, or that of the first bundle where it is told and worth no less.
 fn from_first(offer: &Offer, first: Option<&Bundle>, summed: SummedNode) -> SummedNode
-    requires summed { IsSummedOf (data_of offer.now) summed }
-    requires takable { IsTakable (data_of offer.now)
-        (chosen_of summed) }
-    ensures summed { IsSummedOf (data_of offer.now) result }
-    ensures takable { IsTakable (data_of offer.now)
-        (chosen_of result) }
+    requires { IsChampion (data_of offer.now) summed }
+    ensures { IsChampion (data_of offer.now) result }
 {
     let Some(bundle) = first else {
         return summed;

@@ -9,12 +9,13 @@ ghost use Rattle.bundle_rules.specs.{Demand.price_in, Menus.IsMenu};
 ghost use Rattle.bundle_bounds.specs.Laws.{IsTakable, IsNode};
 ghost use Rattle.bundle_bounds.specs.{Offers.OfferData, Offers.offer_of, Prunings.MayPrune};
 ghost use Rattle.bundle_bounds.specs.Views.{data_of};
-ghost use Rattle.demand_oracle.specs.Covers.{IsAdded};
-ghost use Rattle.demand_oracle.specs.SummedNodes.{chosen_of, IsSummed, IsSummedOf};
+ghost use Rattle.demand_oracle.specs.{Champions.IsChampion, Covers.IsAdded};
+ghost use Rattle.demand_oracle.specs.SummedNodes.{chosen_of, IsSummed};
 
 use crate::draft::Draft;
 use crate::multipliers::{Multipliers, multipliers_at};
 use crate::places::{fitting, hopes_of};
+use crate::step::Step;
 use crate::summed_node::SummedNode;
 use crate::tables::{
     COUNTS, MILLION, PLACES, ROWS, THOUSAND, Table, UNITS, in_units, lightest, put_hopes, put_most,
@@ -92,7 +93,6 @@ impl Reach {
     /// was measured for the same menu and budget.
     #[inline(always)]
     pub fn column(&self, menu: &Menu, budget: Tokens, summed: &SummedNode) -> Column
-        requires { IsMenu menu.now }
         ensures { IsColumn menu.now budget.0 self.now summed.now result }
     {
         self.column_for(
@@ -176,15 +176,18 @@ impl Reach {
     /// prunes most nodes at once. The table is one that was measured for the same menu, prices,
     /// budget and allowed sections; with another the node may be worth little.
     pub fn first_champion(&self, offer: &Offer) -> SummedNode
-        ensures summed { IsSummedOf (data_of offer.now) result }
-        ensures takable { IsTakable (data_of offer.now)
-            (chosen_of result) }
+        ensures { IsChampion (data_of offer.now) result }
     {
         let draft = Draft::of(offer, self.multipliers);
         let mut summed = SummedNode::root();
         for place in 0..offer.menu.len() {
             let is_wanted = draft.has(place);
-            summed = followed(offer, is_wanted, place, summed);
+            let step = Step {
+                offer,
+                summed: &summed,
+                place,
+            };
+            summed = followed(&step, is_wanted);
         }
         summed
     }
@@ -225,14 +228,17 @@ impl Reach {
 /// A node that has of a bundle what may be taken, place by place. A search that begins with it as
 /// its champion is short where the bundle is nearly the best.
 pub fn begun_with(offer: &Offer, bundle: &Bundle) -> SummedNode
-    ensures summed { IsSummedOf (data_of offer.now) result }
-    ensures takable { IsTakable (data_of offer.now)
-        (chosen_of result) }
+    ensures { IsChampion (data_of offer.now) result }
 {
     let mut summed = SummedNode::root();
     for place in 0..offer.menu.len() {
         let is_wanted = bundle.has(offer.menu.rated(place).section);
-        summed = followed(offer, is_wanted, place, summed);
+        let step = Step {
+            offer,
+            summed: &summed,
+            place,
+        };
+        summed = followed(&step, is_wanted);
     }
     summed
 }
@@ -240,25 +246,18 @@ pub fn begun_with(offer: &Offer, bundle: &Bundle) -> SummedNode
 // The node with the section of an undecided place, where it is wanted and may be taken, and else the
 // node itself.
 #[inline(always)]
-fn followed(offer: &Offer, is_wanted: bool, place: u8, summed: SummedNode) -> SummedNode
-    requires summed { IsSummedOf (data_of offer.now) summed }
-    requires node { IsNode (data_of offer.now) summed.node.place
-        (chosen_of summed) }
-    requires undecided { summed.node.place ≤ place }
-    requires on_menu { place < length offer.now.menu.now.places }
-    ensures summed { IsSummedOf (data_of offer.now) result }
-    ensures node { IsNode (data_of offer.now) result.node.place
-        (chosen_of result) }
-    ensures place { result.node.place ≤ place + 1 }
+fn followed(step: &Step, is_wanted: bool) -> SummedNode
+    requires { IsTakable (data_of step.now.offer.now) (chosen_of step.now.summed.now) }
+    ensures champion { IsChampion (data_of step.now.offer.now) result }
+    ensures place { result.node.place ≤ step.now.place + 1 }
 {
-    prove!(place < offer.menu.len());
     if !is_wanted {
-        return summed;
+        return *step.summed;
     }
-    if !summed.may_take(offer, place) {
-        return summed;
+    if !step.may_take() {
+        return *step.summed;
     }
-    summed.with_place(offer, place)
+    step.with_place()
 }
 
 /// What a champion's worth has more than a utility and what is hoped for.

@@ -1,19 +1,22 @@
 // How the tables of what can be reached are filled, from the last place to the first.
 ghost use Rattle.std.specs.Prelude.{◌≡◌, ◌≢◌, ◌<◌, ◌≤◌, ◌*◌, ◌+◌, ◌-◌, ◌/◌, ◌^◌, ℕ, true, max, unsigned_abs, length, slice_index};
 ghost use Rattle.market_units.specs.declared.units.Tokens.{Tokens};
-ghost use Rattle.bundle_rules.specs.Menus.{adjustment_in, clash_in, credits_at, IsMenu};
+ghost use Rattle.bundle_rules.specs.Menus.{adjustment_in, clash_in, credits_at};
 ghost use Rattle.bundle_bounds.specs.{Offers.allowed_at, Opens.above_zero, Views.data_of};
 ghost use Rattle.demand_oracle.specs.Reaches.{HoldsHopes, HoldsCovers, IsLightest, AreSmall, IsPlaced, number_at, within_at};
 ghost use Rattle.demand_oracle.specs.Values.{hopes_from, value};
 
 use crate::multipliers::Multipliers;
+use crate::spot::Spot;
 use bundle_bounds::{Offer, price_of_place};
-use bundle_rules::Menu;
 use market_units::{MAX_ADJUSTMENT, MAX_COURSES, MAX_RATINGS, MAX_SECTION_CREDITS, Tokens};
 
 pub(crate) const ROWS: usize = MAX_RATINGS + 1;
 
 pub(crate) const PLACES: usize = MAX_RATINGS;
+
+// At most this many places are on a menu.
+pub(crate) const MOST_PLACES: u8 = MAX_RATINGS as u8;
 
 pub(crate) const COUNTS: usize = MAX_COURSES as usize + 1;
 
@@ -58,20 +61,20 @@ pub(crate) fn lightest(offer: &Offer) -> u32
 {
     let mut lightest = MAX_SECTION_CREDITS;
     for place in 0..offer.menu.len() {
-        lightest = lighter(offer, place, lightest);
+        let spot = Spot { offer, place };
+        lightest = lighter(&spot, lightest);
     }
     u32::from(lightest)
 }
 
 // The credits of a place, where it is allowed and these are fewer than so many, and else so many.
-fn lighter(offer: &Offer, place: u8, lightest: u16) -> u16
-    requires { place < length offer.now.menu.now.places }
+fn lighter(spot: &Spot, lightest: u16) -> u16
     ensures within { result ≤ lightest }
-    ensures lightest { allowed_at (data_of offer.now) place ≡ true
-        → result ≤ credits_at offer.now.menu.now.places place }
+    ensures lightest { allowed_at (data_of spot.now.offer.now) spot.now.place ≡ true
+        → result ≤ credits_at spot.now.offer.now.menu.now.places spot.now.place }
 {
-    let rated = offer.menu.rated(place);
-    if !offer.allowed.has(rated.section) {
+    let rated = spot.offer.menu.rated(spot.place);
+    if !spot.offer.allowed.has(rated.section) {
         return lightest;
     }
     lightest.min(rated.credits)
@@ -86,42 +89,40 @@ pub(crate) fn put_hopes(offer: &Offer, hopes: &mut [[u16; PLACES]; ROWS])
     hopes[usize::from(count)] = [0; PLACES];
     for place in (0..count).rev() {
         hopes[usize::from(place)] = hopes[usize::from(place) + 1];
-        add_hopes(offer, place, &mut hopes[usize::from(place)]);
+        let spot = Spot { offer, place };
+        add_hopes(&spot, &mut hopes[usize::from(place)]);
     }
 }
 
 // Adds to what the adjustments of earlier places with the places behind this one can add what they
 // can add with this one.
-fn add_hopes(offer: &Offer, place: u8, hopes: &mut [u16; PLACES])
-    requires place { place < length offer.now.menu.now.places }
-    requires menu { IsMenu offer.now.menu.now }
-    requires later { (earlier : ℕ) → earlier < place + 1
+fn add_hopes(spot: &Spot, hopes: &mut [u16; PLACES])
+    requires { (earlier : ℕ) → earlier < spot.now.place + 1
         → slice_index hopes.old earlier
-        ≡ hopes_from (data_of offer.now) (place + 1) earlier }
-    ensures { (earlier : ℕ) → earlier < place
+        ≡ hopes_from (data_of spot.now.offer.now) (spot.now.place + 1) earlier }
+    ensures { (earlier : ℕ) → earlier < spot.now.place
         → slice_index hopes.new earlier
-        ≡ hopes_from (data_of offer.now) place earlier }
+        ≡ hopes_from (data_of spot.now.offer.now) spot.now.place earlier }
 {
-    let menu = offer.menu;
-    if !offer.allowed.has(menu.rated(place).section) {
+    let menu = spot.offer.menu;
+    prove!(spot.place < menu.len());
+    if !spot.offer.allowed.has(menu.rated(spot.place).section) {
         return;
     }
-    for earlier in 0..place {
-        hopes[usize::from(earlier)] += hope_of(menu, earlier, place);
+    for earlier in 0..spot.place {
+        hopes[usize::from(earlier)] += hope_of(spot, earlier);
     }
 }
 
-// The adjustment of two places, or 0 where it is negative.
-fn hope_of(menu: &Menu, earlier: u8, place: u8) -> u16
-    requires earlier { earlier < length menu.now.places }
-    requires place { place < length menu.now.places }
-    ensures value { result ≡ above_zero (adjustment_in menu.now.pairs earlier place) }
+// The adjustment of a place with another, or 0 where it is negative.
+fn hope_of(spot: &Spot, earlier: u8) -> u16
+    requires { earlier < length spot.now.offer.now.menu.now.places }
+    ensures value { result
+        ≡ above_zero (adjustment_in spot.now.offer.now.menu.now.pairs earlier spot.now.place) }
     ensures high { result ≤ unsigned_abs MAX_ADJUSTMENT }
-    ensures menu { IsMenu menu.now }
 {
-    prove!(place < menu.len());
     // In this order the numbers that a loop over earlier places reads stand side by side.
-    menu.adjustment(place, earlier).max(0) as u16
+    spot.offer.menu.adjustment(spot.place, earlier).max(0) as u16
 }
 
 /// Fills the table of the most that the places from each one on can add, so many of them at most,
@@ -142,7 +143,8 @@ pub(crate) fn put_most(
     put_nothing(count, most);
     for place in (0..count).rev() {
         let hoped = hopes[usize::from(place) + 1][usize::from(place)];
-        put_place(offer, multipliers, shift, place, hoped, most);
+        let spot = Spot { offer, place };
+        put_place(&spot, multipliers, shift, hoped, most);
     }
 }
 
@@ -158,50 +160,46 @@ fn put_nothing(place: u8, most: &mut Table)
 
 // Writes the most that so many places from this one on can add, where its adjustments with later
 // ones can add so much.
-fn put_place(
-    offer: &Offer,
-    multipliers: Multipliers,
-    shift: u32,
-    place: u8,
-    hoped: u16,
-    most: &mut Table,
-)
+fn put_place(spot: &Spot, multipliers: Multipliers, shift: u32, hoped: u16, most: &mut Table)
     requires shift { shift < 32 }
-    requires place { place < length offer.now.menu.now.places }
-    requires menu { IsMenu offer.now.menu.now }
-    requires small { AreSmall offer.now.menu.now.courses most.old (place + 1)
-        (length offer.now.menu.now.places) }
-    ensures covers { hoped ≡ hopes_from (data_of offer.now) (place + 1) place
-        → HoldsCovers (data_of offer.now) multipliers shift most.old (place + 1)
-        → HoldsCovers (data_of offer.now) multipliers shift most.new place }
-    ensures small { AreSmall offer.now.menu.now.courses most.new place
-        (length offer.now.menu.now.places) }
+    requires small { AreSmall spot.now.offer.now.menu.now.courses most.old (spot.now.place + 1)
+        (length spot.now.offer.now.menu.now.places) }
+    ensures covers { hoped
+        ≡ hopes_from (data_of spot.now.offer.now) (spot.now.place + 1) spot.now.place
+        → HoldsCovers (data_of spot.now.offer.now) multipliers shift most.old (spot.now.place + 1)
+        → HoldsCovers (data_of spot.now.offer.now) multipliers shift most.new spot.now.place }
+    ensures small { AreSmall spot.now.offer.now.menu.now.courses most.new spot.now.place
+        (length spot.now.offer.now.menu.now.places) }
 {
+    let offer = spot.offer;
     let menu = offer.menu;
+    let place = spot.place;
+    prove!(place < menu.len());
     let courses = menu.courses();
     if !offer.allowed.has(menu.rated(place).section) {
         put_counts(courses, place, place + 1, 0, UNITS, most);
         return;
     }
-    let value = thousandths(value_at(offer, multipliers, place, hoped));
+    let value = thousandths(value_at(spot, multipliers, hoped));
     let cost = in_units(price_of_place(menu, offer.prices, place), shift);
-    let next = next_apart(menu, place, place + 1);
+    let next = next_apart(spot, place + 1);
     put_counts(courses, place, next, value, cost as usize, most);
 }
 
 // What is left of a million times the most that a place can add, where its adjustments with later
 // places can add so much. Adjustments count at the lower place alone: with twenty pairs that opens
 // half the nodes of counting them at both.
-fn value_at(offer: &Offer, multipliers: Multipliers, place: u8, hoped: u16) -> u64
-    requires place { place < length offer.now.menu.now.places }
-    ensures value { hoped ≡ hopes_from (data_of offer.now) (place + 1) place
-        → result ≡ value (data_of offer.now) multipliers place }
+fn value_at(spot: &Spot, multipliers: Multipliers, hoped: u16) -> u64
+    ensures value { hoped
+        ≡ hopes_from (data_of spot.now.offer.now) (spot.now.place + 1) spot.now.place
+        → result ≡ value (data_of spot.now.offer.now) multipliers spot.now.place }
     ensures high { result ≤ 65635000000 }
 {
-    let menu = offer.menu;
-    let rated = menu.rated(place);
+    let menu = spot.offer.menu;
+    let rated = menu.rated(spot.place);
     let most_added = u64::from(rated.rating) + u64::from(hoped);
-    let price = multipliers.money * u64::from(price_of_place(menu, offer.prices, place));
+    let cost = price_of_place(menu, spot.offer.prices, spot.place);
+    let price = multipliers.money * u64::from(cost);
     let credits = multipliers.credits * u64::from(rated.credits);
     (MILLION * most_added).saturating_sub(price + credits)
 }
@@ -209,18 +207,18 @@ fn value_at(offer: &Offer, multipliers: Multipliers, place: u8, hoped: u16) -> u
 // The first place from one on that does not clash with an earlier one, or the number of places
 // where there is none. Clashes behind the first gap exclude nothing: sections of one course mostly
 // stand side by side in a catalogue.
-fn next_apart(menu: &Menu, place: u8, from: u8) -> u8
-    requires place { place < length menu.now.places }
-    requires from { from ≤ length menu.now.places }
-    ensures within { result ≤ length menu.now.places }
+fn next_apart(spot: &Spot, from: u8) -> u8
+    requires { from ≤ length spot.now.offer.now.menu.now.places }
+    ensures within { result ≤ length spot.now.offer.now.menu.now.places }
     ensures from { from ≤ result }
     ensures between { (other : ℕ) → from ≤ other → other < result
-        → clash_in menu.now.clashes place other ≡ true }
+        → clash_in spot.now.offer.now.menu.now.clashes spot.now.place other ≡ true }
 {
-    if from == menu.len() || !menu.clash(place, from) {
+    let menu = spot.offer.menu;
+    if from == menu.len() || !menu.clash(spot.place, from) {
         return from;
     }
-    next_apart(menu, place, from + 1)
+    next_apart(spot, from + 1)
 }
 
 // So many millionths in thousandths, rounded up. In thousandths a number of the table has 32 bits;

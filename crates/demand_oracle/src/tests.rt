@@ -1,9 +1,9 @@
 // A menu whose best bundle is plain to see, and made menus at which trying all bundles tells the
 // answer.
-ghost use Rattle.std.specs.Prelude.{◌<◌, ◌≤◌};
-ghost use Rattle.bundle_rules.specs.Demand.{HasPrices};
+ghost use Rattle.std.specs.Prelude.{◌<◌};
 
 use super::*;
+use bundle_bounds::Offer;
 use bundle_rules::{Bundle, Menu, Rated, best_plain, feasible, has_prices, prefers};
 use market_units::{MAX_SECTIONS, SectionNo, SectionSet, Tokens};
 use std::alloc::Global;
@@ -272,36 +272,37 @@ fn the_best_with_a_given_section(rt: HostRuntime) -> Result<(), Fail> {
 }
 
 // The best bundle, found beside the best one without a section.
-fn best_beside(
-    workspace: &mut Workspace,
-    menu: &Menu,
-    prices: &[Tokens],
-    budget: Tokens,
-    allowed: &SectionSet,
-    section: SectionNo,
-) -> Bundle
-    requires prices { HasPrices menu.now prices.now }
-    requires section { section.0 < MAX_SECTIONS }
+fn best_beside(workspace: &mut Workspace, offer: &Offer, section: SectionNo) -> Bundle
+    requires { section.0 < MAX_SECTIONS }
 {
-    let fewer = allowed.without(section);
-    let first = demand(workspace, menu, prices, budget, &fewer);
-    demand_beside(workspace, menu, prices, budget, allowed, section, &first)
+    let (menu, prices) = (offer.menu, offer.prices);
+    let fewer = offer.allowed.without(section);
+    let first = demand(workspace, menu, prices, offer.budget, &fewer);
+    demand_beside(
+        workspace,
+        menu,
+        prices,
+        offer.budget,
+        offer.allowed,
+        section,
+        &first,
+    )
 }
 
 // The best bundle, found beside itself: where it has the section, the search begins with a bundle
 // that has it.
-fn best_beside_itself(
-    workspace: &mut Workspace,
-    menu: &Menu,
-    prices: &[Tokens],
-    budget: Tokens,
-    allowed: &SectionSet,
-    section: SectionNo,
-) -> Bundle
-    requires prices { HasPrices menu.now prices.now }
-{
-    let first = demand(workspace, menu, prices, budget, allowed);
-    demand_beside(workspace, menu, prices, budget, allowed, section, &first)
+fn best_beside_itself(workspace: &mut Workspace, offer: &Offer, section: SectionNo) -> Bundle {
+    let (menu, prices) = (offer.menu, offer.prices);
+    let first = demand(workspace, menu, prices, offer.budget, offer.allowed);
+    demand_beside(
+        workspace,
+        menu,
+        prices,
+        offer.budget,
+        offer.allowed,
+        section,
+        &first,
+    )
 }
 
 #[test]
@@ -319,10 +320,16 @@ fn the_best_beside_one_without_a_section(rt: HostRuntime) -> Result<(), Fail> {
         assert!(rt; place < menu.len());
         let section = menu.rated(place).section;
         assert!(rt; has_prices(&menu, &prices));
-        let best = best_beside(&mut workspace, &menu, &prices, budget, &allowed, section);
+        let offer = Offer {
+            menu: &menu,
+            prices: &prices,
+            budget,
+            allowed: &allowed,
+        };
+        let best = best_beside(&mut workspace, &offer, section);
         let plain = demand(&mut workspace, &menu, &prices, budget, &allowed);
         assert!(rt; best == plain, "at turn {turn}");
-        let again = best_beside_itself(&mut workspace, &menu, &prices, budget, &allowed, section);
+        let again = best_beside_itself(&mut workspace, &offer, section);
         assert!(rt; again == plain, "at turn {turn}");
         with_it = with_it.wrapping_add(u32::from(best.has(section)));
         without = without.wrapping_add(u32::from(!best.has(section)));

@@ -5,8 +5,8 @@ ghost use Rattle.bundle_bounds.specs.{Offers.OfferData, Opens.is_open, declared.
 ghost use Rattle.proof_tree.specs.{Claims.offer_in, Claims.champion_in, Trees.IsSign, Trees.GoesOn};
 ghost use Rattle.proof_tree.specs.Visits.{HasNoSignAt, HasStemAt, IsShutAt, IsSignAt};
 
-use crate::standing::{is_open_at, pruning_at};
 use crate::visit::Visit;
+use crate::walk::PLACES;
 use bundle_bounds::{Leaf, Node, Stem, is_open};
 
 /// What stands at a node of a tree, the first of these that fits.
@@ -28,8 +28,7 @@ pub enum Sign {
 
 // Whether all places are decided, and the chosen sections are the champion.
 fn is_end(visit: &Visit) -> bool
-    ensures menu { IsMenu (offer_in visit.now.claim).menu }
-    ensures end { IsTrue result
+    ensures { IsTrue result
         ↔ ((visit.now.node.place ≡ length (offer_in visit.now.claim).menu.places)
         × (sections_of visit.now.node.chosen ≡ champion_in visit.now.claim)) }
 {
@@ -88,7 +87,8 @@ fn is_place(required: Option<u8>, place: u8) -> bool
 }
 
 /// The canonical sign of a node, or `None` where it has none: all places are decided, the chosen
-/// sections are not the champion, and no bound prunes it.
+/// sections are not the champion, and no bound prunes it. The stem at this place is that of the
+/// node, and keeps what is computed.
 #[inline(always)]
 pub(crate) fn sign_at(visit: &Visit, stems: &mut [Stem], at: usize) -> Option<Sign>
     requires at { at < length stems.old }
@@ -100,19 +100,21 @@ pub(crate) fn sign_at(visit: &Visit, stems: &mut [Stem], at: usize) -> Option<Si
     ensures some { IfSome result (IsSignAt visit.now) }
     ensures none { IfNone result (HasNoSignAt visit.now) }
 {
+    let claim = &visit.claim;
+    prove!(claim.offer.menu.len() <= PLACES);
     if is_end(visit) {
         return Some(Sign::Champion);
     }
     if is_shut(visit) {
         return Some(Sign::Shut);
     }
-    let pruning = pruning_at(stems, at, visit);
+    let pruning = stems[at].pruning(claim.offer, claim.champion, &visit.node);
     if let Some(leaf) = pruning {
         return Some(Sign::Pruned(leaf));
     }
-    if visit.node.place >= visit.claim.offer.menu.len() {
+    if visit.node.place >= claim.offer.menu.len() {
         return None;
     }
-    let is_next_open = is_open_at(stems, at, visit);
-    Some(next_sign(visit.claim.required, &visit.node, is_next_open))
+    let is_next_open = stems[at].is_next_open(claim.offer, claim.champion, &visit.node);
+    Some(next_sign(claim.required, &visit.node, is_next_open))
 }

@@ -1,28 +1,12 @@
 // The stems of the nodes that wait, each at the index of its node.
-ghost use Rattle.std.specs.Prelude.{◌≡◌, ◌≢◌, ◌<◌, ◌+◌, ◌++◌, ◌∷◌, [], ℕ, true, IfSome, IfNone, length, slice_index_or};
+ghost use Rattle.std.specs.Prelude.{◌≡◌, ◌≢◌, ◌<◌, ◌+◌, ◌++◌, ◌∷◌, [], ℕ, true, length, slice_index_or};
 ghost use Rattle.bundle_rules.specs.{Bundles.sections_of, Menus.section_at};
 ghost use Rattle.bundle_bounds.specs.{Opens.is_open, declared.stems.Stem.Stem};
 ghost use Rattle.proof_tree.specs.{Claims.offer_in, Claims.champion_in, Standing.IsStemAt};
-ghost use Rattle.proof_tree.specs.Visits.{chosen_at, HasStemAt, IsPruningAt, NonePrunesAt};
+ghost use Rattle.proof_tree.specs.Visits.{chosen_at, HasStemAt};
 
 use crate::visit::Visit;
-use bundle_bounds::{Leaf, Stem};
-
-/// The leaf of the first bound that prunes the node; `None` where none does. The stem at this place
-/// is that of the node, and keeps what is computed.
-#[inline(always)]
-pub(crate) fn pruning_at(stems: &mut [Stem], at: usize, visit: &Visit) -> Option<Leaf>
-    requires at { at < length stems.old }
-    requires stem { HasStemAt visit.now stems.old at }
-    ensures first { IfSome result (IsPruningAt visit.now) }
-    ensures none { IfNone result (NonePrunesAt visit.now) }
-    ensures stem { HasStemAt visit.now stems.new at }
-    ensures others { (i : ℕ) (d : Stem) → i ≢ at
-        → slice_index_or stems.new i d ≡ slice_index_or stems.old i d }
-{
-    let claim = &visit.claim;
-    stems[at].pruning(claim.offer, claim.champion, &visit.node)
-}
+use bundle_bounds::Stem;
 
 /// The stem at this place becomes that of the node without the next place.
 #[inline(always)]
@@ -68,16 +52,4 @@ pub(crate) fn put_back(stems: &mut [Stem], at: usize)
         → slice_index_or stems.new i d ≡ slice_index_or stems.old i d }
 {
     stems[at] = stems[at + 1];
-}
-
-/// Whether the next place of the node is open. The stem at this place is that of the node.
-pub(crate) fn is_open_at(stems: &[Stem], at: usize, visit: &Visit) -> bool
-    requires at { at < length stems.now }
-    requires stem { HasStemAt visit.now stems.now at }
-    requires left { visit.now.node.place < length (offer_in visit.now.claim).menu.places }
-    ensures { result
-        ≡ is_open (offer_in visit.now.claim) (chosen_at visit.now) visit.now.node.place }
-{
-    let claim = &visit.claim;
-    stems[at].is_next_open(claim.offer, claim.champion, &visit.node)
 }

@@ -2,7 +2,7 @@
 ghost use Rattle.std.specs.Prelude.{◌≡◌, ◌≢◌, ◌<◌, ◌≤◌, ◌+◌, ◌++◌, ◌∷◌, [], ℕ, List, true, IfSome, IfNone, OnSome, length, slice_index_or};
 ghost use Rattle.bundle_bounds.specs.{Offers.OfferData, Opens.is_open, declared.nodes.Node.Node};
 ghost use Rattle.bundle_rules.specs.Bundles.{sections_of};
-ghost use Rattle.bundle_rules.specs.Menus.{MenuData, IsMenu, section_at};
+ghost use Rattle.bundle_rules.specs.Menus.{MenuData, section_at};
 ghost use Rattle.proof_tree.specs.Claims.{offer_in, champion_in, champions_places};
 ghost use Rattle.proof_tree.specs.Standing.{HaveStems, AreStanding};
 ghost use Rattle.proof_tree.specs.{Steps.AreWaiting, Steps.MayWait, Steps.IsStep, Texts.IsShort};
@@ -174,6 +174,7 @@ impl Walk {
             ≡ below sign visit.now.node.place (chosen_at visit.now)
             ++ spots_of (offer_in visit.now.claim).menu (waiting_of self.old) }
     {
+        prove!(visit.claim.offer.menu.len() <= PLACES);
         match sign {
             Sign::Champion => {}
             Sign::Shut => {}
@@ -193,7 +194,6 @@ fn with_next(visit: &Visit) -> Node
     requires left { visit.now.node.place < length (offer_in visit.now.claim).menu.places }
     requires open { is_open (offer_in visit.now.claim) (chosen_at visit.now) visit.now.node.place
         ≡ true }
-    ensures menu { IsMenu (offer_in visit.now.claim).menu }
     ensures room { length (sections_of visit.now.node.chosen) < MAX_COURSES }
     ensures place { result.place ≡ visit.now.node.place + 1 }
     ensures chosen { sections_of result.chosen

@@ -1,7 +1,5 @@
 // Tables of small menus, and which nodes they prune, worked by hand.
-ghost use Rattle.std.specs.Prelude.{◌≤◌, ℕ, length};
-ghost use Rattle.demand_oracle.specs.SummedNodes.{IsSummed, IsSummedOf};
-ghost use Rattle.bundle_bounds.specs.Views.{data_of};
+ghost use Rattle.std.specs.Prelude.{◌≤◌, length};
 
 use super::*;
 use bundle_rules::{Rated, has_prices};
@@ -51,64 +49,132 @@ fn menu_of<R: Abort>(rt: &R, alloc: Global, case: &Case) -> Menu {
     .expect(rt, "memory")
 }
 
-// A champion of the first two sections, of those that are taken.
-fn champion_of(offer: &Offer, first: bool, second: bool) -> SummedNode
-    requires places { 2 ≤ length offer.now.menu.now.places }
-    ensures { IsSummedOf (data_of offer.now) result }
-{
-    let root = SummedNode::root();
-    match (first, second) {
-        (true, true) => root.with_place(offer, 0).with_place(offer, 1),
-        (true, false) => root.with_place(offer, 0),
-        (false, true) => root.with_place(offer, 1),
-        (false, false) => root,
-    }
+// Whether a node is pruned where the places below the step's are decided.
+fn is_pruned(reach: &Reach, step: &Step, champion: &SummedNode) -> bool {
+    let offer = step.offer;
+    let column = reach.column(offer.menu, offer.budget, step.summed);
+    reach.prunes(offer.menu, &column, step.summed, step.place, champion)
 }
 
-// Whether a node is pruned where the places below this one are decided.
-fn is_pruned(
-    reach: &Reach,
-    menu: &Menu,
+// Which nodes of a menu without clashes and adjustments are pruned for a champion: that at the
+// first place, that at the second with the first section, and that at the second without it.
+#[derive(Clone, Copy)]
+struct Pruned<'a> {
+    rated: &'a [(u8, u16)],
+    caps: (u16, u8),
+    prices: &'a [Tokens],
     budget: Tokens,
-    summed: &SummedNode,
-    place: u8,
-    champion: &SummedNode,
-) -> bool
-    requires summed { (price : ℕ → ℕ) × IsSummed menu.now price summed.now }
-    requires place { place ≤ length menu.now.places }
-{
-    prove!(place <= menu.len());
-    let column = reach.column(menu, budget, summed);
-    reach.prunes(menu, &column, summed, place, champion)
+    champion: &'a [SectionNo],
+    nodes: [bool; 3],
 }
 
-// Whether the nodes at the first place, at the second with the first section, and at the second
-// without it are pruned for the champion that has the first two sections as told.
-fn prunings<R: Abort>(
-    rt: &R,
-    menu: &Menu,
-    prices: &[Tokens],
-    budget: u32,
-    (first, second): (bool, bool),
-) -> [bool; 3] {
-    assert!(rt; has_prices(menu, prices));
+const FREE: [Tokens; 3] = [Tokens(0); 3];
+
+const PRUNED: [Pruned<'static>; 5] = [
+    // Of two equal ones one may be taken: without the first there is nothing better than it, and
+    // without the second there is.
+    Pruned {
+        rated: &[(50, 1), (50, 1)],
+        caps: (10, 1),
+        prices: &FREE,
+        budget: Tokens(0),
+        champion: &[SectionNo(0)],
+        nodes: [false, false, true],
+    },
+    Pruned {
+        rated: &[(50, 1), (50, 1)],
+        caps: (10, 1),
+        prices: &FREE,
+        budget: Tokens(0),
+        champion: &[SectionNo(1)],
+        nodes: [false, false, false],
+    },
+    // The budget of 30 leaves no more than 90 without the first, which costs 10; without it both
+    // others cost 40.
+    Pruned {
+        rated: &[(50, 1), (60, 1), (60, 1)],
+        caps: (10, 3),
+        prices: &[Tokens(10), Tokens(20), Tokens(20)],
+        budget: Tokens(30),
+        champion: &[SectionNo(0), SectionNo(1)],
+        nodes: [false, false, true],
+    },
+    // The same with 3 credits.
+    Pruned {
+        rated: &[(50, 1), (60, 2), (60, 2)],
+        caps: (3, 3),
+        prices: &FREE,
+        budget: Tokens(0),
+        champion: &[SectionNo(0), SectionNo(1)],
+        nodes: [false, false, true],
+    },
+    // Of sections of 3 credits one fits 5 credits, so that the first one alone is too little.
+    Pruned {
+        rated: &[(50, 3), (60, 3), (55, 3)],
+        caps: (5, 2),
+        prices: &FREE,
+        budget: Tokens(0),
+        champion: &[SectionNo(1)],
+        nodes: [false, true, false],
+    },
+];
+
+fn prunings<R: Abort>(rt: &R, alloc: Global, case: &Pruned) -> [bool; 3] {
+    let clashes = [0; 3];
+    assert!(rt; case.rated.len() <= 3);
+    let menu = menu_of(
+        rt,
+        alloc,
+        &Case {
+            rated: case.rated,
+            pairs: &[],
+            clashes: &clashes[..case.rated.len()],
+            caps: case.caps,
+        },
+    );
+    assert!(rt; has_prices(&menu, case.prices));
     assert!(rt; menu.len() >= 2);
-    let all = SectionSet::full(400);
+    let all = SectionSet::full(3);
     let offer = Offer {
-        menu,
-        prices,
-        budget: Tokens(budget),
+        menu: &menu,
+        prices: case.prices,
+        budget: case.budget,
         allowed: &all,
     };
-    let champion = champion_of(&offer, first, second);
+    let champion = begun_with(&offer, &Bundle::of(case.champion).expect(rt, "a bundle"));
+    assert_eq!(rt; champion.node.chosen.sections(), case.champion);
+    nodes_pruned(rt, &offer, &champion)
+}
+
+// The three nodes of a menu with two places at least.
+fn nodes_pruned<R: Abort>(rt: &R, offer: &Offer, champion: &SummedNode) -> [bool; 3]
+    requires { 2 ≤ length offer.now.menu.now.places }
+{
     let mut reach = Reach::empty();
-    reach.measure(&offer);
+    reach.measure(offer);
     let root = SummedNode::root();
-    let with_it = root.with_place(&offer, 0);
+    let with_first = begun_with(offer, &Bundle::empty().with(SectionNo(0)));
+    assert_eq!(rt; with_first.node.chosen.sections().len(), 1);
+    assert!(rt; with_first.node.place <= 1);
+    let begin = Step {
+        offer,
+        summed: &root,
+        place: 0,
+    };
+    let taken = Step {
+        offer,
+        summed: &with_first,
+        place: 1,
+    };
+    let passed = Step {
+        offer,
+        summed: &root,
+        place: 1,
+    };
     [
-        is_pruned(&reach, menu, offer.budget, &root, 0, &champion),
-        is_pruned(&reach, menu, offer.budget, &with_it, 1, &champion),
-        is_pruned(&reach, menu, offer.budget, &root, 1, &champion),
+        is_pruned(&reach, &begin, champion),
+        is_pruned(&reach, &taken, champion),
+        is_pruned(&reach, &passed, champion),
     ]
 }
 
@@ -202,63 +268,8 @@ fn what_so_many_units_are_enough_for(rt: HostRuntime) -> Result<(), Fail> {
 
 #[test]
 fn the_nodes_that_are_pruned(rt: HostRuntime) -> Result<(), Fail> {
-    // Of two equal ones one may be taken: without the first there is nothing better than it, and
-    // without the second there is.
-    let equal = Case {
-        rated: &[(50, 1), (50, 1)],
-        pairs: &[],
-        clashes: &[0, 0],
-        caps: (10, 1),
-    };
-    let menu = menu_of(&rt, rt.alloc(), &equal);
-    let prices = [Tokens(0); 4];
-    assert_eq!(rt;
-        prunings(&rt, &menu, &prices, 0, (true, false)),
-        [false, false, true]
-    );
-    assert_eq!(rt;
-        prunings(&rt, &menu, &prices, 0, (false, true)),
-        [false, false, false]
-    );
-
-    // The budget of 30 leaves no more than 90 without the first, which costs 10; without it both
-    // others cost 40.
-    let priced = Case {
-        rated: &[(50, 1), (60, 1), (60, 1)],
-        pairs: &[],
-        clashes: &[0, 0, 0],
-        caps: (10, 3),
-    };
-    let menu = menu_of(&rt, rt.alloc(), &priced);
-    let prices = [Tokens(10), Tokens(20), Tokens(20)];
-    assert_eq!(rt;
-        prunings(&rt, &menu, &prices, 30, (true, true)),
-        [false, false, true]
-    );
-
-    // The same with 3 credits.
-    let loaded = Case {
-        rated: &[(50, 1), (60, 2), (60, 2)],
-        caps: (3, 3),
-        ..priced
-    };
-    let menu = menu_of(&rt, rt.alloc(), &loaded);
-    let prices = [Tokens(0); 3];
-    assert_eq!(rt;
-        prunings(&rt, &menu, &prices, 0, (true, true)),
-        [false, false, true]
-    );
-
-    // Of sections of 3 credits one fits 5 credits, so that the first one alone is too little.
-    let heavy = Case {
-        rated: &[(50, 3), (60, 3), (55, 3)],
-        caps: (5, 2),
-        ..priced
-    };
-    let menu = menu_of(&rt, rt.alloc(), &heavy);
-    assert_eq!(rt;
-        prunings(&rt, &menu, &prices, 0, (false, true)),
-        [false, true, false]
-    );
+    for case in &PRUNED {
+        assert_eq!(rt; prunings(&rt, rt.alloc(), case), case.nodes);
+    }
     Ok(())
 }

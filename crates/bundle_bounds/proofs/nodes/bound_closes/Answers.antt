@@ -18,10 +18,13 @@ use Rattle.bundle_bounds.proofs.FirstPruning.{first_pruning_is_the_first, found_
 use Rattle.bundle_bounds.proofs.ByPlace.{ascending_places, has-places}
 use Rattle.bundle_bounds.proofs.nodes.bound_closes.Goals as goal
 
-pub rests_of-rests-requires-clause-on_menu : goal.rests_of-rests-requires-clause-on_menu
-rests_of-rests-requires-clause-on_menu c =
-    rw (c.as_slice-places.ensures.value, c.of-places.ensures)
-    (places_of_rated c.args.menu.now (sections_of c.args.node.now.chosen) c.requires.node.takable.feasible.rated)
+pub invariant_of-picks : goal.invariant_of-picks
+invariant_of-picks c = record {
+  on_menu =
+      rw (c.as_slice-places.ensures.value, c.of-places.ensures)
+      (places_of_rated c.args.menu.now (sections_of c.args.node.now.chosen) c.requires.node.takable.feasible.rated);
+  few = c.as_slice-places.ensures.few;
+}
 
 pub invariant_of-chosen : goal.invariant_of-chosen
 invariant_of-chosen c =
@@ -72,16 +75,16 @@ returns c =
     let ps =
     collected offer k cs slice c.collect-start.new.room c.collect-start.result c.min-from.result c.len.result same whole
     c.min-from.ensures c.len.ensures.value c.collect-start.ensures.value in
-    let some : IfSome c.first_below.result (IsFirstPruning offer k cs ch (bounds offer k cs)) =
+    let some : IfSome c.first_with.result (IsFirstPruning offer k cs ch (bounds offer k cs)) =
     some_prunes offer k cs ch up up' low _ _ _ _ _ _ base most (are.budget_is ∙ ap (budget_left offer) same) (are.credits_is ∙ ap (credits_left offer) same)
-    (are.courses_is ∙ ap (courses_left offer) same) ps c.first_below.result c.first_below.ensures.first in
-    let none : IfNone c.first_below.result (NonePrunes offer k cs ch (bounds offer k cs)) =
+    (are.courses_is ∙ ap (courses_left offer) same) ps c.first_with.result c.first_with.ensures.first in
+    let none : IfNone c.first_with.result (NonePrunes offer k cs ch (bounds offer k cs)) =
     none_prunes offer k cs ch up up' low _ _ _ _ _ _ base most (are.budget_is ∙ ap (budget_left offer) same) (are.credits_is ∙ ap (credits_left offer) same)
-    (are.courses_is ∙ ap (courses_left offer) same) ps c.first_below.result c.first_below.ensures.none in
+    (are.courses_is ∙ ap (courses_left offer) same) ps c.first_with.result c.first_with.ensures.none in
     record {
       first = some;
       value =
-          found_pruning offer k chosen champion c.first_below.result
+          found_pruning offer k chosen champion c.first_with.result
           (first_pruning_is_the_first offer k chosen champion c.len.ensures.menu c.requires.node c.requires.champion) some none;
       none = none;
     }

@@ -8,10 +8,13 @@ use Rattle.bundle_bounds.proofs.Openness.{le_true}
 use Rattle.bundle_bounds.proofs.Outlook.{open_same}
 use Rattle.bundle_bounds.proofs.nodes.is_open.Goals as goal
 
-pub rests_of-rests-requires-clause-on_menu : goal.rests_of-rests-requires-clause-on_menu
-rests_of-rests-requires-clause-on_menu c =
-    rw (c.as_slice-places.ensures.value, c.of-places.ensures)
-    (places_of_rated c.args.menu.now (sections_of c.args.node.now.chosen) c.requires.node.takable.feasible.rated)
+pub invariant_of-picks : goal.invariant_of-picks
+invariant_of-picks c = record {
+  on_menu =
+      rw (c.as_slice-places.ensures.value, c.of-places.ensures)
+      (places_of_rated c.args.menu.now (sections_of c.args.node.now.chosen) c.requires.node.takable.feasible.rated);
+  few = c.as_slice-places.ensures.few;
+}
 
 pub invariant_of-chosen : goal.invariant_of-chosen
 invariant_of-chosen c =

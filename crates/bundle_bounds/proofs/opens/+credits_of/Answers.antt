@@ -7,6 +7,6 @@ use Rattle.bundle_bounds.proofs.opens.+credits_of.Goals as goal
 
 pub returns-in-len1-up-clause-value : goal.returns-in-len1-up-clause-value
 returns-in-len1-up-clause-value t c =
-    let one = credits_at-is c.args.menu.now.places _ c.rated.result.now c.rated.ensures.value in
+    let one = credits_at-is c.args.picks.now.offer.now.menu.now.places _ c.rated.result.now c.rated.ensures.value in
     rw (c.from.ensures, c.credits_of.ensures.value, ← one)
-    (sym (ap (total (credits_at c.args.menu.now.places)) (first_rest c.args.chosen.now 0 c.in-len1-up.len_at_least)))
+    (sym (ap (total (credits_at c.args.picks.now.offer.now.menu.now.places)) (first_rest c.args.picks.now.places.now 0 c.in-len1-up.len_at_least)))

@@ -18,11 +18,11 @@ loop-index-init c =
     record {
       there = λ course. ap (λ n. n == 1) (bit_at-zero course) ∙ sym (ap (λ ps. has_course ps course) none);
       peak = record {
-        here_is = sym (ap (greatest (over_price c.args.resource c.args.price) 0) none);
-        after_is = sym (ap (greatest (over_price c.args.resource (c.args.price + 1)) 0) none);
+        here_is = sym (ap (greatest (over_price c.args.rate.resource c.args.rate.price) 0) none);
+        after_is = sym (ap (greatest (over_price c.args.rate.resource (c.args.rate.price + 1)) 0) none);
       };
-      total_is = sym (ap (by_course (over_price c.args.resource c.args.price)) none);
-      next_is = sym (ap (by_course (over_price c.args.resource (c.args.price + 1))) none);
+      total_is = sym (ap (by_course (over_price c.args.rate.resource c.args.rate.price)) none);
+      next_is = sym (ap (by_course (over_price c.args.rate.resource (c.args.rate.price + 1))) none);
       small = omega arith;
       next_small = omega arith;
     }
@@ -40,14 +40,14 @@ pub peak_behind-most-requires-clause-last : goal.peak_behind-most-requires-claus
 peak_behind-most-requires-clause-last c =
     let ps = c.args.all.now.list.now in
     let next : c.loop-index.index ≡ (c.loop-index.index - 1) + 1 = omega arith in
-    subst (λ l. IsPeak c.args.resource c.args.price l c.loop-index.last) (sym (rest_whole ps ((c.loop-index.index - 1) + 1)))
-    (subst (λ n. IsPeak c.args.resource c.args.price (drop n ps) c.loop-index.last) next c.loop-index.invariant.peak)
+    subst (λ l. IsPeak c.args.rate.resource c.args.rate.price l c.loop-index.last) (sym (rest_whole ps ((c.loop-index.index - 1) + 1)))
+    (subst (λ n. IsPeak c.args.rate.resource c.args.rate.price (drop n ps) c.loop-index.last) next c.loop-index.invariant.peak)
 
 pub loop-index-preserved : goal.loop-index-preserved
 loop-index-preserved c =
     let ps = c.args.all.now.list.now in
-    let f = over_price c.args.resource c.args.price in
-    let g = over_price c.args.resource (c.args.price + 1) in
+    let f = over_price c.args.rate.resource c.args.rate.price in
+    let g = over_price c.args.rate.resource (c.args.rate.price + 1) in
     let is = c.loop-index.invariant in
     let low : c.loop-index.index - 1 < length c.args.all.now.list.now = omega arith in
     let next : c.loop-index.index ≡ (c.loop-index.index - 1) + 1 = omega arith in

@@ -7,6 +7,6 @@ pub returns-then-is_new-clause-peak : goal.returns-then-is_new-clause-peak
 returns-then-is_new-clause-peak c =
     let none = c.requires.none c.if-is_new.true in
     record {
-      here_is = sym (greatest_none (over_price c.args.resource c.args.price) c.args.more.now c.args.course none);
-      after_is = sym (greatest_none (over_price c.args.resource (c.args.price + 1)) c.args.more.now c.args.course none);
+      here_is = sym (greatest_none (over_price c.args.rate.resource c.args.rate.price) c.args.more.now c.args.course none);
+      after_is = sym (greatest_none (over_price c.args.rate.resource (c.args.rate.price + 1)) c.args.more.now c.args.course none);
     }

@@ -1,8 +1,10 @@
-use Rattle.std.proofs.Common.{◌-◌, ◌∙◌, sym}
+use Rattle.std.proofs.Common.{◌≡◌, ◌-◌, ◌∙◌, sym, rules}
+use Rattle.bundle_bounds.specs.Bounds.{over_price}
 use Rattle.bundle_bounds.proofs.Adding.{over_next}
 use Rattle.bundle_bounds.proofs.prospects.peak_of.Goals as goal
 
 pub returns-clause-after : goal.returns-clause-after
 returns-clause-after c =
-    c.saturating_sub.ensures ∙ (λ i. c.over_price-here.ensures.value i - c.takes.ensures.value i)
-    ∙ sym (over_next c.args.resource c.args.price c.args.prospect.now)
+    let here : c.saturating_sub-here.result ≡ over_price c.args.rate.resource c.args.rate.price c.args.prospect.now = search rules in
+    c.saturating_sub.ensures ∙ (λ i. here i - c.takes-taken.ensures.value i)
+    ∙ sym (over_next c.args.rate.resource c.args.rate.price c.args.prospect.now)

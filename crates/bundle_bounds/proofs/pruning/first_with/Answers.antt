@@ -1,4 +1,4 @@
-use Rattle.std.proofs.Common.{ℕ, ◌≡◌, ◌∙◌, ◌*◌, Bool, true, false, true≢false, to_z, of_z, w64, sym, subst, arith, rules, inr}
+use Rattle.std.proofs.Common.{ℕ, ◌≡◌, ◌∙◌, ◌*◌, Bool, true, false, true≢false, to_z, of_z, w64, sym, subst, arith, inr, Some}
 use Rattle.std.specs.Prelude.{ℤ, pos, ◌+ℤ◌, ◌<ℤ◌}
 use Rattle.std.proofs.lemmas.Int.{ints}
 use Rattle.bundle_bounds.specs.declared.nodes.Leaf.{Leaf}
@@ -21,20 +21,36 @@ returns-in-Some-clause-first c =
       first-append_left c.args.limit _ _ c.in-Some.leaf (rw l at c.in-Some.ensures.first),
     )
 
-pub returns-in-None : goal.returns-in-None
-returns-in-None c =
+pub returns-in-Some-first_of_resource-clause-first : goal.returns-in-Some-first_of_resource-clause-first
+returns-in-Some-first_of_resource-clause-first c =
+    let l : to_z w64 (of_z w64 c.args.limit) ≡ c.args.limit = omega (arith, ints) in
+    inr (
+      not_below c.args.base.number c.args.limit c.args.plain _ c.is_plain_below.result c.requires.plain (rw l at c.is_plain_below.ensures.1)
+          c.if-is_plain_below.false,
+      if_first-append_right c.args.limit _ _ (Some c.in-Some-first_of_resource.leaf) (rw l at c.in-None.ensures.none)
+          (first-append_left c.args.limit _ _ c.in-Some-first_of_resource.leaf (rw l at c.in-Some-first_of_resource.ensures.first)),
+    )
+
+pub returns-in-None-first_of_resource-clause-first : goal.returns-in-None-first_of_resource-clause-first
+returns-in-None-first_of_resource-clause-first c =
     let l : to_z w64 (of_z w64 c.args.limit) ≡ c.args.limit = omega (arith, ints) in
     let plain : Leaf × ℤ = (Plain, c.args.base.number +ℤ pos (by_course (λ p. 1000 * p.worth) c.args.all.now.list.now)) in
     let not =
     not_below c.args.base.number c.args.limit c.args.plain _ c.is_plain_below.result c.requires.plain (rw l at c.is_plain_below.ensures.1)
     c.if-is_plain_below.false in
-    let none = rw l at c.in-None.ensures.none in
-    record {
-      first =
-          if_first-next c.args.limit plain _ c.first_after_money.result not
-          (if_first-append_right c.args.limit _ _ c.first_after_money.result none (rw l at c.first_after_money.ensures.first));
-      none =
-          if_none-next c.args.limit plain _ c.first_after_money.result not
-          (if_none-append c.args.limit _ _ c.first_after_money.result none (rw l at c.first_after_money.ensures.none));
-      tangents = search rules;
-    }
+    let last = c.first_of_resource-in-None-first_of_resource in
+    if_first-next c.args.limit plain _ last.result not
+    (if_first-append_right c.args.limit _ _ last.result (rw l at c.in-None.ensures.none)
+    (if_first-append_right c.args.limit _ _ last.result (rw l at c.in-None-first_of_resource.ensures.none) (rw l at last.ensures.first)))
+
+pub returns-in-None-first_of_resource-clause-none : goal.returns-in-None-first_of_resource-clause-none
+returns-in-None-first_of_resource-clause-none c =
+    let l : to_z w64 (of_z w64 c.args.limit) ≡ c.args.limit = omega (arith, ints) in
+    let plain : Leaf × ℤ = (Plain, c.args.base.number +ℤ pos (by_course (λ p. 1000 * p.worth) c.args.all.now.list.now)) in
+    let not =
+    not_below c.args.base.number c.args.limit c.args.plain _ c.is_plain_below.result c.requires.plain (rw l at c.is_plain_below.ensures.1)
+    c.if-is_plain_below.false in
+    let last = c.first_of_resource-in-None-first_of_resource in
+    if_none-next c.args.limit plain _ last.result not
+    (if_none-append c.args.limit _ _ last.result (rw l at c.in-None.ensures.none)
+    (if_none-append c.args.limit _ _ last.result (rw l at c.in-None-first_of_resource.ensures.none) (rw l at last.ensures.none)))

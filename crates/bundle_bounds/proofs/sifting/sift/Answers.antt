@@ -19,14 +19,14 @@ loop-index-init c =
       within = omega arith;
       space = omega arith;
       value = λ before others chosen_is opens all_are.
-          let offer = data_of c.args.chosen.now.offer.now in
+          let offer = data_of c.args.wider.now.chosen.offer.now in
           let size : length c.args.all.now.list.now ≡ length others = ap length all_are ∙ length-prospects offer before others in
           let left : drop (length c.args.all.now.list.now) others ≡ [] = ap (λ n. drop n others) size ∙ drop-length others in
-          none ∙ sym (ap (λ l. prospects offer c.args.chosen.now.places.now (filter (is_open offer c.args.chosen.now.places.now) l)) left);
+          none ∙ sym (ap (λ l. prospects offer c.args.wider.now.chosen.places.now (filter (is_open offer c.args.wider.now.chosen.places.now) l)) left);
       modest = subst (All IsModest) (sym none) (All-nil IsModest);
       on_menu =
-          subst (All (λ (other : Prospect). other.place < length c.args.chosen.now.offer.now.menu.now.places)) (sym none)
-          (All-nil (λ (other : Prospect). other.place < length c.args.chosen.now.offer.now.menu.now.places));
+          subst (All (λ (other : Prospect). other.place < length c.args.wider.now.chosen.offer.now.menu.now.places)) (sym none)
+          (All-nil (λ (other : Prospect). other.place < length c.args.wider.now.chosen.offer.now.menu.now.places));
     }
 
 pub loop-index-preserved : goal.loop-index-preserved
@@ -43,20 +43,20 @@ loop-index-preserved c =
       within = omega arith;
       space = omega arith;
       value = λ before others chosen_is opens all_are.
-          let offer = data_of c.args.chosen.now.offer.now in
+          let offer = data_of c.args.wider.now.chosen.offer.now in
           let split = split_here offer before others c.args.all.now.list.now (c.loop-index.index - 1) low all_are opens in
           let so_far = is.value before others chosen_is opens all_are in
           c.put_open-start.ensures.value before (drop ((c.loop-index.index - 1) + 1) others) (drop ((c.loop-index.index - 1) + 1) others)
           chosen_is split.opened split.one_is
-          (so_far ∙ ap (λ n. prospects offer c.args.chosen.now.places.now (filter (is_open offer c.args.chosen.now.places.now) (drop n others))) next)
-          ∙ ap (λ l. prospects offer c.args.chosen.now.places.now (filter (is_open offer c.args.chosen.now.places.now) l)) split.front;
+          (so_far ∙ ap (λ n. prospects offer c.args.wider.now.chosen.places.now (filter (is_open offer c.args.wider.now.chosen.places.now) (drop n others))) next)
+          ∙ ap (λ l. prospects offer c.args.wider.now.chosen.places.now (filter (is_open offer c.args.wider.now.chosen.places.now) l)) split.front;
       modest = c.put_open-start.ensures.modest;
       on_menu = c.put_open-start.ensures.on_menu;
     }
 
 pub returns-clause-value : goal.returns-clause-value
 returns-clause-value c = λ before others chosen_is opens all_are.
-    let offer = data_of c.args.chosen.now.offer.now in
+    let offer = data_of c.args.wider.now.chosen.offer.now in
     let none : c.loop-index.index ≡ 0 = omega arith in
     c.loop-index.invariant.value before others chosen_is opens all_are
-    ∙ ap (λ n. prospects offer c.args.chosen.now.places.now (filter (is_open offer c.args.chosen.now.places.now) (drop n others))) none
+    ∙ ap (λ n. prospects offer c.args.wider.now.chosen.places.now (filter (is_open offer c.args.wider.now.chosen.places.now) (drop n others))) none

@@ -13,11 +13,11 @@ invariant-loop-index l = record {
   whole : length l.room ≡ 60;
   within : l.start ≤ 60;
   space : 60 + l.index ≤ l.start + length l.all.list.now;
-  value : (before others : List ℕ) → l.chosen.places.now ≡ before ++ l.place ∷ []
-      → AllByRecursion (λ other. is_open (data_of l.chosen.offer.now) before other ≡ true) others
-      → l.all.list.now ≡ prospects (data_of l.chosen.offer.now) before others
+  value : (before others : List ℕ) → l.wider.chosen.places.now ≡ before ++ l.wider.last ∷ []
+      → AllByRecursion (λ other. is_open (data_of l.wider.chosen.offer.now) before other ≡ true) others
+      → l.all.list.now ≡ prospects (data_of l.wider.chosen.offer.now) before others
       → drop l.start l.room
-      ≡ prospects (data_of l.chosen.offer.now) l.chosen.places.now (filter (is_open (data_of l.chosen.offer.now) l.chosen.places.now) (drop l.index others));
+      ≡ prospects (data_of l.wider.chosen.offer.now) l.wider.chosen.places.now (filter (is_open (data_of l.wider.chosen.offer.now) l.wider.chosen.places.now) (drop l.index others));
   modest : All IsModest (drop l.start l.room);
-  on_menu : All (λ (other : Prospect). other.place < length l.chosen.offer.now.menu.now.places) (drop l.start l.room);
+  on_menu : All (λ (other : Prospect). other.place < length l.wider.chosen.offer.now.menu.now.places) (drop l.start l.room);
 }

@@ -146,15 +146,16 @@ places-preserved-then-falls_short t c =
           omega arith;
     }
 
-pub with_place-with_it-requires-clause-undecided : goal.with_place-with_it-requires-clause-undecided
-with_place-with_it-requires-clause-undecided t c =
-    next_later c.args.question.now c.requires.question c.args.summed.now c.requires.summed c.requires.node c.args.champion.now c.places.left c.places.champion
-    c.places.invariant.goes_on (search rules) (omega arith)
-
-pub with_place-with_it-requires-clause-on_menu : goal.with_place-with_it-requires-clause-on_menu
-with_place-with_it-requires-clause-on_menu t c =
-    next_on_menu c.args.question.now c.requires.question c.args.summed.now c.requires.summed c.requires.node c.args.champion.now c.places.left c.places.champion
-    c.places.invariant.goes_on (search rules) (omega arith)
+pub invariant_of-step : goal.invariant_of-step
+invariant_of-step t c = record {
+  summed_is = c.requires.summed;
+  undecided =
+      next_later c.args.question.now c.requires.question c.args.summed.now c.requires.summed c.requires.node c.args.champion.now c.places.left c.places.champion
+      c.places.invariant.goes_on (search rules) (omega arith);
+  on_menu =
+      next_on_menu c.args.question.now c.requires.question c.args.summed.now c.requires.summed c.requires.node c.args.champion.now c.places.left c.places.champion
+      c.places.invariant.goes_on (search rules) (omega arith);
+}
 
 pub below-requires : goal.below-requires
 below-requires t c =

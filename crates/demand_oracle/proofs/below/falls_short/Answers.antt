@@ -1,4 +1,4 @@
-use Rattle.std.proofs.Common.{◌≤◌, ◌+◌, ℕ, length, ap, sym, ◌∙◌, arith, rules, w64}
+use Rattle.std.proofs.Common.{◌≤◌, ◌+◌, ◌-◌, ℕ, length, refl, ap, sym, ◌∙◌, arith, rules, w64}
 use Rattle.std.specs.Prelude.{pos, ◌*ℤ◌, ◌<ℤ◌}
 use Rattle.std.specs.Int.{trailing_zeros}
 use Rattle.std.proofs.lemmas.Int.{ints}
@@ -8,7 +8,7 @@ use Rattle.bundle_bounds.proofs.Openings.{node_later}
 use Rattle.demand_oracle.specs.Questions.{offer_asked, wanted_in}
 use Rattle.demand_oracle.specs.Reaches.{number_at}
 use Rattle.demand_oracle.specs.SummedNodes.{chosen_of, with_place_of}
-use Rattle.demand_oracle.proofs.Columns.{hopes_with, room_for_one}
+use Rattle.demand_oracle.proofs.Columns.{column_with, hopes_with}
 use Rattle.demand_oracle.proofs.OpenPlaces.{next_open, pruned_at_next}
 use Rattle.demand_oracle.proofs.Pruning.{less_prunes}
 use Rattle.demand_oracle.proofs.below.falls_short.Goals as goal
@@ -21,12 +21,8 @@ added-added-requires c =
     let few : length c.args.question.now.offer.now.menu.now.places ≤ 60 = c.requires.question.menu.places.few in
     omega (arith, opened.on_menu)
 
-pub utility_with-utility-requires-clause-summed : goal.utility_with-utility-requires-clause-summed
-utility_with-utility-requires-clause-summed c = ((offer_asked c.args.question.now).price, c.requires.summed)
-
-pub utility_with-utility-requires-clause-room : goal.utility_with-utility-requires-clause-room
-utility_with-utility-requires-clause-room c =
-    room_for_one (offer_asked c.args.question.now) c.requires.question.menu (chosen_of c.args.summed.now) _ c.requires.node.takable
+pub invariant_of-step : goal.invariant_of-step
+invariant_of-step c = record { summed_is = c.requires.summed; undecided = c.requires.undecided; on_menu = c.requires.on_menu }
 
 pub hoped_with-hoped-requires-clause-chosen : goal.hoped_with-hoped-requires-clause-chosen
 hoped_with-hoped-requires-clause-chosen c i d low =
@@ -58,6 +54,12 @@ returns c yes_ =
     let chosen = with_place_of menu summed place in
     let champion = chosen_of c.args.champion.now in
     let next : ℕ = trailing_zeros w64 c.args.apart in
+    let goods = c.requires.question.goods in
+    let is_column =
+    column_with offer c.requires.question.menu summed c.requires.summed place c.requires.undecided c.requires.on_menu
+    question.reach.now c.column_with-column.result _ _ _ c.requires.node.takable refl
+    (ap (λ n. (offer.budget - summed.paid) - n) (goods.prices place c.requires.on_menu))
+    (ap (λ n. (offer.menu.credits - summed.credits) - n) (goods.credits place c.requires.on_menu)) c.column_with-column.ensures in
     let opened = next_open offer c.requires.question.menu (place + 1) chosen c.args.apart (search rules) (omega arith) c.requires.word in
     let on : next ≤ length menu.places = omega (arith, opened.on_menu) in
     let node = node_later offer (place + 1) next chosen opened.undecided c.requires.node in
@@ -70,7 +72,7 @@ returns c yes_ =
     record {
       is_added =
           c.added-added.ensures.value offer chosen c.requires.question.menu on c.requires.question.reach
-          c.column_with-column.ensures node;
+          is_column node;
       hopes_are =
           c.hoped_with-hoped.ensures
           ∙ ap (λ cs. total (number_at question.reach.now.hopes next) cs + number_at question.reach.now.hopes next place)

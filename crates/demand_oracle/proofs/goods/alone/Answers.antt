@@ -1,4 +1,4 @@
-use Rattle.std.proofs.Common.{◌++◌, ◌∷◌, [], sym, subst}
+use Rattle.std.proofs.Common.{◌++◌, ◌∷◌, [], sym, subst, arith, rules}
 use Rattle.bundle_rules.specs.Demand.{price_in}
 use Rattle.bundle_rules.specs.Menus.{section_at}
 use Rattle.bundle_bounds.specs.Laws.{IsTakable}
@@ -7,8 +7,12 @@ use Rattle.demand_oracle.specs.OpenWords.{IsAlone}
 use Rattle.demand_oracle.proofs.Rows.{word_more}
 use Rattle.demand_oracle.proofs.goods.alone.Goals as goal
 
-pub may_take-is_takable-requires-clause-summed : goal.may_take-is_takable-requires-clause-summed
-may_take-is_takable-requires-clause-summed c = c.root-root.ensures.summed c.args.offer.now.menu.now (price_in c.args.offer.now.prices.now)
+pub invariant_of-step : goal.invariant_of-step
+invariant_of-step c = record {
+  summed_is = c.root-root.ensures.summed c.args.offer.now.menu.now (price_in c.args.offer.now.prices.now);
+  undecided = omega (arith, c.root-root.ensures.place);
+  on_menu = search rules;
+}
 
 pub loop-place-preserved : goal.loop-place-preserved
 loop-place-preserved c =

@@ -16,8 +16,12 @@ returns-then-place-len-clause-none c some =
     place_of_rated c.args.offer.now.menu.now some.0 some.1.feasible.rated c.args.section.0 some.2 in
     omega (arith, c.if-place-len.true, c.place-place.ensures.value, c.len.ensures.value)
 
-pub may_take-requires-clause-summed : goal.may_take-requires-clause-summed
-may_take-requires-clause-summed c = c.root.ensures.summed c.args.offer.now.menu.now (price_in c.args.offer.now.prices.now)
+pub invariant_of-step : goal.invariant_of-step
+invariant_of-step c = record {
+  summed_is = c.root-root.ensures.summed c.args.offer.now.menu.now (price_in c.args.offer.now.prices.now);
+  undecided = omega (arith, c.root-root.ensures.place);
+  on_menu = omega (arith, c.if-place-len.false, c.len.ensures.value);
+}
 
 pub returns-then-not-may_take-clause-none : goal.returns-then-not-may_take-clause-none
 returns-then-not-may_take-clause-none c some =
@@ -29,7 +33,7 @@ returns-then-not-may_take-clause-none c some =
     ap (section_at menu.places) c.place-place.ensures.value ∙ section_at-place_in menu.places s low in
     let alone : IsTakable offer (s ∷ []) =
     (best_with_a_section menu (price_in c.args.offer.now.prices.now) c.args.offer.now.budget.0 (set.contains c.args.offer.now.allowed.now) s).alone.0 some in
-    let chosen = ap (λ l. l ++ section_at menu.places c.place-place.result ∷ []) c.root.ensures.chosen ∙ ap (λ t. t ∷ []) same in
+    let chosen = ap (λ l. l ++ section_at menu.places c.place-place.result ∷ []) c.root-root.ensures.chosen ∙ ap (λ t. t ∷ []) same in
     true≢false (sym (c.may_take.ensures.takable.1 (subst (IsTakable offer) (sym chosen) alone)) ∙ c.if-not-may_take.true)
 
 pub returns-clause-place : goal.returns-clause-place
@@ -42,5 +46,5 @@ returns-clause-place c =
 pub returns-clause-alone : goal.returns-clause-alone
 returns-clause-alone c =
     let offer = data_of c.args.offer.now in
-    subst (λ chosen. IsTakable offer (chosen ++ section_at c.args.offer.now.menu.now.places c.place-place.result ∷ [])) c.root.ensures.chosen
+    subst (λ chosen. IsTakable offer (chosen ++ section_at c.args.offer.now.menu.now.places c.place-place.result ∷ [])) c.root-root.ensures.chosen
     (c.may_take.ensures.takable.0 c.if-not-may_take.false)

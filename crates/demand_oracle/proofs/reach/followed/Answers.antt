@@ -1,13 +1,20 @@
-use Rattle.std.proofs.Common.{sym}
+use Rattle.std.proofs.Common.{subst, sym}
 use Rattle.bundle_bounds.specs.Views.{data_of}
-use Rattle.demand_oracle.specs.SummedNodes.{chosen_of}
-use Rattle.bundle_bounds.proofs.Openings.{node_later, node_same, node_with}
+use Rattle.bundle_bounds.specs.Laws.{IsTakable}
 use Rattle.demand_oracle.proofs.reach.followed.Goals as goal
 
-pub returns-clause-node : goal.returns-clause-node
-returns-clause-node c =
-    let offer = data_of c.args.offer.now in
-    node_same offer _ _ _ _ (sym c.with_place.ensures.place) (sym c.with_place.ensures.chosen)
-    (node_with offer c.args.place (chosen_of c.args.summed) c.len.ensures.menu c.requires.on_menu
-    (node_later offer c.args.summed.node.place c.args.place (chosen_of c.args.summed) c.requires.undecided c.requires.node)
-    (c.may_take.ensures.takable.0 c.if-not-may_take.false))
+pub returns-then-not-is_wanted-clause-champion : goal.returns-then-not-is_wanted-clause-champion
+returns-then-not-is_wanted-clause-champion c = record { takable = c.requires; sums = c.args.step.now.summed_is }
+
+pub may_take-requires : goal.may_take-requires
+may_take-requires c = record { takable = c.requires; decided = c.args.step.now.summed_is.decided }
+
+pub returns-then-not-may_take-clause-champion : goal.returns-then-not-may_take-clause-champion
+returns-then-not-may_take-clause-champion c = record { takable = c.requires; sums = c.args.step.now.summed_is }
+
+pub returns-clause-champion : goal.returns-clause-champion
+returns-clause-champion c = record {
+  takable =
+      subst (IsTakable (data_of c.args.step.now.offer.now)) (sym c.with_place.ensures.chosen) (c.may_take.ensures.takable.0 c.if-not-may_take.false);
+  sums = c.with_place.ensures.summed;
+}

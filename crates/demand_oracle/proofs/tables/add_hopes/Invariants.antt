@@ -7,6 +7,6 @@ use Rattle.demand_oracle.proofs.tables.add_hopes.Given as goal
 abbrev pub invariant-loop-earlier : goal.invariant-loop-earlier
 invariant-loop-earlier l = record {
   whole : length l.hopes ≡ 60;
-  filled : (one : ℕ) → one < l.earlier → slice_index l.hopes one ≡ slice_index l.initial.hopes one + above_zero (adjustment_in l.offer.menu.now.pairs one l.place);
+  filled : (one : ℕ) → one < l.earlier → slice_index l.hopes one ≡ slice_index l.initial.hopes one + above_zero (adjustment_in l.spot.offer.now.menu.now.pairs one l.spot.place);
   rest : (one : ℕ) → l.earlier ≤ one → slice_index l.hopes one ≡ slice_index l.initial.hopes one;
 }

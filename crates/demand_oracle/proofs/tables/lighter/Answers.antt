@@ -9,11 +9,11 @@ pub returns-then-not-has-clause-lightest : goal.returns-then-not-has-clause-ligh
 returns-then-not-has-clause-lightest c on =
     absurd
     (true≢false
-    (sym on ∙ allowed_read c.args.offer.now.menu.now c.args.offer.now.prices.now c.args.offer.now.budget.0 c.args.offer.now.allowed.now c.args.place c.rated-rated.result.now c.rated-rated.ensures.value
+    (sym on ∙ allowed_read c.args.spot.now.offer.now.menu.now c.args.spot.now.offer.now.prices.now c.args.spot.now.offer.now.budget.0 c.args.spot.now.offer.now.allowed.now c.args.spot.now.place c.rated-rated.result.now c.rated-rated.ensures.value
     ∙ sym c.has.ensures ∙ c.if-not-has.true))
 
 pub returns-clause-lightest : goal.returns-clause-lightest
 returns-clause-lightest c on =
-    let is : credits_at c.args.offer.now.menu.now.places c.args.place ≡ c.rated-rated.result.now.credits =
-    credits_at-is c.args.offer.now.menu.now.places c.args.place c.rated-rated.result.now c.rated-rated.ensures.value in
+    let is : credits_at c.args.spot.now.offer.now.menu.now.places c.args.spot.now.place ≡ c.rated-rated.result.now.credits =
+    credits_at-is c.args.spot.now.offer.now.menu.now.places c.args.spot.now.place c.rated-rated.result.now c.rated-rated.ensures.value in
     omega arith

@@ -7,45 +7,45 @@ use Rattle.demand_oracle.proofs.tables.put_place.Goals as goal
 
 pub returns-then-not-has-clause-covers : goal.returns-then-not-has-clause-covers
 returns-then-not-has-clause-covers c is holds =
-    let menu = c.args.offer.now.menu.now in
-    let offer = data_of c.args.offer.now in
-    let k = c.args.place in
+    let menu = c.args.spot.now.offer.now.menu.now in
+    let offer = data_of c.args.spot.now.offer.now in
+    let k = c.args.spot.now.place in
     let off =
-    allowed_read menu c.args.offer.now.prices.now c.args.offer.now.budget.0 c.args.offer.now.allowed.now k c.rated.result.now c.rated.ensures.value ∙ sym c.has.ensures ∙ c.if-not-has.true in
+    allowed_read menu c.args.spot.now.offer.now.prices.now c.args.spot.now.offer.now.budget.0 c.args.spot.now.offer.now.allowed.now k c.rated.result.now c.rated.ensures.value ∙ sym c.has.ensures ∙ c.if-not-has.true in
     let placed = subst (λ n. IsPlaced n 0 64 k (k + 1) c.args.most.now c.put_counts.new.most) c.courses-courses.ensures c.put_counts.ensures in
-    covers_not_placed offer c.args.multipliers c.args.shift k (k + 1) 0 64 c.args.most.now c.put_counts.new.most c.requires.menu.caps.courses_cap
-    c.requires.place placed off (omega arith) holds
+    covers_not_placed offer c.args.multipliers c.args.shift k (k + 1) 0 64 c.args.most.now c.put_counts.new.most c.len.ensures.menu.caps.courses_cap
+    c.args.spot.now.on_menu placed off (omega arith) holds
 
 pub returns-then-not-has-clause-small : goal.returns-then-not-has-clause-small
 returns-then-not-has-clause-small c =
-    let menu = c.args.offer.now.menu.now in
-    let k = c.args.place in
+    let menu = c.args.spot.now.offer.now.menu.now in
+    let k = c.args.spot.now.place in
     let placed = subst (λ n. IsPlaced n 0 64 k (k + 1) c.args.most.now c.put_counts.new.most) c.courses-courses.ensures c.put_counts.ensures in
-    small_placed menu.courses 0 64 k (k + 1) (length menu.places) c.args.most.now c.put_counts.new.most c.requires.menu.caps.courses_cap (omega arith)
-    c.requires.place (omega arith) (omega arith) placed c.requires.small
+    small_placed menu.courses 0 64 k (k + 1) (length menu.places) c.args.most.now c.put_counts.new.most c.len.ensures.menu.caps.courses_cap (omega arith)
+    c.args.spot.now.on_menu (omega arith) (omega arith) placed c.requires.small
 
 pub returns-clause-covers : goal.returns-clause-covers
 returns-clause-covers c is holds =
-    let menu = c.args.offer.now.menu.now in
-    let offer = data_of c.args.offer.now in
-    let k = c.args.place in
+    let menu = c.args.spot.now.offer.now.menu.now in
+    let offer = data_of c.args.spot.now.offer.now in
+    let k = c.args.spot.now.place in
     let v = c.thousandths-value.result in
     let cost = c.in_units-cost.result in
     let next = c.next_apart-next.result in
     let placed = subst (λ n. IsPlaced n v cost k next c.args.most.now c.put_counts-2.new.most) c.courses-courses.ensures c.put_counts-2.ensures in
     let high = subst (λ n. n ≤ 1000 * v) (c.value_at.ensures.value is) c.thousandths-value.ensures.value in
     let costs = c.in_units-cost.ensures ∙ ap (λ n. n / 2 ^ c.args.shift) c.price_of_place.ensures.value in
-    covers_placed offer c.args.multipliers c.args.shift k next v cost c.args.most.now c.put_counts-2.new.most c.requires.menu.caps.courses_cap c.requires.place
+    covers_placed offer c.args.multipliers c.args.shift k next v cost c.args.most.now c.put_counts-2.new.most c.len.ensures.menu.caps.courses_cap c.args.spot.now.on_menu
     c.next_apart-next.ensures.within c.next_apart-next.ensures.from placed
     c.next_apart-next.ensures.between high costs holds
 
 pub returns-clause-small : goal.returns-clause-small
 returns-clause-small c =
-    let menu = c.args.offer.now.menu.now in
-    let k = c.args.place in
+    let menu = c.args.spot.now.offer.now.menu.now in
+    let k = c.args.spot.now.place in
     let v = c.thousandths-value.result in
     let cost = c.in_units-cost.result in
     let next = c.next_apart-next.result in
     let placed = subst (λ n. IsPlaced n v cost k next c.args.most.now c.put_counts-2.new.most) c.courses-courses.ensures c.put_counts-2.ensures in
-    small_placed menu.courses v cost k next (length menu.places) c.args.most.now c.put_counts-2.new.most c.requires.menu.caps.courses_cap
-    c.thousandths-value.ensures.high c.requires.place c.next_apart-next.ensures.from c.next_apart-next.ensures.within placed c.requires.small
+    small_placed menu.courses v cost k next (length menu.places) c.args.most.now c.put_counts-2.new.most c.len.ensures.menu.caps.courses_cap
+    c.thousandths-value.ensures.high c.args.spot.now.on_menu c.next_apart-next.ensures.from c.next_apart-next.ensures.within placed c.requires.small

@@ -7,11 +7,11 @@ use Rattle.demand_oracle.proofs.tables.value_at.Goals as goal
 
 pub returns-clause-value : goal.returns-clause-value
 returns-clause-value c is =
-    let menu = c.args.offer.now.menu.now in
-    let offer = data_of c.args.offer.now in
-    let rating : c.from.result ≡ rating_at menu.places c.args.place =
-    c.from.ensures ∙ sym (rating_at-is menu.places c.args.place c.rated-rated.result.now c.rated-rated.ensures.value) in
-    let credits : c.from-4.result ≡ credits_at menu.places c.args.place =
-    c.from-4.ensures ∙ sym (credits_at-is menu.places c.args.place c.rated-rated.result.now c.rated-rated.ensures.value) in
-    let price : c.from-3.result ≡ price_at offer c.args.place = c.from-3.ensures ∙ c.price_of_place.ensures.value in
+    let menu = c.args.spot.now.offer.now.menu.now in
+    let offer = data_of c.args.spot.now.offer.now in
+    let rating : c.from.result ≡ rating_at menu.places c.args.spot.now.place =
+    c.from.ensures ∙ sym (rating_at-is menu.places c.args.spot.now.place c.rated-rated.result.now c.rated-rated.ensures.value) in
+    let credits : c.from-4.result ≡ credits_at menu.places c.args.spot.now.place =
+    c.from-4.ensures ∙ sym (credits_at-is menu.places c.args.spot.now.place c.rated-rated.result.now c.rated-rated.ensures.value) in
+    let price : c.from-3.result ≡ price_at offer c.args.spot.now.place = c.from-3.ensures ∙ c.price_of_place-cost.ensures.value in
     c.saturating_sub.ensures ∙ rw (rating, c.from-2.ensures, is, price, credits) refl

@@ -7,7 +7,7 @@ use Rattle.bundle_bounds.specs.Ahead.{limit_of}
 use Rattle.bundle_bounds.specs.Courses.{by_course}
 use Rattle.bundle_bounds.specs.Offers.{places_of}
 use Rattle.bundle_bounds.proofs.BelowLimit.{rest_of_room}
-use Rattle.bundle_bounds.proofs.StemSteps.{not_ahead, plain_sum_is, no_tangents}
+use Rattle.bundle_bounds.proofs.StemSteps.{not_ahead, no_tangents}
 use Rattle.bundle_bounds.proofs.stems.Stem.root.Goals as goal
 
 pub returns : goal.returns
@@ -19,7 +19,7 @@ returns c =
     let are = c.rests_of-rests.ensures in
     let whole : length c.collect-start.new.room ≡ 60 = search rules in
     let room = rest_of_room c.collect-start.new.room c.collect-start.result whole in
-    let high : c.at_price-plain.result ≤ 20000000 * 0 + 20000000 * 60 = c.at_price-plain.ensures.high in
+    let high : c.plain_sum-plain.result ≤ 20000000 * 0 + 20000000 * 60 = c.plain_sum-plain.ensures.high in
     record {
       has_chosen = record {
         champion_is = c.of.ensures;
@@ -43,7 +43,7 @@ returns c =
         modest = c.collect-start.ensures.modest;
         on_menu = c.collect-start.ensures.on_menu;
         plain_is =
-            c.at_price-plain.ensures.value ∙ plain_sum_is (take (60 - c.collect-start.result) (drop c.collect-start.result c.collect-start.new.room))
+            c.plain_sum-plain.ensures.value
             ∙ ap (by_course (λ p. 1000 * p.worth)) room;
         small = omega arith;
         tangents_are = no_tangents _ _ _ _ c.none.result c.none.ensures.money c.none.ensures.credits c.none.ensures.courses;

@@ -16,7 +16,7 @@ use Rattle.bundle_bounds.specs.Views.{data_of}
 use Rattle.bundle_bounds.proofs.BelowLimit.{few_of_room, rest_of_room}
 use Rattle.bundle_bounds.proofs.Steps.{no_prospect}
 use Rattle.bundle_bounds.proofs.StayingOpen.{opens_all}
-use Rattle.bundle_bounds.proofs.StemSteps.{kept_first, kept_some, kept_later, first_here, no_tangents, plain_sum_is, tail_all}
+use Rattle.bundle_bounds.proofs.StemSteps.{kept_first, kept_some, kept_later, first_here, no_tangents, tail_all}
 use Rattle.bundle_bounds.proofs.StemTaken.{before_on_menu, few_next, next_on_menu, chosen_next, chosen_taken, kept_taken, places_next, rests_taken}
 use Rattle.bundle_bounds.proofs.stems.Stem.take.Goals as goal
 
@@ -66,8 +66,8 @@ invariant_of-later c =
       few = few_of_room c.args.self.now.room (c.args.self.now.start + 1) c.requires.stem.keeps.whole;
     }
 
-pub sift-start-requires-clause-all_on_menu : goal.sift-start-requires-clause-all_on_menu
-sift-start-requires-clause-all_on_menu c =
+pub sift-start-requires : goal.sift-start-requires
+sift-start-requires c =
     subst (All (λ (p : Prospect). p.place < length c.args.offer.now.menu.now.places))
     (sym (rest_of_room c.args.self.now.room (c.args.self.now.start + 1) c.requires.stem.keeps.whole))
     (tail_all (λ (p : Prospect). p.place < length c.args.offer.now.menu.now.places) c.args.self.now.room c.args.self.now.start c.requires.stem.keeps.on_menu)
@@ -153,9 +153,9 @@ returns c =
         modest = c.sift-start.ensures.modest;
         on_menu = c.sift-start.ensures.on_menu;
         plain_is =
-            c.at_price-plain.ensures.value ∙ plain_sum_is (take (60 - c.sift-start.result) (drop c.sift-start.result c.sift-start.new.room))
+            c.plain_sum-plain.ensures.value
             ∙ ap (by_course (λ p. 1000 * p.worth)) (rest_of_room c.sift-start.new.room c.sift-start.result size);
-        small = c.at_price-plain.ensures.high;
+        small = c.plain_sum-plain.ensures.high;
         tangents_are = no_tangents _ _ _ _ c.none-below.result c.none-below.ensures.money c.none-below.ensures.credits c.none-below.ensures.courses;
       };
       quiet = λ yes. absurd (false≢true yes);

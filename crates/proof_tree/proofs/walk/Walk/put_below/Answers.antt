@@ -42,7 +42,7 @@ returns-in-Forced-clause-may_wait c =
       few = few_more c.args.self.now.count c.put.new.self.count c.requires.few c.put.ensures.count;
       nodes =
           subst (MayWait offer) (sym c.put.ensures.waiting)
-          (wait_with offer visit.node (waiting_of c.args.self.now) c.requires.waits sign.0.left c.with_next.ensures.menu c.with_next.result
+          (wait_with offer visit.node (waiting_of c.args.self.now) c.requires.waits sign.0.left c.len.ensures.menu c.with_next.result
           (waiting_of c.args.self.now) c.with_next.ensures.place c.with_next.ensures.chosen
           (open_where_forced offer visit.claim.required (champions_places visit.claim) visit.node.place (chosen_at visit) sign)
           (omega arith) c.requires.waits.3);
@@ -55,7 +55,7 @@ returns-in-Forced-clause-below c =
     let sign = subst (IsSignAt visit) c.in-Forced.is c.requires.sign in
     rw (c.in-Forced.is, c.put.ensures.waiting)
     (ap (λ s. s ∷ spots_of offer.menu (waiting_of c.args.self.now))
-    (spot_with offer visit.node (waiting_of c.args.self.now) c.requires.waits sign.0.left c.with_next.ensures.menu c.with_next.result
+    (spot_with offer visit.node (waiting_of c.args.self.now) c.requires.waits sign.0.left c.len.ensures.menu c.with_next.result
     c.with_next.ensures.place c.with_next.ensures.chosen))
 
 pub returns-in-Open-clause-may_wait : goal.returns-in-Open-clause-may_wait
@@ -69,7 +69,7 @@ returns-in-Open-clause-may_wait c =
     let after =
     wait_without offer visit.node under c.requires.waits sign.0.left c.without_next.result c.without_next.ensures.place c.without_next.ensures.chosen in
     let both =
-    wait_with offer visit.node under c.requires.waits sign.0.left c.with_next-in-Open.ensures.menu c.with_next-in-Open.result others
+    wait_with offer visit.node under c.requires.waits sign.0.left c.len.ensures.menu c.with_next-in-Open.result others
     c.with_next-in-Open.ensures.place c.with_next-in-Open.ensures.chosen sign.2 (one_more _ _ few) after in
     record {
       few =
@@ -87,7 +87,7 @@ returns-in-Open-clause-below c =
     let under = waiting_of c.args.self.now in
     let sign = subst (IsSignAt visit) c.in-Open.is c.requires.sign in
     let first =
-    spot_with offer visit.node under c.requires.waits sign.0.left c.with_next-in-Open.ensures.menu c.with_next-in-Open.result
+    spot_with offer visit.node under c.requires.waits sign.0.left c.len.ensures.menu c.with_next-in-Open.result
     c.with_next-in-Open.ensures.place c.with_next-in-Open.ensures.chosen in
     let second =
     spot_without offer visit.node under c.requires.waits sign.0.left c.without_next.result c.without_next.ensures.place c.without_next.ensures.chosen in
