@@ -1,14 +1,14 @@
 // How many students hold each section, and which sections are free.
 ghost use Rattle.std.specs.Prelude.{◌≡◌, ◌<◌, ◌≤◌, ◌||◌, ℕ, IfOk, All, length, map, nat_lt, slice_index, if◌then◌else◌};
 ghost use Rattle.std.specs.FinSet as set;
-ghost use Rattle.market_units.specs.Members.{has};
+ghost use Rattle.market_units.specs.{Members.has, declared.limits.TheConstants.MAX_SECTIONS};
 ghost use Rattle.bundle_rules.specs.{Bundles.sections_of, Ordinals.ordinals};
 ghost use Rattle.demand_api.specs.Counting.{AreCounts};
 ghost use Rattle.held_seats.specs.Floors.{AreBelow};
 
 use bundle_rules::Bundle;
 use demand_api::count_bundle;
-use market_units::{MAX_SECTIONS, MAX_STUDENTS, NoMemory, SectionNo, SectionSet};
+use market_units::{MAX_STUDENTS, NoMemory, SectionNo, SectionSet};
 use std::alloc::Global;
 
 /// How many of these bundles have each section, by ordinal. The only error is that memory was
@@ -30,13 +30,23 @@ pub(crate) fn count_all(
     Ok(counts)
 }
 
+/// How many students hold each section, and how many seats it has, by ordinal. There are at most
+/// 400 sections.
+#[derive(Clone, Copy)]
+pub(crate) struct Filled<'a> {
+    pub(crate) counts: &'a [u32],
+    pub(crate) seats: &'a [u16],
+    ghost few: { length seats.now ≤ MAX_SECTIONS },
+    ghost same: { length counts.now ≡ length seats.now },
+}
+
 /// The sections that have a free seat: fewer students hold them than they have seats.
-pub(crate) fn free_sections(counts: &[u32], seats: &[u16]) -> SectionSet
-    requires few { length seats.now ≤ MAX_SECTIONS }
-    requires same { length counts.now ≡ length seats.now }
+pub(crate) fn free_sections(filled: &Filled) -> SectionSet
     ensures { (s : ℕ)
-        → set.contains result s ≡ nat_lt (slice_index counts.now s) (slice_index seats.now s) }
+        → set.contains result s
+        ≡ nat_lt (slice_index filled.now.counts.now s) (slice_index filled.now.seats.now s) }
 {
+    let Filled { counts, seats } = *filled;
     let mut free = SectionSet::empty();
     for place in 0..seats.len() {
         if counts[place] < u32::from(seats[place]) {
@@ -48,26 +58,20 @@ pub(crate) fn free_sections(counts: &[u32], seats: &[u16]) -> SectionSet
 
 /// The sections with a free seat, where only the counts of the listed sections have changed since
 /// the given set was right. The other sections are taken over from the set.
-pub(crate) fn freed(
-    free: SectionSet,
-    counts: &[u32],
-    seats: &[u16],
-    sections: &[SectionNo],
-) -> SectionSet
-    requires few { length seats.now ≤ MAX_SECTIONS }
-    requires same { length counts.now ≡ length seats.now }
-    requires range { All (λ section. section.0 < length seats.now) sections.now }
+pub(crate) fn freed(free: SectionSet, filled: &Filled, sections: &[SectionNo]) -> SectionSet
+    requires { All (λ section. section.0 < length filled.now.seats.now) sections.now }
     ensures { (s : ℕ)
         → set.contains result s
         ≡ (if has (ordinals sections.now) s
-        then nat_lt (slice_index counts.now s) (slice_index seats.now s)
+        then nat_lt (slice_index filled.now.counts.now s) (slice_index filled.now.seats.now s)
         else set.contains free s) }
 {
     match sections {
         [] => free,
         [section, more @ ..] => {
-            let rest = freed(free, counts, seats, more);
+            let rest = freed(free, filled, more);
             let place = usize::from(section.0);
+            let Filled { counts, seats } = *filled;
             if counts[place] < u32::from(seats[place]) {
                 rest.with(*section)
             } else {

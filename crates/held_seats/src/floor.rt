@@ -6,7 +6,7 @@ ghost use Rattle.bundle_rules.specs.Bundles.{sections_of};
 ghost use Rattle.held_seats.specs.Choices.{may_choose};
 ghost use Rattle.held_seats.specs.Floors.{AreBelow, IsFloor, held_on};
 
-use crate::counts::{count_all, free_sections, freed, with_all};
+use crate::counts::{Filled, count_all, free_sections, freed, with_all};
 use bundle_rules::Bundle;
 use demand_api::{count_bundle, uncount_bundle};
 use market_units::{MAX_SECTIONS, MAX_STUDENTS, NoMemory, SectionSet};
@@ -34,7 +34,11 @@ impl Floor {
         ensures floor { IfOk result (λ floor. IsFloor seats.now floor) }
     {
         let used = count_all(alloc, seats.len(), bundles)?;
-        let free = free_sections(&used, seats);
+        let filled = Filled {
+            counts: &used,
+            seats,
+        };
+        let free = free_sections(&filled);
         Ok(Floor {
             held: bundles.to_vec(alloc)?,
             used,
@@ -74,8 +78,12 @@ impl Floor {
         }
         uncount_bundle(&mut self.used, before.sections());
         count_bundle(&mut self.used, bundle.sections());
-        let free = freed(self.free, &self.used, seats, before.sections());
-        self.free = freed(free, &self.used, seats, bundle.sections());
+        let filled = Filled {
+            counts: &self.used,
+            seats,
+        };
+        let free = freed(self.free, &filled, before.sections());
+        self.free = freed(free, &filled, bundle.sections());
         self.held[place] = bundle;
         true
     }

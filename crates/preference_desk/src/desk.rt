@@ -59,20 +59,9 @@ impl Desk {
         let students = students_of(alloc, roll)?;
         let sections = sections_of(alloc, catalog)?;
         let names = names_in_limits(catalog, roll, students, sections);
-        Desk::open(alloc, names, roll.len(), lines)
-    }
-
-    // An open desk, without entries, for these names.
-    fn open(alloc: Global, names: Names, students: u16, lines: u32) -> Result<Desk, NoMemory>
-        requires { students ≡ length (names_in names).students }
-        ensures names { IfOk result (λ desk. names_of desk ≡ names_in names) }
-        ensures state { IfOk result (λ desk. state_of desk ≡ opening (names_in names)) }
-        ensures entries { IfOk result (λ desk. entries_of desk ≡ []) }
-        ensures room { IfOk result (λ desk. room_of desk ≡ lines) }
-    {
         Ok(Desk {
             names,
-            preferences: Preferences::new(alloc, students)?,
+            preferences: Preferences::new(alloc, roll.len())?,
             closed: false,
             journal: Vec::with_capacity(alloc, lines as usize)?,
             lines,

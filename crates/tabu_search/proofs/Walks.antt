@@ -1,5 +1,5 @@
 -- What a search keeps, turn by turn.
-use Rattle.std.proofs.Common.{ℕ, ◌+◌, ◌%◌, ◌<◌, ◌≤◌, ◌≡◌, ◌∙◌, ◌++◌, ◌∷◌, [], Bool, false, List, map, refl, sym, ap, subst, inl, inr, arith}
+use Rattle.std.proofs.Common.{ℕ, ◌+◌, ◌%◌, ◌<◌, ◌≤◌, ◌≡◌, ◌∙◌, ◌++◌, ◌∷◌, [], Bool, false, List, length, map, refl, sym, ap, subst, inl, inr, arith}
 use Rattle.std.specs.Prelude.{if◌then◌else◌, nat_lt, nat_le, filter, Result, Ok, Err, IfOk, Some, None}
 use Rattle.std.specs.List.{range_with_len}
 use Rattle.std.proofs.lemmas.Bool.{cases_lt}
@@ -32,15 +32,17 @@ drawn_is crowd seed restart sections high prices same at_top is =
 
 module _ (crowd : CrowdData) (seats : List ℕ) (settings : Settings) where
   -- before the first turn
-  pub walk_begins : (walk : Walk) → IsCrowd crowd → IsVisit crowd seats walk.current → walk.current.prices.items ≡ zero_prices crowd
-      → walk.best.prices.items ≡ walk.current.prices.items → walk.best.error ≡ walk.current.error → walk.stale ≡ 0 → walk.restarts ≡ 0 → walk.turns ≡ 0
+  pub walk_begins : (walk : Walk) → IsCrowd crowd → length seats ≡ crowd.sections → IsVisit crowd seats walk.current
+      → walk.current.prices.items ≡ zero_prices crowd → walk.best.prices.items ≡ walk.current.prices.items
+      → walk.best.error ≡ walk.current.error → walk.stale ≡ 0 → walk.restarts ≡ 0 → walk.turns ≡ 0
       → counts_in walk ≡ last_of settings.tabu (walk.current.counts.items ∷ []) → walk.window.capacity ≡ settings.tabu → walk.top.0 ≡ top crowd
       → IsWalk crowd seats settings walk
-  walk_begins walk known visit zero best least stale restarts turns window capacity high =
+  walk_begins walk known seated visit zero best least stale restarts turns window capacity high =
       let at : after_turns crowd seats settings walk.turns ≡ record { visited = zero_prices crowd ∷ []; current = zero_prices crowd; stale = 0; restarts = 0 } =
       ap (after_turns crowd seats settings) turns ∙ turns_zero crowd seats settings in
       record {
         known = known;
+        seated = seated;
         visit = visit;
         current = zero ∙ sym (ap (λ (v : Visits). v.current) at);
         best =
@@ -95,6 +97,7 @@ module _ (crowd : CrowdData) (seats : List ℕ) (settings : Settings) where
         ap (after_turns crowd seats settings) entered.turns ∙ turns_more crowd seats settings before.turns ∙ turn in
         record {
           known = is.known;
+          seated = is.seated;
           visit = subst (IsVisit crowd seats) (sym entered.current) is_visit;
           current = ap (λ (v : Visit). v.prices.items) entered.current ∙ sym current ∙ sym (ap (λ (v : Visits). v.current) at);
           best = ap (λ (v : Visits). first_of_least crowd seats v.visited) at ∙ ap (first_of_least crowd seats) visited ∙ best_then;

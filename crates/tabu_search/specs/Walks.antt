@@ -1,5 +1,5 @@
 -- What a search keeps after its turns.
-use Rattle.std.specs.Prelude.{ℕ, ◌<◌, ◌≤◌, ◌≡◌, ◌+◌, Bool, not, nat_eq, List, [], ◌∷◌, ◌++◌, map, Option, Some, None}
+use Rattle.std.specs.Prelude.{ℕ, ◌<◌, ◌≤◌, ◌≡◌, ◌+◌, Bool, not, nat_eq, List, [], ◌∷◌, ◌++◌, length, map, Option, Some, None}
 use Rattle.std.specs.List.{list_any}
 use Rattle.std.specs.Cmp.Lexicographic.{pointwise}
 use Rattle.market_units.specs.declared.units.Tokens.{Tokens}
@@ -8,13 +8,20 @@ use Rattle.demand_api.specs.Asking.{ArePricesFor}
 use Rattle.market_settings.specs.declared.reader.Settings.{Settings}
 use Rattle.tabu_search.specs.declared.visiting.Visit.{Visit}
 use Rattle.tabu_search.specs.declared.walking.Walk.{Walk}
-use Rattle.tabu_search.specs.Visits.{counts_at, error_at, first_of_least, last_of, after_turns}
+use Rattle.tabu_search.specs.Visits.{counts_at, error_at, first_of_least, last_of, after_turns, zero_prices}
 
 -- prices of the crowd, with the counts and the error at them
 pub record IsVisit (crowd : CrowdData) (seats : List ℕ) (visit : Visit) : Type 0 where
   pub prices : ArePricesFor crowd visit.prices.items
   pub counts : visit.counts.items ≡ counts_at crowd visit.prices.items
   pub error : visit.error ≡ error_at crowd seats visit.prices.items
+
+-- a visit from which the search of a crowd may start: to the price 0 for each section
+pub record IsStart (crowd : CrowdData) (seats : List ℕ) (visit : Visit) : Type 0 where
+  pub known : IsCrowd crowd
+  pub seated : length seats ≡ crowd.sections
+  pub is : IsVisit crowd seats visit
+  pub zero : visit.prices.items ≡ zero_prices crowd
 
 -- the counts at the vector are none of these
 abbrev pub is_allowed : CrowdData → List (List ℕ) → List Tokens → Bool
@@ -34,6 +41,7 @@ IsNext crowd seats meant (Some visit) =
 pub record IsWalk (crowd : CrowdData) (seats : List ℕ) (settings : Settings)
     (walk : Walk) : Type 0 where
   pub known : IsCrowd crowd
+  pub seated : length seats ≡ crowd.sections
   pub visit : IsVisit crowd seats walk.current
   pub current : walk.current.prices.items ≡ (after_turns crowd seats settings walk.turns).current
   pub best : first_of_least crowd seats (after_turns crowd seats settings walk.turns).visited

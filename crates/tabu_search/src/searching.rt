@@ -2,6 +2,8 @@
 ghost use Rattle.std.specs.Prelude.{◌≡◌, ℕ, Err, IfOk, length};
 ghost use Rattle.tabu_search.specs.Search.{IsFound, FindsNone};
 
+use crate::drawing::zero_prices;
+use crate::visiting::visit_at;
 use crate::walking::Walk;
 use crate::{Found, SearchEnd};
 use demand_api::Demands;
@@ -32,7 +34,10 @@ pub fn search<R: Threads + Wait + Sync, D: Demands>(
     ensures none { (least : ℕ) → result ≡ Err (SearchEnd.NoPrices least)
         → FindsNone (D.crowd demands.old) seats.now settings.now least }
 {
-    let mut walk = Walk::begin(rt, alloc, demands, seats, settings)?;
+    let top = demands.top();
+    let zero = zero_prices(alloc, seats.len())?;
+    let start = visit_at(rt, alloc, demands, seats, zero)?;
+    let mut walk = Walk::begin(alloc, start, top, settings)?;
     'turns: while walk.goes_on(settings) {
         walk = walk.turn(rt, alloc, demands, seats, settings)?;
     }

@@ -1,10 +1,10 @@
 // Where a search is, and its turns.
-ghost use Rattle.std.specs.Prelude.{◌≡◌, ◌↔◌, ◌<◌, ◌≤◌, ◌^◌, ◌+◌, IsTrue, IfOk, MatchOption, if◌then◌else◌, All, length, map, filter, nat_eq, nat_lt};
+ghost use Rattle.std.specs.Prelude.{◌≡◌, ◌↔◌, ◌<◌, ◌≤◌, ◌^◌, ◌+◌, ℕ, List, IsTrue, IfOk, MatchOption, if◌then◌else◌, nat_eq, nat_lt};
 ghost use Rattle.std.specs.List.{list_any};
 ghost use Rattle.std.specs.Cmp.Lexicographic.{pointwise};
-ghost use Rattle.demand_api.specs.{Asking.ArePricesFor, Crowds.IsCrowd};
-ghost use Rattle.tabu_search.specs.Visits.{first_of_least, chosen, after_turns};
-ghost use Rattle.tabu_search.specs.Walks.{is_allowed, IsNext, IsWalk, IsEntered};
+ghost use Rattle.demand_api.specs.Crowds.{CrowdData, top as top_of};
+ghost use Rattle.tabu_search.specs.Visits.{chosen, after_turns};
+ghost use Rattle.tabu_search.specs.Walks.{IsNext, IsStart, IsWalk, IsEntered};
 
 use crate::counting::count_all;
 use crate::drawing::drawn_prices;
@@ -76,23 +76,19 @@ fn better(alloc: Global, best: Best, visit: &Visit) -> Result<Best, NoMemory>
 }
 
 impl Walk {
-    /// The search before its first turn: the vector with the price 0 for each section is visited,
-    /// and is the best so far.
-    pub(crate) fn begin<R: Threads + Wait + Sync, D: Demands>(
-        rt: &R,
+    /// The search before its first turn, whose one visit is this one, the best so far.
+    pub(crate) fn begin(
         alloc: Global,
-        demands: &mut D,
-        seats: &[u16],
+        current: Visit,
+        top: Tokens,
         settings: &Settings,
     ) -> Result<Walk, NoMemory>
-        requires seats { length seats.now ≡ (D.crowd demands.old).sections }
-        ensures crowd { D.crowd demands.new ≡ D.crowd demands.old }
-        ensures walk { IfOk result (IsWalk (D.crowd demands.old) seats.now settings.now) }
+        ensures walk { IfOk result
+            (λ walk. (crowd : CrowdData) (seats : List ℕ)
+            → IsStart crowd seats current → top.0 ≡ top_of crowd
+            → IsWalk crowd seats settings.now walk) }
         ensures turns { IfOk result (λ walk. walk.turns ≡ 0) }
     {
-        let top = demands.top();
-        let zero = vec![in alloc; Tokens(0); seats.len()]?;
-        let current = visit_at(rt, alloc, demands, seats, zero)?;
         let mut window = HeapCircularBuffer::with_capacity(alloc, settings.tabu as usize)?;
         window.push_back(current.counts.to_vec(alloc)?);
         let best = Best {
@@ -130,7 +126,6 @@ impl Walk {
         seats: &[u16],
         settings: &Settings,
     ) -> Result<Walk, NoMemory>
-        requires seats { length seats.now ≡ (D.crowd demands.old).sections }
         requires walk { IsWalk (D.crowd demands.old) seats.now settings.now self }
         requires turns { self.turns + 1 < 2 ^ 32 }
         ensures crowd { D.crowd demands.new ≡ D.crowd demands.old }
@@ -195,7 +190,8 @@ impl Walk {
         })
     }
 
-    // Where the turn moves to, if it is no restart.
+    // Where the turn moves to, if it is no restart: the first of least error of those neighbours
+    // whose counts are none of the window's.
     fn chosen<R: Threads + Wait + Sync, D: Demands>(
         &self,
         rt: &R,
@@ -204,7 +200,6 @@ impl Walk {
         seats: &[u16],
         settings: &Settings,
     ) -> Result<Option<Visit>, NoMemory>
-        requires seats { length seats.now ≡ (D.crowd demands.old).sections }
         requires walk { IsWalk (D.crowd demands.old) seats.now settings.now self.now }
         ensures crowd { D.crowd demands.new ≡ D.crowd demands.old }
         ensures next { IfOk result
@@ -218,51 +213,26 @@ impl Walk {
         let prices = &self.current.prices;
         let counts = &self.current.counts;
         let steps = settings.steps.as_slice();
-        let vectors = neighbours(rt, alloc, demands, prices, counts, seats, steps)?;
-        first_candidate(rt, alloc, demands, &self.window, seats, vectors)
-    }
-}
-
-// The first of least error of the vectors whose counts are none of the window's.
-fn first_candidate<R: Threads + Wait + Sync, D: Demands>(
-    rt: &R,
-    alloc: Global,
-    demands: &mut D,
-    window: &HeapCircularBuffer<Vec<u32>>,
-    seats: &[u16],
-    mut vectors: Vec<Vec<Tokens>>,
-) -> Result<Option<Visit>, NoMemory>
-    requires known { IsCrowd (D.crowd demands.old) }
-    requires seats { length seats.now ≡ (D.crowd demands.old).sections }
-    requires vectors { All (λ vector. ArePricesFor (D.crowd demands.old) vector.items)
-        vectors.items }
-    ensures crowd { D.crowd demands.new ≡ D.crowd demands.old }
-    ensures next { IfOk result
-        (IsNext (D.crowd demands.old) seats.now
-        (first_of_least (D.crowd demands.old) seats.now
-        (filter
-        (is_allowed (D.crowd demands.old)
-        (map (λ counts. counts.items) window.now.items))
-        (map (λ vector. vector.items) vectors.items)))) }
-{
-    let mut counted = count_all(rt, alloc, demands, &vectors)?;
-    let mut best = None;
-    for place in 0..vectors.len() {
-        if is_tabu(window, &counted[place]) {
-            continue;
+        let mut vectors = neighbours(rt, alloc, demands, prices, counts, seats, steps)?;
+        let mut counted = count_all(rt, alloc, demands, &vectors)?;
+        let mut best = None;
+        for place in 0..vectors.len() {
+            if is_tabu(&self.window, &counted[place]) {
+                continue;
+            }
+            let error = error(&counted[place], seats, &vectors[place]);
+            if !is_lower(error, best) {
+                continue;
+            }
+            best = Some((place, error));
         }
-        let error = error(&counted[place], seats, &vectors[place]);
-        if !is_lower(error, best) {
-            continue;
-        }
-        best = Some((place, error));
+        let Some((place, error)) = best else {
+            return Ok(None);
+        };
+        Ok(Some(Visit {
+            prices: vectors.swap_remove(place),
+            counts: counted.swap_remove(place),
+            error,
+        }))
     }
-    let Some((place, error)) = best else {
-        return Ok(None);
-    };
-    Ok(Some(Visit {
-        prices: vectors.swap_remove(place),
-        counts: counted.swap_remove(place),
-        error,
-    }))
 }

@@ -114,7 +114,8 @@ close-requires c =
       choices_length c.args.crowd.now c.args.seats.now c.args.prices.now c.args.raise (held_on c.loop-changed.stage.floor) c.loop-changed.invariant.1.choices,
       menus_few c.args.crowd.now,
     ) in
-    counts_few (length c.args.seats.now) (held_on c.loop-changed.stage.floor) c.loop-changed.stage.floor.used.items c.loop-changed.invariant.1.counted.counts few
+    counts_few (length c.args.seats.now) (held_on c.loop-changed.stage.floor) c.loop-changed.stage.floor.used.items
+    c.loop-changed.invariant.1.counted.counts few
 
 pub returns-clause-used : goal.returns-clause-used
 returns-clause-used c =

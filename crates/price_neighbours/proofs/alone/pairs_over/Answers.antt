@@ -7,7 +7,8 @@ use Rattle.price_neighbours.proofs.alone.pairs_over.Goals as goal
 pub loop-place-preserved-then-count-from : goal.loop-place-preserved-then-count-from
 loop-place-preserved-then-count-from c =
     let few : slice_index c.args.taken.now.counts.now c.loop-place.place ≤ slice_index c.args.taken.now.seats.now c.loop-place.place = search rules in
-    pairs_still c.args.taken.now.counts.now c.args.taken.now.seats.now c.loop-place.place c.loop-place.pairs.items c.loop-place.invariant (grind (arith, nat_tests))
+    pairs_still c.args.taken.now.counts.now c.args.taken.now.seats.now c.loop-place.place c.loop-place.pairs.items c.loop-place.invariant
+    (grind (arith, nat_tests))
 
 pub loop-place-preserved : goal.loop-place-preserved
 loop-place-preserved c =

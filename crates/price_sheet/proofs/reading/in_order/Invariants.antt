@@ -6,6 +6,6 @@ use Rattle.price_sheet.proofs.reading.in_order.Given as goal
 -- the prices of the sections so far
 abbrev pub invariant-loop-section : goal.invariant-loop-section
 invariant-loop-section l = record {
-  prices : map (λ price. price.0) l.prices.items ≡ map (price_in l.sheet.rows.items) (take l.section (section_names l.catalog.sections));
+  prices : map (λ price. price.0) l.prices.items ≡ map (price_in l.sheet.read.now.rows.items) (take l.section (section_names l.catalog.sections));
   range : All (λ price. price.0 ≤ 1000001) l.prices.items;
 }

@@ -1,8 +1,25 @@
-use Rattle.std.proofs.Common.{◌≡◌, ◌<◌, ◌∙◌, sym, subst}
+use Rattle.std.proofs.Common.{◌≡◌, ◌<◌, ◌∙◌, replicate, ap, sym, subst, arith}
 use Rattle.std.proofs.lemmas.Bool.{false≢true}
 use Rattle.tabu_search.specs.Search.{IsBest}
+use Rattle.tabu_search.specs.Walks.{IsStart}
 use Rattle.tabu_search.proofs.Walks.{end_of, best_of}
 use Rattle.tabu_search.proofs.searching.search.Goals as goal
+
+pub turns-init : goal.turns-init
+turns-init g c =
+    let start : IsStart (g.D.Demands.crowd c.args.demands.now) c.args.seats.now c.in_ok-start.start =
+    record {
+      known = c.top-top.ensures.crowd;
+      seated = c.requires;
+      is = c.in_ok-start.ensures.visit;
+      zero = c.in_ok-start.ensures.prices ∙ c.in_ok-zero.ensures ∙ ap (λ n. replicate n (record { 0 = 0 })) c.requires;
+    } in
+    record {
+      same = c.visit_at.ensures.crowd;
+      walk = c.in_ok-walk.ensures.walk (g.D.Demands.crowd c.args.demands.now) c.args.seats.now start c.top-top.ensures.value;
+      few = omega (arith, c.in_ok-walk.ensures.turns);
+      before = λ n low. absurd (omega (arith, c.in_ok-walk.ensures.turns, low));
+    }
 
 pub returns-then-best-settings-clause-none : goal.returns-then-best-settings-clause-none
 returns-then-best-settings-clause-none g c = λ least is.

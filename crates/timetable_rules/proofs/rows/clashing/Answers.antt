@@ -6,7 +6,9 @@ use Rattle.timetable_rules.proofs.rows.clashing.Goals as goal
 use Rattle.timetable_rules.proofs.rows.clashing.Goals.{then-do_clash, else-do_clash}
 
 pub loop-other-init : goal.loop-other-init
-loop-other-init c = λ s. rw c.empty-row.ensures (none_yet (clashes (map meetings_of c.args.timetable.now.meetings.now) c.args.timetable.now.courses.now c.args.timetable.now.parts.now c.args.section) s)
+loop-other-init c = λ s.
+    let test = clashes (map meetings_of c.args.timetable.now.meetings.now) c.args.timetable.now.courses.now c.args.timetable.now.parts.now c.args.section in
+    rw c.empty-row.ensures (none_yet test s)
 
 pub loop-other-preserved : goal.loop-other-preserved
 loop-other-preserved c = λ s.

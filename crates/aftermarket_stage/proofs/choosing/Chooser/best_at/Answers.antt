@@ -15,7 +15,8 @@ is_settled-requires-clause-low c = rw c.places.ensures.value (λ k d low. (c.pla
 pub returns-then-is_settled-clause-best : goal.returns-then-is_settled-clause-best
 returns-then-is_settled-clause-best c =
     let low : c.args.place < length c.args.held.now = omega (arith, c.requires.place, c.requires.students) in
-    settled_best c.args.terms.now.crowd.now c.args.terms.now.seats.now c.args.terms.now.prices.now c.args.terms.now.raise c.args.place (map sections_of c.args.held.now) c.args.self.now.known.items
+    settled_best c.args.terms.now.crowd.now c.args.terms.now.seats.now c.args.terms.now.prices.now c.args.terms.now.raise c.args.place
+    (map sections_of c.args.held.now) c.args.self.now.known.items
     c.index-menu.result.now c.places.result.now c.args.allowed.now (sections_of c.index-held-place.result)
     c.requires.place c.index-menu.ensures c.places.ensures.value
     (there_at c.args.held.now c.args.place c.index-held-place.result low c.index-held-place.is) c.requires.held c.requires.known
@@ -40,14 +41,16 @@ demand_from-bundle-requires c =
 
 pub returns-clause-best : goal.returns-clause-best
 returns-clause-best c =
-    best_found c.args.terms.now.crowd.now c.args.terms.now.seats.now c.args.terms.now.prices.now c.args.terms.now.raise c.args.place c.raised-budget.result.0 c.index-menu.result.now c.index.result.now
+    best_found c.args.terms.now.crowd.now c.args.terms.now.seats.now c.args.terms.now.prices.now c.args.terms.now.raise c.args.place
+    c.raised-budget.result.0 c.index-menu.result.now c.index.result.now
     (set.contains c.args.allowed.now) (sections_of c.demand_from-bundle.result)
     c.requires.place c.index-menu.ensures c.index.ensures c.raised-budget.ensures c.demand_from-bundle.ensures
 
 pub returns-clause-known : goal.returns-clause-known
 returns-clause-known c =
     let found =
-    best_found c.args.terms.now.crowd.now c.args.terms.now.seats.now c.args.terms.now.prices.now c.args.terms.now.raise c.args.place c.raised-budget.result.0 c.index-menu.result.now c.index.result.now
+    best_found c.args.terms.now.crowd.now c.args.terms.now.seats.now c.args.terms.now.prices.now c.args.terms.now.raise c.args.place
+    c.raised-budget.result.0 c.index-menu.result.now c.index.result.now
     (set.contains c.args.allowed.now) (sections_of c.demand_from-bundle.result)
     c.requires.place c.index-menu.ensures c.index.ensures c.raised-budget.ensures c.demand_from-bundle.ensures in
     known_asked (terms_in c.args.terms.now) c.args.place

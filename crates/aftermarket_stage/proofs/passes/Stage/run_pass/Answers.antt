@@ -18,7 +18,9 @@ loop-student-preserved c =
           (held_on c.args.self.now.floor) (held_on later.floor) c.args.self.now.turns.items later.turns.items
           (c.loop-student.changed || c.in_ok-changed.field-0))
           (sym (students_more c.args.order.now c.loop-student.student-index _ c.loop-student-test.true))
-          (have_turned (terms_in c.args.terms.now) c.args.pass _ (map (λ student. student.0) (take c.loop-student.student-index c.args.order.now)) (held_on c.args.self.now.floor) (held_on now.floor) (held_on later.floor) c.args.self.now.turns.items now.turns.items later.turns.items c.loop-student.changed c.in_ok-changed.field-0
+          (have_turned (terms_in c.args.terms.now) c.args.pass _ (map (λ student. student.0) (take c.loop-student.student-index c.args.order.now))
+          (held_on c.args.self.now.floor) (held_on now.floor) (held_on later.floor) c.args.self.now.turns.items now.turns.items later.turns.items
+          c.loop-student.changed c.in_ok-changed.field-0
           c.loop-student.invariant.0 c.in_ok-changed.ensures.turn),
       c.in_ok-changed.ensures.stands,
     )

@@ -20,14 +20,16 @@ choices-allowed-requires-clause-place c =
       arith,
       c.from-place.ensures,
       c.requires.student,
-      choices_length c.args.terms.now.crowd.now c.args.terms.now.seats.now c.args.terms.now.prices.now c.args.terms.now.raise (held_on c.args.self.now.floor) c.requires.stands.choices,
+      choices_length c.args.terms.now.crowd.now c.args.terms.now.seats.now c.args.terms.now.prices.now c.args.terms.now.raise
+          (held_on c.args.self.now.floor) c.requires.stands.choices,
     )
 
 pub choices-allowed-requires-clause-below : goal.choices-allowed-requires-clause-below
 choices-allowed-requires-clause-below c =
     let few : length c.args.terms.now.seats.now ≤ 400 = omega (arith, c.args.terms.now.seats_each, few_sections c.args.terms.now.crowd.now) in
     below_more (length c.args.terms.now.seats.now) 400 (held_on c.args.self.now.floor) few
-    (choices_low c.args.terms.now.crowd.now c.args.terms.now.seats.now c.args.terms.now.prices.now c.args.terms.now.raise (held_on c.args.self.now.floor) c.args.terms.now.seats_each c.requires.stands.choices)
+    (choices_low c.args.terms.now.crowd.now c.args.terms.now.seats.now c.args.terms.now.prices.now c.args.terms.now.raise (held_on c.args.self.now.floor)
+    c.args.terms.now.seats_each c.requires.stands.choices)
 
 pub give-requires-clause-place : goal.give-requires-clause-place
 give-requires-clause-place c =
@@ -35,7 +37,8 @@ give-requires-clause-place c =
       arith,
       c.from-place.ensures,
       c.requires.student,
-      choices_length c.args.terms.now.crowd.now c.args.terms.now.seats.now c.args.terms.now.prices.now c.args.terms.now.raise (held_on c.args.self.now.floor) c.requires.stands.choices,
+      choices_length c.args.terms.now.crowd.now c.args.terms.now.seats.now c.args.terms.now.prices.now c.args.terms.now.raise
+          (held_on c.args.self.now.floor) c.requires.stands.choices,
     )
 
 pub give-requires-clause-few : goal.give-requires-clause-few
@@ -43,16 +46,19 @@ give-requires-clause-few c =
     omega (
       arith,
       menus_few c.args.terms.now.crowd.now,
-      choices_length c.args.terms.now.crowd.now c.args.terms.now.seats.now c.args.terms.now.prices.now c.args.terms.now.raise (held_on c.args.self.now.floor) c.requires.stands.choices,
+      choices_length c.args.terms.now.crowd.now c.args.terms.now.seats.now c.args.terms.now.prices.now c.args.terms.now.raise
+          (held_on c.args.self.now.floor) c.requires.stands.choices,
     )
 
 pub give-requires-clause-below : goal.give-requires-clause-below
 give-requires-clause-below c =
-    choices_low c.args.terms.now.crowd.now c.args.terms.now.seats.now c.args.terms.now.prices.now c.args.terms.now.raise (held_on c.args.self.now.floor) c.args.terms.now.seats_each c.requires.stands.choices
+    choices_low c.args.terms.now.crowd.now c.args.terms.now.seats.now c.args.terms.now.prices.now c.args.terms.now.raise (held_on c.args.self.now.floor)
+    c.args.terms.now.seats_each c.requires.stands.choices
 
 pub give-requires-clause-within : goal.give-requires-clause-within
 give-requires-clause-within c =
-    best_low c.args.terms.now.crowd.now c.args.terms.now.seats.now c.args.terms.now.prices.now c.args.terms.now.raise c.from-place.result (set.contains c.choices-allowed.result)
+    best_low c.args.terms.now.crowd.now c.args.terms.now.seats.now c.args.terms.now.prices.now c.args.terms.now.raise c.from-place.result
+    (set.contains c.choices-allowed.result)
     (sections_of c.best_at-bundle.result) c.args.terms.now.seats_each c.best_at-bundle.ensures.best
 
 pub returns-clause-turn : goal.returns-clause-turn
@@ -106,5 +112,6 @@ best_at-bundle-requires-clause-students c =
       arith,
       ap length c.deref.ensures.value,
       length-map c.args.self.now.floor.held.items sections_of,
-      choices_length c.args.terms.now.crowd.now c.args.terms.now.seats.now c.args.terms.now.prices.now c.args.terms.now.raise (held_on c.args.self.now.floor) c.requires.stands.choices,
+      choices_length c.args.terms.now.crowd.now c.args.terms.now.seats.now c.args.terms.now.prices.now c.args.terms.now.raise
+          (held_on c.args.self.now.floor) c.requires.stands.choices,
     )

@@ -87,15 +87,15 @@ count_bundle-requires-clause-room c =
     (λ s less. subst (λ l. HasCounted c.uncount_bundle.new.counts l (sections_of c.index.result.now) s) c.deref_mut.ensures.value (subst (λ b. HasCounted c.uncount_bundle.new.counts c.deref_mut.result.now b s) c.sections.ensures.value
     (c.uncount_bundle.ensures.each s (let same = ap length c.deref_mut.ensures.value in omega (arith, same, less))))))
 
-pub freed-free-requires-clause-range : goal.freed-free-requires-clause-range
-freed-free-requires-clause-range c =
+pub freed-free-requires : goal.freed-free-requires
+freed-free-requires c =
     let low : c.args.place < length c.args.self.now.held.items =
     let inside = c.requires.place in omega (arith, inside, length-map c.args.self.now.held.items sections_of) in
     all_listed (λ s. s < length c.args.seats.now) c.sections-3.result.now (sections_of c.index.result.now) c.sections-3.ensures.value
     (below_item (length c.args.seats.now) c.args.self.now.held.items c.args.place c.index.result.now c.requires.below low c.index.ensures)
 
-pub freed-self-requires-clause-range : goal.freed-self-requires-clause-range
-freed-self-requires-clause-range c =
+pub freed-self-requires : goal.freed-self-requires
+freed-self-requires c =
     all_listed (λ s. s < length c.args.seats.now) c.sections-4.result.now (sections_of c.args.bundle) c.sections-4.ensures.value c.requires.within
 
 pub returns-clause-held : goal.returns-clause-held
@@ -133,8 +133,8 @@ returns-clause-floor c =
     (sections_of c.index.result.now) (c.deref.ensures.value ∙ last) c.sections-3.ensures.value c.freed-free.ensures in
     let second : Tells (λ s. nat_lt (slice_index c.count_bundle.new.counts s) (slice_index c.args.seats.now s)) c.freed-free.result (sections_of c.args.bundle)
     c.freed-self.result =
-    told_by c.args.seats.now c.deref-2.result.now c.count_bundle.new.counts c.freed-free.result c.freed-self.result c.sections-4.result.now
-    (sections_of c.args.bundle) (c.deref-2.ensures.value ∙ last) c.sections-4.ensures.value c.freed-self.ensures in
+    told_by c.args.seats.now c.deref.result.now c.count_bundle.new.counts c.freed-free.result c.freed-self.result c.sections-4.result.now
+    (sections_of c.args.bundle) (c.deref.ensures.value ∙ last) c.sections-4.ensures.value c.freed-self.ensures in
     record {
       counts =
           subst (λ held. AreCounts (length c.args.seats.now) held all) (sym (map-set sections_of c.args.self.now.held.items c.args.place c.args.bundle))
