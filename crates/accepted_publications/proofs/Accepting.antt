@@ -21,10 +21,10 @@ use Rattle.published_parts.specs.Holdings.{demanded, tokens}
 use Rattle.held_seats.specs.Choices.{may_choose}
 use Rattle.published_parts.specs.Markets.{Market, names_in, seats_in, tables_in}
 use Rattle.published_parts.specs.Journals.{IsJournalOf}
-use Rattle.published_parts.specs.Offers.{IsProvedBest, IsProvedDemand, all_sections, offer_to, student_in}
-use Rattle.published_parts.proofs.Asked.{budget_at, nobody, zip_at}
+use Rattle.published_parts.specs.Offers.{IsProvedBest, IsProvedDemand, all_sections, nobody, offer_to, student_in}
+use Rattle.published_parts.proofs.Asked.{budget_at, zip_at}
 use Rattle.published_market.specs.Publishing.{IsOutcome, IsPublishedText, Lengths, terms_at}
-use Rattle.published_market.specs.Turns.{IsPublishedTurn, offer_at}
+use Rattle.published_market.specs.Turns.{IsPublishedTurn, no_turn, offer_at}
 use Rattle.published_market.proofs.Prices.{price_in_tokens}
 use Rattle.published_market.proofs.Publishable.{published_is_publication}
 use Rattle.published_market.proofs.Sentences.{stage_two_within}
@@ -37,7 +37,7 @@ use Rattle.certificate_checker.specs.Turns.{EndsQuietly, HasQuietPass, IsDue, Is
 use Rattle.certificate_checker.proofs.Progressing.{next_pass}
 use Rattle.certificate_checker.proofs.Turning.{held_length}
 use Rattle.accepted_publications.specs.Laws.{CertificateOfPublished, PublishedIsAccepted}
-use Rattle.accepted_publications.proofs.Passing.{ArePassesOf, IsAt, each_at, no_turn, passes_of, turn_at}
+use Rattle.accepted_publications.proofs.Passing.{ArePassesOf, IsAt, each_at, passes_of, turn_at}
 
 -- the pass and the place in it of a number below so many passes
 pub record IsSplit (students passes k : ℕ) : Type 0 where

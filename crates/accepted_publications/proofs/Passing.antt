@@ -1,6 +1,6 @@
 -- The turns of an aftermarket by their numbers: of which pass and of which student each is, and which passes are without a change. Turns,
 -- places in a pass and passes are numbered here from 0.
-use Rattle.std.proofs.Common.{ℕ, zero, suc, ◌≡◌, ◌<◌, ◌+◌, ◌*◌, ◌∙◌, Some, false, List, [], ◌∷◌, ◌++◌, length, map, take, get_or, refl, ap, sym, subst, arith}
+use Rattle.std.proofs.Common.{ℕ, zero, suc, ◌≡◌, ◌<◌, ◌+◌, ◌*◌, ◌∙◌, Some, List, [], ◌∷◌, ◌++◌, length, map, take, get_or, refl, ap, sym, subst, arith}
 use Rattle.std.specs.Prelude.{slice_get}
 use Rattle.std.specs.List.{flat_map}
 use Rattle.std.proofs.Math.Nat.{suc-mul}
@@ -11,11 +11,9 @@ use Rattle.aftermarket_stage.specs.Passes.{ArePasses, due_of}
 use Rattle.aftermarket_stage.specs.Turns.{EachTurn, IsQuiet, TurnData, after_turn, after_turns}
 use Rattle.demand_api.specs.Crowds.{CrowdData, Student}
 use Rattle.certificate_checker.specs.Turns.{order_in}
+use Rattle.published_market.specs.Turns.{no_turn}
 use Rattle.certificate_checker.proofs.Reading.{moved}
 use Rattle.certificate_checker.proofs.Turning.{order_length}
-
-abbrev pub no_turn : TurnData
-no_turn = record { pass = 0; student = 0; allowed = λ s. false; bundle = [] }
 
 -- the turn of a number
 abbrev pub turn_at : List TurnData → ℕ → TurnData

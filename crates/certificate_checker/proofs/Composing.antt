@@ -25,6 +25,7 @@ use Rattle.certificate_checker.specs.Parts.{CanCheck}
 use Rattle.certificate_checker.specs.Terms.{TermsData, terms_in}
 use Rattle.certificate_checker.specs.Views.{terms_of}
 use Rattle.certificate_checker.proofs.Reading.{length_map}
+pub use Rattle.proof_tree.proofs.Following.{err_from}
 
 -- as many students as the roll has
 pub crowd_length : (market : Market) (streams : List (List Command)) (order : List ℕ) (crowd : CrowdData) → IsCrowdAfter market streams order crowd

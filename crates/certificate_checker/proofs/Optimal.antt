@@ -30,8 +30,8 @@ use Rattle.published_parts.specs.Passes.{ComeInPasses}
 use Rattle.held_seats.specs.Choices.{may_choose}
 use Rattle.published_parts.specs.Journals.{wishes_in}
 use Rattle.published_parts.specs.Markets.{Market, seats_in, tables_in}
-use Rattle.published_parts.specs.Offers.{all_sections, student_in}
-use Rattle.published_parts.proofs.Asked.{menu_says, nobody}
+use Rattle.published_parts.specs.Offers.{all_sections, nobody, student_in}
+use Rattle.published_parts.proofs.Asked.{menu_says}
 use Rattle.published_parts.proofs.Passing.{come_in_passes}
 use Rattle.published_parts.proofs.Resting.{is_allocation}
 use Rattle.certificate_checker.specs.Certificates.{HoldsOf, IsAccepted}

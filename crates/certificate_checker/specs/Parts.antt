@@ -43,8 +43,9 @@ pub record AreHeldOn (seats : List ℕ) (bundles : List (List ℕ)) (floor : Flo
   pub is_floor : IsFloor seats floor
   pub held : held_on floor ≡ bundles
 
--- The turn of a number may be looked at: the publication may, it has fewer than 2 ^ 32 - 1 turns,
--- and the passes, in which the students stand in this order, have come so far.
+-- What is known where the turn of a number is looked at: the publication may be, it has fewer than
+-- 2 ^ 32 - 1 turns, and has this one; the students have their turns in this order in each pass; and
+-- the passes have come so far before the turn.
 pub record IsNextTurn (terms : Terms) (publication : declared.Publication) (order : List ℕ)
     (progress : Progress) (place : ℕ) : Type 0 where
   pub can : CanCheck terms (publication_of publication)

@@ -7,7 +7,7 @@ ghost use Rattle.market_certificate.specs.Views.{publication_of};
 ghost use Rattle.published_parts.specs.{Holdings.demanded, Markets.market_of, Markets.tables_in};
 ghost use Rattle.published_parts.specs.Views.{market_in};
 ghost use Rattle.certificate_checker.specs.Certificates.{HoldsBy, HoldsOf, IsAccepted, IsTextOf};
-ghost use Rattle.certificate_checker.specs.Findings.{IsFirstIn, IsFirstOf, OnFound, end_of};
+ghost use Rattle.certificate_checker.specs.Findings.{IsFirstIn, IsFirstOf, OnFound};
 ghost use Rattle.certificate_checker.specs.{Parts.AreHeldOn, Parts.CanCheck, Refusals.IsRefused};
 ghost use Rattle.certificate_checker.specs.Views.{terms_of};
 ghost use Rattle.demand_api.specs.Views.{data_of};
@@ -18,7 +18,7 @@ use crate::bundles::check_bundles;
 use crate::seats::{check_seats, check_used};
 use crate::terms::{Terms, terms_after};
 use crate::turns::check_turns;
-use crate::{Accepted, CheckEnd, Finding};
+use crate::{Accepted, CheckEnd};
 use course_catalog::Catalog;
 use held_seats::Floor;
 use market_certificate::{Publication, TextRefusal, read_publication};
@@ -106,10 +106,8 @@ pub fn accept(
 {
     let _few_sections = market.catalog.len();
     let _few_students = market.roll.len();
-    match publication_in(alloc, market.catalog, market.roll, text) {
-        Ok(publication) => accept_publication(alloc, market, streams, publication),
-        Err(refusal) => Err(end_of(refusal)),
-    }
+    let publication = publication_in(alloc, market.catalog, market.roll, text)?;
+    accept_publication(alloc, market, streams, publication)
 }
 
 // The publication that the text is, or its first defect. The text, which may be the greater part of
@@ -166,16 +164,6 @@ fn accept_publication(
             crowd: terms.crowd,
         }),
         Err(end) => Err(end),
-    }
-}
-
-// The end of a check of a text that is not read.
-fn end_of(refusal: TextRefusal) -> CheckEnd
-    ensures { result ≡ end_of refusal }
-{
-    match refusal {
-        TextRefusal::Defect { line, kind } => CheckEnd::Found(Finding::Text { line, kind }),
-        TextRefusal::NoMemory => CheckEnd::NoMemory,
     }
 }
 

@@ -2,7 +2,7 @@
 ghost use Rattle.std.specs.Prelude.{◌≡◌};
 ghost use Rattle.certificate_checker.specs.declared.findings.CheckEnd.TheVariants as end;
 
-use market_certificate::LineFault;
+use market_certificate::{LineFault, TextRefusal};
 use market_units::{SectionNo, StudentNo};
 use proof_tree::TreeDefect;
 
@@ -112,6 +112,19 @@ impl From<Finding> for CheckEnd {
 
     fn from(finding: Finding) -> Self {
         CheckEnd::Found(finding)
+    }
+}
+
+impl From<TextRefusal> for CheckEnd {
+    ghost use Rattle.certificate_checker.specs.Findings.{end_of};
+
+    ghost from_gives = { λ refusal result. result ≡ end_of refusal };
+
+    fn from(refusal: TextRefusal) -> Self {
+        match refusal {
+            TextRefusal::Defect { line, kind } => CheckEnd::Found(Finding::Text { line, kind }),
+            TextRefusal::NoMemory => CheckEnd::NoMemory,
+        }
     }
 }
 

@@ -1,5 +1,5 @@
 -- Lines behind lines, and fields behind fields.
-use Rattle.std.proofs.Common.{ℕ, zero, suc, ◌≡◌, ◌<◌, ◌+◌, ◌++◌, ◌==◌, ◌∙◌, false, List, [], ◌∷◌, length, map, take, get_or, arith, refl, sym, ap, append_assoc, append-nil, Some}
+use Rattle.std.proofs.Common.{ℕ, zero, suc, ◌≡◌, ◌<◌, ◌+◌, ◌++◌, ◌==◌, ◌∙◌, true, false, List, [], ◌∷◌, length, map, take, get_or, arith, refl, sym, ap, append_assoc, append-nil, Some}
 use Rattle.std.specs.Prelude.{option_map, slice_get, codes}
 use Rattle.std.specs.List.{flat_map, join_with_byte, range_with_len}
 use Rattle.std.proofs.lemmas.Bool.{true≢false}
@@ -129,3 +129,8 @@ pub list_put : (market : Market) (s : ℕ) (waiting begun new name : List ℕ) �
 list_put market s [] begun new name some named put = absurd (true≢false some)
 list_put market s (x ∷ xs) begun new name some named put =
     put ∙ ap (λ w. (begun ++ spaced (codes "wait" ∷ w ∷ map (name_at (names_of market.roll.students)) (x ∷ xs))) ++ 10 ∷ []) named ∙ append_assoc begun (wait_line market s (x ∷ xs)) (10 ∷ [])
+
+-- none of a list in which nobody does
+pub list_none : (market : Market) (s : ℕ) (waiting begun : List ℕ) → (length waiting == 0) ≡ true → begun ≡ begun ++ joined (where_any market s waiting)
+list_none market s [] begun none = sym (append-nil begun)
+list_none market s (x ∷ xs) begun none = absurd (true≢false (sym none))

@@ -1,7 +1,7 @@
 // The desk that opens with what a published text says that students hold.
 ghost use Rattle.std.specs.Prelude.{◌≡◌, ◌<◌, ◌^◌, ◌-◌, IfErr, IfOk, length, map};
 ghost use Rattle.bundle_rules.specs.Bundles.{sections_of};
-ghost use Rattle.certificate_checker.specs.Findings.{OnFound, end_of};
+ghost use Rattle.certificate_checker.specs.Findings.{OnFound};
 ghost use Rattle.dropadd_desk.specs.Halls.{opening};
 ghost use Rattle.held_seats.specs.Floors.{AreBelow};
 ghost use Rattle.market_certificate.specs.Publications.{Publication};
@@ -13,7 +13,7 @@ use bundle_rules::Bundle;
 use certificate_checker::{CheckEnd, Finding};
 use course_catalog::Catalog;
 use dropadd_desk::HallDesk;
-use market_certificate::{TextRefusal, read_publication};
+use market_certificate::read_publication;
 use market_units::MAX_COMMANDS;
 use std::alloc::Global;
 use student_roll::Roll;
@@ -38,20 +38,8 @@ pub(crate) fn open_desk(
 {
     let _few_sections = catalog.len();
     let _few_students = roll.len();
-    match read_publication(alloc, catalog, roll, text) {
-        Ok(publication) => open_with(alloc, catalog, roll, &publication.allocation),
-        Err(refusal) => Err(end_of(refusal)),
-    }
-}
-
-// The end where a text is not read.
-fn end_of(refusal: TextRefusal) -> CheckEnd
-    ensures { result ≡ end_of refusal }
-{
-    match refusal {
-        TextRefusal::Defect { line, kind } => CheckEnd::Found(Finding::Text { line, kind }),
-        TextRefusal::NoMemory => CheckEnd::NoMemory,
-    }
+    let publication = read_publication(alloc, catalog, roll, text)?;
+    open_with(alloc, catalog, roll, &publication.allocation)
 }
 
 // A desk at which students hold these bundles, where they may, or the first fault.

@@ -87,7 +87,7 @@ fn put_bundles(
     Ok(())
 }
 
-// Puts the lines of the waiting lists behind the text.
+// Puts the line of each section's waiting list behind the text, where anybody waits.
 fn put_lists(
     text: &mut Vec<u8>,
     catalog: &Catalog,
@@ -103,31 +103,13 @@ fn put_lists(
         (range_with_len 0 (section_count (market_of desk.now))))) }
 {
     'sections: for section in 0..catalog.len() {
-        put_list(text, catalog, roll, desk, SectionNo(section))?;
+        let section = SectionNo(section);
+        let waiting = desk.waiting(section);
+        if waiting.is_empty() {
+            continue;
+        }
+        put_waiting(text, roll, &catalog.name(section), waiting)?;
     }
-    Ok(())
-}
-
-// Puts the line of the section's waiting list behind the text, where anybody waits.
-fn put_list(
-    text: &mut Vec<u8>,
-    catalog: &Catalog,
-    roll: &Roll,
-    desk: &HallDesk,
-    section: SectionNo,
-) -> Result<(), NoMemory>
-    requires market { market_of desk.now ≡ record { catalog = catalog.now; roll = roll.now } }
-    requires section { section.0 < section_count (market_of desk.now) }
-    ensures { OnOk result
-        (text.new.items
-        ≡ text.old.items
-        ++ joined (wait_lines (market_of desk.now) (state_of desk.now) section.0)) }
-{
-    let waiting = desk.waiting(section);
-    if waiting.is_empty() {
-        return Ok(());
-    }
-    put_waiting(text, roll, &catalog.name(section), waiting)?;
     Ok(())
 }
 

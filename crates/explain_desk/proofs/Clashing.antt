@@ -1,6 +1,8 @@
 -- The lowest section of a list that clashes with a section.
-use Rattle.std.proofs.Common.{ℕ, ◌≡◌, ◌<◌, ◌≤◌, ◌-◌, true, false, List, ◌∷◌, length, get_or, take, drop, subst, sym, ap, arith, inl, inr}
+use Rattle.std.proofs.Common.{ℕ, ◌≡◌, ◌<◌, ◌≤◌, ◌-◌, ◌∙◌, Bool, true, false, Option, Some, None, List, ◌∷◌, length, get_or, take, drop, subst, sym, ap, arith, inl, inr}
 use Rattle.market_units.specs.declared.units.SectionNo.{SectionNo}
+use Rattle.std.specs.Prelude.{IfNone, IfSome}
+use Rattle.bundle_rules.specs.Menus.{MenuData, clash_in, place_in, wishes_of}
 use Rattle.bundle_rules.specs.Ordinals.{ordinals}
 use Rattle.market_units.specs.Members.{has}
 use Rattle.bundle_rules.specs.Sets.{IsAscending}
@@ -61,3 +63,22 @@ module _ (w : Wishes) (sections : List SectionNo) (d : SectionNo) (section : ℕ
 
   pub ascending_rest : IsAscending (ordinals sections) → IsAscending (ordinals (take (length sections - 1) (drop 1 sections)))
   ascending_rest up = (subst IsAscending split up).1
+
+  -- the same of what a search of the others found
+  pub some_later : (found : Option SectionNo) → w.clash (get_or sections 0 d).0 section ≡ false
+      → IfSome found (λ other. ClashesFirst w (ordinals (take (length sections - 1) (drop 1 sections))) section other.0)
+      → IfSome found (λ other. ClashesFirst w (ordinals sections) section other.0)
+  some_later (Some other) apart is = clash_later other.0 apart is
+  some_later None apart is = tt
+
+  pub none_found : (found : Option SectionNo) → w.clash (get_or sections 0 d).0 section ≡ false
+      → IfNone found (NoneClashes w (ordinals (take (length sections - 1) (drop 1 sections))) section)
+      → IfNone found (NoneClashes w (ordinals sections) section)
+  none_found (Some other) apart is = tt
+  none_found None apart is = none_later apart is
+
+-- whether two sections clash, by their places on the menu
+pub clash_told : (menu : MenuData) (one other i j : ℕ) (told : Bool) → i ≡ place_in menu.places one → j ≡ place_in menu.places other
+    → told ≡ clash_in menu.clashes i j → told ≡ (wishes_of menu).clash one other
+unfolding wishes_of
+clash_told menu one other i j told first second is = is ∙ (λ k. clash_in menu.clashes (first k) (second k))

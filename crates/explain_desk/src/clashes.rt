@@ -28,20 +28,11 @@ pub(crate) fn first_clash(
     match sections {
         [] => None,
         [other, more @ ..] => {
-            if do_clash(menu, *other, section) {
+            if menu.clash(menu.place(*other), menu.place(section)) {
                 Some(*other)
             } else {
                 first_clash(menu, more, section)
             }
         }
     }
-}
-
-// Whether two sections of the menu clash.
-fn do_clash(menu: &Menu, other: SectionNo, section: SectionNo) -> bool
-    requires other { place_in menu.now.places other.0 < length menu.now.places }
-    requires section { place_in menu.now.places section.0 < length menu.now.places }
-    ensures { result ≡ (wishes_of menu.now).clash other.0 section.0 }
-{
-    menu.clash(menu.place(other), menu.place(section))
 }

@@ -1,4 +1,5 @@
 pub mod Allocations
+pub mod Props
 pub mod Asked
 pub mod Audits
 pub mod Checked

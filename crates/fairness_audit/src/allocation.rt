@@ -1,9 +1,18 @@
 // Which bundles can be audited.
 ghost use Rattle.std.specs.Prelude.{◌↔◌, IsTrue};
 ghost use Rattle.fairness_audit.specs.Allocations.{IsAllocation, allocation_of};
+ghost use Rattle.fairness_audit.specs.Props.{IsAllocation-prop};
 
 use bundle_rules::{Bundle, feasible};
 use demand_api::Crowd;
+
+/// A crowd, and a bundle for each of its students, which it may take.
+#[derive(Clone, Copy)]
+pub(crate) struct Allocated<'a> {
+    pub crowd: &'a Crowd,
+    pub bundles: &'a [Bundle],
+    pub ghost may: { IsAllocation (allocation_of crowd.now bundles.now) } by { IsAllocation-prop (allocation_of crowd.now bundles.now) },
+}
 
 /// Whether there is one bundle for each student of the crowd, which it may take: what `audit` and
 /// `count_envy` need.

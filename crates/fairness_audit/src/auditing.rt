@@ -7,6 +7,7 @@ ghost use Rattle.fairness_audit.specs.Allocations.{IsAllocation, allocation_of, 
 ghost use Rattle.fairness_audit.specs.{Asked.audit_rules, Rows.row, Rows.rows, Texts.AreRowsAmong};
 ghost use Rattle.fairness_audit.specs.Views.{row_of};
 
+use crate::allocation::Allocated;
 use crate::row::EnvyRow;
 use crate::tasks::AuditTasks;
 use crate::worker::work;
@@ -46,38 +47,16 @@ pub fn audit<R: Threads + Wait + Sync, G: Gate + Sync>(
     let held = Arc::try_clone(&bundles)?;
     let tasks = AuditTasks::of(shared, held);
     let mut found = vec![in alloc; EnvyRow::empty(); crowd.menus.len()]?;
-    let (board, seats) = Board::start(alloc, tasks, workers)?;
-    work_and_write(rt, board, seats, &crowd, &bundles, &mut found, gate);
-    Ok(found)
-}
-
-// From the start of the first worker to the rows: it is given no allocator and has no error, so no
-// memory is taken meanwhile.
-fn work_and_write<R: Threads + Wait + Sync, G: Gate + Sync>(
-    rt: &R,
-    board: Board<AuditTasks>,
-    mut seats: Vec<BoardSeat<AuditTasks>>,
-    crowd: &Crowd,
-    bundles: &[Bundle],
-    rows: &mut [EnvyRow],
-    gate: &G,
-)
-    requires bundles { IsAllocation (allocation_of crowd.now bundles.now) }
-    requires board { board.base.allocation ≡ allocation_of crowd.now bundles.now }
-    requires count { (1 ≤ vec_len seats) × (vec_len seats ≤ MAX_WORKERS)
-        × (length board.allotments ≡ vec_len seats) }
-    requires numbers { (n : ℕ) (d : _) → n < vec_len seats
-        → (slice_index_or seats.items n d).number ≡ n }
-    requires free { All (λ seat. IsFree audit_rules board seat) seats.items }
-    requires rows { length rows.old ≡ student_count board.base.allocation }
-    requires few { length rows.old ≤ MAX_STUDENTS }
-    ensures count { length rows.new ≡ length rows.old }
-    ensures each { (i : ℕ) (d : EnvyRow) → i < length rows.new
-        → row_of (slice_index_or rows.new i d) ≡ row board.base.allocation i }
-{
-    work_all(rt, &board, seats.as_mut_slice(), crowd, bundles, gate);
+    let (board, mut seats) = Board::start(alloc, tasks, workers)?;
+    // From here on no allocator is given, so no memory is taken.
+    let allocated = Allocated {
+        crowd: &crowd,
+        bundles: &bundles,
+    };
+    work_all(rt, &board, seats.as_mut_slice(), &allocated, gate);
     let answers = board.close(seats);
-    write_rows(&answers, rows);
+    write_rows(&answers, &mut found);
+    Ok(found)
 }
 
 // Each worker works at its seat, in a thread of its own where one can be started.
@@ -85,12 +64,11 @@ fn work_all<R: Threads + Wait + Sync, G: Gate + Sync>(
     rt: &R,
     board: &Board<AuditTasks>,
     seats: &mut [BoardSeat<AuditTasks>],
-    crowd: &Crowd,
-    bundles: &[Bundle],
+    allocated: &Allocated,
     gate: &G,
 )
-    requires bundles { IsAllocation (allocation_of crowd.now bundles.now) }
-    requires board { board.now.base.allocation ≡ allocation_of crowd.now bundles.now }
+    requires board { board.now.base.allocation
+        ≡ allocation_of allocated.now.crowd.now allocated.now.bundles.now }
     requires count { (1 ≤ length seats.old) × (length seats.old ≤ MAX_WORKERS) }
     requires numbers { (n : ℕ) (d : _) → n < length seats.old
         → (slice_index_or seats.old n d).number ≡ n }
@@ -107,9 +85,9 @@ fn work_all<R: Threads + Wait + Sync, G: Gate + Sync>(
         threads,
         &|n, seat|
             requires { (seat.now.number < MAX_WORKERS) × IsFree audit_rules board.now seat.now
-                × IsAllocation (allocation_of crowd.now bundles.now)
-                × (board.now.base.allocation ≡ allocation_of crowd.now bundles.now) }
-        { work(rt, board, seat, crowd, bundles, gate) },
+                × (board.now.base.allocation
+                ≡ allocation_of allocated.now.crowd.now allocated.now.bundles.now) }
+        { work(rt, board, seat, allocated, gate) },
     );
 }
 
@@ -123,18 +101,9 @@ fn write_rows(answers: &Answers<AuditTasks>, rows: &mut [EnvyRow])
         → row_of (slice_index_or rows.new i d) ≡ row answers.now.terms.allocation i }
 {
     'students: for place in 0..rows.len() {
-        rows[place] = posted(answers, place as u32);
-    }
-}
-
-// The row that was posted for a student.
-fn posted(answers: &Answers<AuditTasks>, student: u32) -> EnvyRow
-    requires settled { AreSettled audit_rules answers.now.terms answers.now.marks }
-    requires student { student < student_count answers.now.terms.allocation }
-    ensures { row_of result ≡ row answers.now.terms.allocation student }
-{
-    match answers.answer(student) {
-        Some(row) => row,
-        None => unreachable!(),
+        rows[place] = match answers.answer(place as u32) {
+            Some(row) => row,
+            None => unreachable!(),
+        };
     }
 }

@@ -28,7 +28,7 @@ pub fn count_envy(crowd: &Crowd, bundles: &[Bundle], student: StudentNo) -> Envy
             continue;
         }
         let student = StudentNo(other as u16);
-        let Some(seen) = sight(menu, &weights, own, student, &bundles[other]) else {
+        let Some(seen) = sight(&weights, own, student, &bundles[other]) else {
             continue;
         };
         row = row.with(seen, crowd.budgets[other].0 <= budget.0);

@@ -50,10 +50,7 @@ pub fn published_audit<R: Threads + Wait + Sync, G: Gate + Sync>(
         text.items)) }
 {
     let accepted = accept(alloc, market, streams, text)?;
-    match audit_accepted(rt, alloc, workers, market, accepted, gate) {
-        Ok(audited) => Ok(audited),
-        Err(NoMemory) => Err(CheckEnd::NoMemory),
-    }
+    Ok(audit_accepted(rt, alloc, workers, market, accepted, gate)?)
 }
 
 // The text of an audit of what was checked.

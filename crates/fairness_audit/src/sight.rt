@@ -1,34 +1,33 @@
 // What a student sees in the bundle of another.
-ghost use Rattle.std.specs.Prelude.{◌≡◌, ◌≤◌, ◌<◌, ◌+◌, ◌++◌, ◌∷◌, [], All, IfNone, IfSome, IsTrue, length, option_map, true};
+ghost use Rattle.std.specs.Prelude.{◌≡◌, ◌≤◌, ◌<◌, ◌+◌, ◌++◌, IsTrue, length, option_map, true};
 ghost use Rattle.market_units.specs.declared.units.SectionNo.{SectionNo};
 ghost use Rattle.bundle_rules.specs.{Bundles.sections_of, Menus.wishes_of};
 ghost use Rattle.bundle_rules.specs.Ordinals.{ordinals, IsBundle};
 ghost use Rattle.bundle_rules.specs.{Sets.IsAscending, Sets.without_section, Wishes.IsFeasible};
 ghost use Rattle.fairness_audit.specs.{Envy.ended_by, Envy.is_more, Envy.seen, Rows.envied};
-ghost use Rattle.fairness_audit.specs.{Searching.IsBestOfThese, Views.seen_of, Weights.AreWeights};
+ghost use Rattle.fairness_audit.specs.{Searching.IsBestOfThese, Views.seen_of};
 
 use crate::row::Seen;
 use crate::weights::{Weights, may_be_more};
 use bundle_rules::{Bundle, Menu, feasible, prefers, utility};
 use market_units::{MAX_COURSES, SectionNo, StudentNo};
 
-/// What a student with this menu, whose own bundle has this utility for it, sees in the bundle of
-/// another; `None` where it has no more utility than its own. Most bundles need no search, by their
-/// weights.
+/// What a student with the menu of these weights, whose own bundle has this utility for it, sees in
+/// the bundle of another; `None` where it has no more utility than its own. Most bundles need no
+/// search, by their weights.
 pub(crate) fn sight(
-    menu: &Menu,
     weights: &Weights,
     own: i32,
     student: StudentNo,
     bundle: &Bundle,
 ) -> Option<Seen>
-    requires weights { AreWeights (wishes_of menu.now) weights.now }
-    requires few { All (λ weight. weight ≤ 20000) weights.now }
-    ensures { option_map seen_of result ≡ envied menu.now own student.0 (sections_of bundle.now) }
+    ensures { option_map seen_of result
+        ≡ envied weights.now.menu.now own student.0 (sections_of bundle.now) }
 {
-    if !may_be_more(menu, weights, own, bundle) {
+    if !may_be_more(weights, own, bundle) {
         return None;
     }
+    let menu = weights.menu;
     let best = best_out_of(menu, bundle);
     if utility(menu, &best) <= own {
         return None;
@@ -97,36 +96,16 @@ fn best_from(menu: &Menu, later: &[SectionNo], chosen: Bundle) -> Bundle
         [] => chosen,
         [section, more @ ..] => {
             let without = best_from(menu, more, chosen);
-            match extended(menu, chosen, *section) {
-                Some(wider) => {
-                    let with_it = best_from(menu, more, wider);
-                    if prefers(menu, &with_it, &without) {
-                        with_it
-                    } else {
-                        without
-                    }
-                }
-                None => without,
+            let wider = chosen.with(*section);
+            if !feasible(menu, &wider) {
+                return without;
+            }
+            let with_it = best_from(menu, more, wider);
+            if prefers(menu, &with_it, &without) {
+                with_it
+            } else {
+                without
             }
         }
-    }
-}
-
-// The bundle with one more section, where the student may take that.
-fn extended(menu: &Menu, chosen: Bundle, section: SectionNo) -> Option<Bundle>
-    requires room { length (sections_of chosen) < MAX_COURSES }
-    requires above { IsAscending (sections_of chosen ++ section.0 ∷ []) }
-    ensures value { IfSome result
-        (λ wider. sections_of wider ≡ sections_of chosen ++ section.0 ∷ []) }
-    ensures feasible { IfSome result
-        (λ wider. IsFeasible (wishes_of menu.now) (sections_of wider)) }
-    ensures none { IfNone result
-        (¬ IsFeasible (wishes_of menu.now) (sections_of chosen ++ section.0 ∷ [])) }
-{
-    let wider = chosen.with(section);
-    if feasible(menu, &wider) {
-        Some(wider)
-    } else {
-        None
     }
 }

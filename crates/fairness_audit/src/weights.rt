@@ -1,8 +1,9 @@
 // Which bundles need no search, since all that could be seen in them is worth too little.
 ghost use Rattle.std.specs.Prelude.{◌≡◌, ◌≤◌, ◌<◌, ◌*◌, ◌+◌, ◌-◌, All, unsigned_abs, IsTrue, false, length, slice_index};
+ghost use Rattle.std.proofs.Props.{props};
 ghost use Rattle.market_units.specs.Totals.{total};
 ghost use Rattle.bundle_rules.specs.Bundles.{sections_of};
-ghost use Rattle.bundle_rules.specs.Menus.{IsMenu, adjustment_in, wishes_of};
+ghost use Rattle.bundle_rules.specs.Menus.{adjustment_in, wishes_of};
 ghost use Rattle.bundle_rules.specs.Ordinals.{ordinals};
 ghost use Rattle.fairness_audit.specs.Envy.{is_more};
 ghost use Rattle.fairness_audit.specs.Weights.{AreWeights, gains, weight_at};
@@ -11,18 +12,23 @@ ghost use Rattle.bundle_bounds.specs.Opens.{above_zero};
 use bundle_rules::{Bundle, Menu};
 use market_units::{MAX_ADJUSTMENT, MAX_COURSES, MAX_SECTIONS, SectionNo};
 
-// What each section can at most add to a bundle of a student, by ordinal. A section that the
-// student does not rate adds nothing.
-pub(crate) type Weights = [u32; SECTIONS];
-
 const SECTIONS: usize = MAX_SECTIONS as usize;
 
+/// A student's menu, and what each section can at most add to a bundle of the student, by ordinal:
+/// at most 20,000. A section that the student does not rate adds nothing.
+#[derive(Drop)]
+pub(crate) struct Weights<'a> {
+    pub menu: &'a Menu,
+    each: [u32; SECTIONS],
+    pub ghost weights: { AreWeights (wishes_of menu.now) each } by { Prim.hlevel props },
+    pub ghost few: { All (λ weight. weight ≤ 20000) each } by { Prim.hlevel props },
+}
+
 /// For each section of the menu its rating and all its adjustments with later sections that are not
-/// negative, at most 20,000: no more than this does it add to a bundle with later sections.
-/// Sections that are not on the menu have 0.
-pub(crate) fn weights_of(menu: &Menu) -> Weights
-    ensures weights { AreWeights (wishes_of menu.now) result }
-    ensures few { All (λ weight. weight ≤ 20000) result }
+/// negative: no more than this does it add to a bundle with later sections. Sections that are not on
+/// the menu have 0.
+pub(crate) fn weights_of<'a>(menu: &'a Menu) -> Weights<'a>
+    ensures { result.menu.now ≡ menu.now }
 {
     let mut weights = [0; SECTIONS];
     'places: for place in 0..menu.len() {
@@ -30,13 +36,15 @@ pub(crate) fn weights_of(menu: &Menu) -> Weights
         weights[usize::from(rated.section.0)] = u32::from(rated.rating)
             + gains(menu, place, place + 1);
     }
-    weights
+    Weights {
+        menu,
+        each: weights,
+    }
 }
 
 // What the adjustments of a place with this one and those behind it add where they are not
 // negative.
 fn gains(menu: &Menu, place: u8, other: u8) -> u32
-    requires menu { IsMenu menu.now }
     requires place { place < length menu.now.places }
     requires other { other ≤ length menu.now.places }
     ensures value { result
@@ -58,19 +66,16 @@ fn gain(adjustment: i16) -> u32
 
 /// Whether the bundle may bring the student more utility than its own: the weights of its sections
 /// sum to more. Where not, nothing that it sees there is worth more.
-pub(crate) fn may_be_more(menu: &Menu, weights: &Weights, own: i32, bundle: &Bundle) -> bool
-    requires weights { AreWeights (wishes_of menu.now) weights.now }
-    requires few { All (λ weight. weight ≤ 20000) weights.now }
-    ensures { result ≡ false → is_more menu.now own (sections_of bundle.now) ≡ false }
+pub(crate) fn may_be_more(weights: &Weights, own: i32, bundle: &Bundle) -> bool
+    ensures { result ≡ false → is_more weights.now.menu.now own (sections_of bundle.now) ≡ false }
 {
     i64::from(sum_of(weights, bundle.sections())) > i64::from(own)
 }
 
 // The weights of at most 8 sections, added up.
 fn sum_of(weights: &Weights, sections: &[SectionNo]) -> u32
-    requires weights { All (λ weight. weight ≤ 20000) weights.now }
-    requires few { length sections.now ≤ MAX_COURSES }
-    ensures value { result ≡ total (slice_index weights.now) (ordinals sections.now) }
+    requires { length sections.now ≤ MAX_COURSES }
+    ensures value { result ≡ total (slice_index weights.now.each) (ordinals sections.now) }
     ensures few { result ≤ 20000 * length sections.now }
 {
     match sections {
@@ -81,11 +86,10 @@ fn sum_of(weights: &Weights, sections: &[SectionNo]) -> u32
 
 // The weight of a section.
 fn weight_of(weights: &Weights, section: SectionNo) -> u32
-    requires { All (λ weight. weight ≤ 20000) weights.now }
-    ensures value { result ≡ slice_index weights.now section.0 }
+    ensures value { result ≡ slice_index weights.now.each section.0 }
     ensures few { result ≤ 20000 }
 {
-    match weights.get(usize::from(section.0)) {
+    match weights.each.get(usize::from(section.0)) {
         Some(weight) => *weight,
         None => 0,
     }

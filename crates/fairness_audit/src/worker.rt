@@ -1,13 +1,12 @@
 // What one worker does in an audit.
 ghost use Rattle.std.specs.Prelude.{◌≡◌, ◌<◌};
 ghost use Rattle.task_board.specs.Seats.{IsFinished, IsFree};
-ghost use Rattle.fairness_audit.specs.Allocations.{IsAllocation, allocation_of};
+ghost use Rattle.fairness_audit.specs.Allocations.{allocation_of};
 ghost use Rattle.fairness_audit.specs.Asked.{audit_rules};
 
+use crate::allocation::Allocated;
 use crate::counting::count_envy;
 use crate::tasks::AuditTasks;
-use bundle_rules::Bundle;
-use demand_api::Crowd;
 use market_edge::{Gate, Stop};
 use market_units::{MAX_WORKERS, StudentNo};
 use std::sync::Wait;
@@ -19,12 +18,11 @@ pub(crate) fn work<R: Wait, G: Gate>(
     rt: &R,
     board: &Board<AuditTasks>,
     seat: &mut BoardSeat<AuditTasks>,
-    crowd: &Crowd,
-    bundles: &[Bundle],
+    allocated: &Allocated,
     gate: &G,
 )
-    requires bundles { IsAllocation (allocation_of crowd.now bundles.now) }
-    requires board { board.now.base.allocation ≡ allocation_of crowd.now bundles.now }
+    requires board { board.now.base.allocation
+        ≡ allocation_of allocated.now.crowd.now allocated.now.bundles.now }
     requires number { seat.old.number < MAX_WORKERS }
     requires free { IsFree audit_rules board.now seat.old }
     ensures finished { IsFinished audit_rules board.now seat.new }
@@ -33,7 +31,11 @@ pub(crate) fn work<R: Wait, G: Gate>(
     let number = seat.number() + 1;
     gate.pass(Stop::WorkerStart(number));
     'students: while let Some(student) = board.draw(rt, seat) {
-        let row = count_envy(crowd, bundles, StudentNo(student as u16));
+        let row = count_envy(
+            allocated.crowd,
+            allocated.bundles,
+            StudentNo(student as u16),
+        );
         board.post(rt, seat, student, row);
         gate.pass(Stop::WorkerCall(number));
     }

@@ -7,9 +7,9 @@ use Rattle.published_parts.specs.Markets.{Market}
 use Rattle.published_parts.specs.Views.{market_in}
 
 -- the market
-abbrev pub market_at : MarketDesk → Market
-market_at heard = market_in heard.market
+abbrev pub market_heard : MarketDesk → Market
+market_heard heard = market_in heard.market
 
 -- what was said, and replied
-abbrev pub journal_at : MarketDesk → List Entry
-journal_at heard = entries_of heard.desk.now
+abbrev pub journal_heard : MarketDesk → List Entry
+journal_heard heard = entries_of heard.desk.now

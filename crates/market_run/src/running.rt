@@ -3,7 +3,7 @@ ghost use Rattle.std.specs.Prelude.{◌≡◌, ◌≤◌, ℕ, Err, IfOk};
 ghost use Rattle.std.specs.Arc.{arc_value};
 ghost use Rattle.demand_api.specs.Views.{data_of};
 ghost use Rattle.market_certificate.specs.{Publications.IsPublication, Views.publication_of};
-ghost use Rattle.market_run.specs.Views.{journal_at, market_at};
+ghost use Rattle.market_run.specs.Views.{journal_heard, market_heard};
 ghost use Rattle.published_parts.specs.{Crowds.IsCrowdIn, Markets.tables_in};
 ghost use Rattle.published_market.specs.Publishing.{HasNoPrices, IsPublicationOf, lengths_of};
 
@@ -24,7 +24,7 @@ pub(crate) struct Ran {
     pub published: Published,
 }
 
-// A crowd, and the same crowd for whom its demands are asked of.
+// A crowd, twice shared: to be told of, and to be asked for its demands.
 #[derive(Drop)]
 struct Shared {
     crowd: Arc<Crowd>,
@@ -35,7 +35,7 @@ struct Shared {
 fn share(alloc: Global, heard: &MarketDesk) -> Result<Shared, NoMemory>
     ensures same { IfOk result (λ shared. arc_value shared.asked ≡ arc_value shared.crowd) }
     ensures crowd { IfOk result
-        (λ shared. IsCrowdIn (market_at heard.now) (journal_at heard.now)
+        (λ shared. IsCrowdIn (market_heard heard.now) (journal_heard heard.now)
         (data_of (arc_value shared.crowd))) }
 {
     let crowd = crowd_after(alloc, &heard.market, heard.desk)?;
@@ -58,17 +58,17 @@ pub(crate) fn run<R: Threads + Wait + Sync>(
 ) -> Result<Ran, PublishEnd>
     requires { (1 ≤ workers) × (workers ≤ MAX_WORKERS) }
     ensures crowd { IfOk result
-        (λ ran. IsCrowdIn (market_at heard.now) (journal_at heard.now)
+        (λ ran. IsCrowdIn (market_heard heard.now) (journal_heard heard.now)
         (data_of (arc_value ran.crowd))) }
     ensures published { IfOk result
-        (λ ran. IsPublicationOf (market_at heard.now) (journal_at heard.now)
+        (λ ran. IsPublicationOf (market_heard heard.now) (journal_heard heard.now)
         (lengths_of ran.published.turns ran.published.rounds ran.published.passes)
         (publication_of ran.published.publication)) }
     ensures in_range { IfOk result
-        (λ ran. IsPublication (tables_in (market_at heard.now))
+        (λ ran. IsPublication (tables_in (market_heard heard.now))
         (publication_of ran.published.publication)) }
     ensures no_prices { (least : ℕ) → result ≡ Err (PublishEnd.NoPrices least)
-        → HasNoPrices (market_at heard.now) (journal_at heard.now) least }
+        → HasNoPrices (market_heard heard.now) (journal_heard heard.now) least }
 {
     let Shared { crowd, asked } = share(alloc, heard)?;
     let pool = Pool::reserve(alloc, workers)?;

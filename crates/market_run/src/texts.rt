@@ -3,7 +3,7 @@ ghost use Rattle.std.specs.Prelude.{◌≡◌, ◌≤◌, ℕ, Err, IfOk};
 ghost use Rattle.demand_api.specs.Crowds.{CrowdData};
 ghost use Rattle.market_certificate.specs.Publications.{IsPublication, Publication};
 ghost use Rattle.market_certificate.specs.Texts.{text_of};
-ghost use Rattle.market_run.specs.{Summaries.summary_text, Views.journal_at, Views.market_at};
+ghost use Rattle.market_run.specs.{Summaries.summary_text, Views.journal_heard, Views.market_heard};
 ghost use Rattle.published_parts.specs.{Crowds.IsCrowdIn, Markets.tables_in};
 ghost use Rattle.published_market.specs.Publishing.{HasNoPrices, IsPublicationOf, Lengths};
 
@@ -31,11 +31,11 @@ pub fn published_text<R: Threads + Wait + Sync>(
     requires { (1 ≤ workers) × (workers ≤ MAX_WORKERS) }
     ensures text { IfOk result
         (λ text. (lengths : Lengths) × (p : Publication)
-        × IsPublicationOf (market_at heard.now) (journal_at heard.now) lengths p
-        × IsPublication (tables_in (market_at heard.now)) p
-        × (text.items ≡ text_of (tables_in (market_at heard.now)) p)) }
+        × IsPublicationOf (market_heard heard.now) (journal_heard heard.now) lengths p
+        × IsPublication (tables_in (market_heard heard.now)) p
+        × (text.items ≡ text_of (tables_in (market_heard heard.now)) p)) }
     ensures no_prices { (least : ℕ) → result ≡ Err (PublishEnd.NoPrices least)
-        → HasNoPrices (market_at heard.now) (journal_at heard.now) least }
+        → HasNoPrices (market_heard heard.now) (journal_heard heard.now) least }
 {
     let ran = run(rt, alloc, workers, heard, gate)?;
     let market = &heard.market;
@@ -59,11 +59,11 @@ pub fn made_summary<R: Threads + Wait + Sync>(
     requires { (1 ≤ workers) × (workers ≤ MAX_WORKERS) }
     ensures text { IfOk result
         (λ text. (crowd : CrowdData) × (lengths : Lengths) × (p : Publication)
-        × IsCrowdIn (market_at heard.now) (journal_at heard.now) crowd
-        × IsPublicationOf (market_at heard.now) (journal_at heard.now) lengths p
+        × IsCrowdIn (market_heard heard.now) (journal_heard heard.now) crowd
+        × IsPublicationOf (market_heard heard.now) (journal_heard heard.now) lengths p
         × (text.items ≡ summary_text crowd lengths p)) }
     ensures no_prices { (least : ℕ) → result ≡ Err (PublishEnd.NoPrices least)
-        → HasNoPrices (market_at heard.now) (journal_at heard.now) least }
+        → HasNoPrices (market_heard heard.now) (journal_heard heard.now) least }
 {
     let ran = run(rt, alloc, workers, heard, gate)?;
     Ok(summary_text(alloc, &ran.crowd, &ran.published)?)

@@ -60,7 +60,7 @@ others-preserved-in_default c =
     (at_student c.args.bundles.now c.index-bundles-place.result c.from-place.result c.args.student.0 c.from-place.ensures c.index-bundles-place.is)
     c.utility-own.result c.utility-own.ensures c.others.other (row_of c.others.row) c.others.invariant c.others-test.true c.index-bundles-other.result
     c.index-bundles-other.is
-    (sym (rw back at c.sight.ensures) ∙ ap (option_map seen_of) c.in_default.is)
+    (sym (rw (back, c.weights_of-weights.ensures) at c.sight.ensures) ∙ ap (option_map seen_of) c.in_default.is)
 
 pub index-requires : goal.index-requires
 index-requires c =
@@ -99,7 +99,7 @@ others-preserved c =
     c.utility-own.result c.utility-own.ensures c.others.other (row_of c.others.row) c.others.invariant c.others-test.true c.index-bundles-other.result
     c.index-bundles-other.is
     (seen_of c.in-Some.seen) c.index-budget.result.now c.index.result.now (λ here. c.if-other-place.false (here ∙ sym c.from-place.ensures))
-    (sym (rw back at c.sight.ensures) ∙ ap (option_map seen_of) c.in-Some.is)
+    (sym (rw (back, c.weights_of-weights.ensures) at c.sight.ensures) ∙ ap (option_map seen_of) c.in-Some.is)
     (at_student c.args.crowd.now.budgets.items c.index-budget.result.now c.from-place.result c.args.student.0 c.from-place.ensures c.index-budget.ensures)
     c.index.ensures
 

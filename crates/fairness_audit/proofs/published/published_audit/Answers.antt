@@ -12,8 +12,8 @@ audit_accepted-requires-clause-checked g c κs within =
     (publication_of c.in_ok-accepted.accepted.publication) (data_of c.in_ok-accepted.accepted.crowd)
     c.in_ok-accepted.ensures.text c.in_ok-accepted.ensures.holds
 
-pub returns-in-Ok-clause-audited : goal.returns-in-Ok-clause-audited
-returns-in-Ok-clause-audited g c =
+pub returns-clause-audited : goal.returns-clause-audited
+returns-clause-audited g c =
     let market = market_in c.args.market.now in
     let streams = map (λ stream. stream.items) c.args.streams.now in
     record {
@@ -21,7 +21,7 @@ returns-in-Ok-clause-audited g c =
       is_text = c.in_ok-accepted.ensures.text;
       crowd = data_of c.in_ok-accepted.accepted.crowd;
       holds = c.in_ok-accepted.ensures.holds;
-      is_audited = c.in-Ok.ensures;
+      is_audited = c.in_ok-audit_accepted.ensures;
       none_lower = no_lower_count market streams c.args.text.items
           (accepted_by market streams c.args.text.items (publication_of c.in_ok-accepted.accepted.publication) (data_of c.in_ok-accepted.accepted.crowd)
           c.in_ok-accepted.ensures.text c.in_ok-accepted.ensures.holds);

@@ -15,12 +15,12 @@ returns c = λ less.
     let f : ℤ = c.from.result in
     let o : ℤ = c.from-2.result in
     let n : ℕ = c.sum_of.result in
-    let m : ℕ = total (slice_index c.args.weights.now) (sections_of c.args.bundle.now) in
+    let m : ℕ = total (slice_index c.args.weights.now.each) (sections_of c.args.bundle.now) in
     let one : to_z w64 (of_z w64 c.from.result) ≡ c.from.result = omega (arith, ints) in
     let two : to_z w64 (of_z w64 c.from-2.result) ≡ c.from-2.result = omega (arith, ints) in
     let low : f ≤ℤ o = not_less o f (rw (one, two) at less) in
     let summed : f ≡ pos n = c.from.ensures in
-    let told : n ≡ m = c.sum_of.ensures.value ∙ ap (total (slice_index c.args.weights.now)) c.sections.ensures.value in
+    let told : n ≡ m = c.sum_of.ensures.value ∙ ap (total (slice_index c.args.weights.now.each)) c.sections.ensures.value in
     let own : o ≡ c.args.own = search rules in
-    not_more c.args.menu.now c.args.weights.now c.requires.weights c.args.own (sections_of c.args.bundle.now) c.sections.ensures.bundle.ascending
+    not_more c.args.weights.now.menu.now c.args.weights.now.each c.args.weights.now.weights c.args.own (sections_of c.args.bundle.now) c.sections.ensures.bundle.ascending
     (subst (λ z. pos m ≤ℤ z) own (subst (λ k. pos k ≤ℤ o) told (subst (λ z. z ≤ℤ o) summed low)))

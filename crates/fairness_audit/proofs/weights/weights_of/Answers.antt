@@ -52,13 +52,17 @@ places-preserved c =
           (let w : ℕ = weight_at menu p in let v : ℕ = r + g in let is : w ≡ v = weight in let goal : w ≤ v = omega arith in goal));
     }
 
-pub returns-clause-weights : goal.returns-clause-weights
-returns-clause-weights c =
+pub invariant_of-result : goal.invariant_of-result
+invariant_of-result c =
     let menu = c.args.menu.now in
     let p : ℕ = c.places.place in
     let l : ℕ = length menu.places in
     let e : ℕ = c.len-place-end.result in
     let ends : e ≡ l = c.len-place-end.ensures.value in
     let over : e ≤ p = omega (arith, c.places-test.false) in
-    weights_are menu c.places.weights c.len-place-end.ensures.menu
-    (λ k low. c.places.invariant.each k (let b : k < l = low in let goal : k < p = omega arith in goal))
+    record {
+      weights =
+          weights_are menu c.places.weights c.len-place-end.ensures.menu
+          (λ k low. c.places.invariant.each k (let b : k < l = low in let goal : k < p = omega arith in goal));
+      few = c.places.invariant.few;
+    }

@@ -9,7 +9,7 @@ use Rattle.fairness_audit.proofs.worker.work.Goals as goal
 
 pub count_envy-row-requires-clause-student : goal.count_envy-row-requires-clause-student
 count_envy-row-requires-clause-student g c =
-    subst (λ n. c.in-Some.student < n) (ap student_count c.requires.board ∙ count_is c.args.crowd.now c.args.bundles.now) c.in-Some.ensures.holds.0.below
+    subst (λ n. c.in-Some.student < n) (ap student_count c.requires.board ∙ count_is c.args.allocated.now.crowd.now c.args.allocated.now.bundles.now) c.in-Some.ensures.holds.0.below
 
 pub post-requires-clause-answer : goal.post-requires-clause-answer
 post-requires-clause-answer g c =
