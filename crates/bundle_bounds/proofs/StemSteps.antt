@@ -14,11 +14,10 @@ use Rattle.bundle_rules.specs.PlaceLists.{listed}
 use Rattle.bundle_rules.proofs.Feasibility.{place_of_rated, utility_by_place}
 use Rattle.bundle_bounds.specs.declared.nodes.Leaf.{Leaf}
 use Rattle.bundle_bounds.specs.declared.prospects.Prospect.{Prospect}
-use Rattle.bundle_bounds.specs.declared.prospects.Resource.TheVariants.{Count}
 use Rattle.bundle_bounds.specs.declared.stems.Stem.{Stem}
 use Rattle.bundle_bounds.specs.declared.tangents.Tangents.{Tangents}
 use Rattle.bundle_bounds.specs.Ahead.{limit_of}
-use Rattle.bundle_bounds.specs.Bounds.{at_price, over_price, bounds, all_bounds, IsFirstPruning, NonePrunes}
+use Rattle.bundle_bounds.specs.Bounds.{bounds, all_bounds, IsFirstPruning, NonePrunes}
 use Rattle.bundle_bounds.specs.Courses.{by_course}
 use Rattle.bundle_bounds.specs.Laws.{IsNode}
 use Rattle.bundle_bounds.specs.Limits.{NoneBelow, IsFirstBelow}
@@ -27,7 +26,6 @@ use Rattle.bundle_bounds.specs.Offers.{OfferData, places_of}
 use Rattle.bundle_bounds.specs.Opens.{is_open, open_places, prospect}
 use Rattle.bundle_bounds.specs.Stems.{IsStem, IsQuiet, open_ones_at}
 use Rattle.bundle_bounds.specs.Tangents.{AreTangents}
-use Rattle.bundle_bounds.proofs.Adding.{plain_over}
 use Rattle.bundle_bounds.proofs.BelowLimit.{rest_of_room, some_prunes, none_prunes}
 use Rattle.bundle_bounds.proofs.ByPlace.{ascending_places, has-places}
 use Rattle.bundle_bounds.proofs.Steps.{no_prospect}
@@ -37,12 +35,6 @@ use Rattle.bundle_bounds.proofs.Stemming.{after_open, after_shut}
 pub not_ahead : (ch : List ℕ) → is_ahead 0 ch [] ≡ false
 not_ahead [] = refl
 not_ahead (p ∷ ps) = let none : nat_lt p 0 ≡ false = grind (arith, nat_tests) in none
-
--- the sum of the plain bound
-pub plain_sum_is : (ps : List Prospect) → at_price Count 0 0 ps ≡ by_course (λ p. 1000 * p.worth) ps
-plain_sum_is ps =
-    let a : ℕ = by_course (over_price Count 0) ps in
-    let goal : 0 * 0 + a ≡ a = omega arith in goal ∙ ap (λ f. by_course f ps) plain_over
 
 pub no_tangents : (budget credit_rest course_rest : ℕ) (all : List Prospect) (tangents : Tangents) → tangents.money ≡ None → tangents.credits ≡ None
     → tangents.courses ≡ None → AreTangents budget credit_rest course_rest all tangents

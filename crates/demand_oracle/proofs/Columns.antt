@@ -3,7 +3,7 @@ use Rattle.std.proofs.Common.{◌≡◌, ◌<◌, ◌≤◌, ◌+◌, ◌-◌, �
 use Rattle.std.proofs.lemmas.List.{map-append}
 use Rattle.market_units.specs.Totals.{total}
 use Rattle.market_units.proofs.Sums.{total-append}
-use Rattle.bundle_rules.specs.Menus.{IsMenu, by_place, credits_at, place_in, section_at, wishes_of}
+use Rattle.bundle_rules.specs.Menus.{IsMenu, by_place, credits_at, place_in, section_at}
 use Rattle.bundle_rules.proofs.Feasibility.{credits_by_place}
 use Rattle.bundle_bounds.specs.Offers.{OfferData, price_at, places_of}
 use Rattle.bundle_bounds.specs.Opens.{budget_left, credits_left}
@@ -19,15 +19,6 @@ use Rattle.demand_oracle.specs.Values.{hopes_from}
 use Rattle.demand_oracle.proofs.Growing.{paid_next, credits_next}
 use Rattle.demand_oracle.proofs.Openings.{budget_kept, credits_kept}
 use Rattle.demand_oracle.proofs.Pruning.{hopes_read}
-
--- where one more section may be taken, there is room for it
-pub room_for_one : (offer : OfferData) → IsMenu offer.menu → (chosen : List ℕ) (s : ℕ) → IsTakable offer (chosen ++ s ∷ []) → length chosen < 8
-unfolding wishes_of
-room_for_one offer menu chosen s may =
-    let cap : offer.menu.courses ≤ 8 = menu.caps.courses_cap in
-    let courses : length (chosen ++ s ∷ []) ≤ offer.menu.courses = may.feasible.courses in
-    let more : length (chosen ++ s ∷ []) ≡ length chosen + 1 = length-append chosen (s ∷ []) in
-    omega arith
 
 module _ (offer : OfferData) (menu : IsMenu offer.menu) (summed : SummedNode) (is : IsSummed offer.menu offer.price summed) (reach : Reach) (column : Column) where
   -- the column of a node with its sums is that of what its sections leave

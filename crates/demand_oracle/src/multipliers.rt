@@ -10,7 +10,7 @@ ghost use Rattle.std.specs.Prelude.{◌≤◌, ◌^◌};
 use crate::places::fitting;
 use crate::tables::{MILLION, PLACES, ROWS};
 use bundle_bounds::{Offer, price_of_place};
-use market_units::{MAX_COURSES, MAX_RATINGS};
+use market_units::{MAX_COURSES, MAX_RATINGS, MAX_SECTION_CREDITS};
 
 /// What a token of the price and a credit are counted for, in millionths of a point of utility.
 #[derive(Clone, Copy, Debug)]
@@ -72,7 +72,9 @@ pub(crate) fn multipliers_at(
     offer: &Offer,
     hopes: &[[u16; PLACES]; ROWS],
     lightest: u32,
-) -> Multipliers {
+) -> Multipliers
+    requires lightest { lightest ≤ MAX_SECTION_CREDITS }
+{
     let menu = offer.menu;
     let mut items = [NO_ITEM; PLACES];
     let len = items_of(offer, hopes, &mut items);

@@ -1,5 +1,4 @@
-use Rattle.std.proofs.Common.{◌<◌, length, [], arith, subst, sym, rules}
-use Rattle.std.specs.Prelude.{ℕ, List}
+use Rattle.std.proofs.Common.{arith}
 use Rattle.bundle_rules.specs.Demand.{price_in}
 use Rattle.demand_oracle.proofs.step.alone.Goals as goal
 
