@@ -151,6 +151,13 @@ settled crowd seats start held number is within = (
   is.counted,
 )
 
+-- the section that is most over what is held is most over the counts
+pub most_held : (crowd : CrowdData) (seats : List ℕ) (held : HeldData) (s : ℕ) → Holds crowd held → length seats ≡ crowd.sections
+    → IsMostOver (length seats) (λ t. holders t held.bundles) seats s → IsMostOver crowd.sections (count crowd (price_in held.prices)) seats s
+most_held crowd seats held s holds same most =
+    subst (λ n. IsMostOver n (count crowd (price_in held.prices)) seats s) same
+    (subst (λ bundles. IsMostOver (length seats) (λ t. holders t bundles) seats s) holds.bundles most)
+
 -- what is told of the held bundles holds of the counts
 pub within_held : (crowd : CrowdData) (seats : List ℕ) (held : HeldData) → Holds crowd held → length seats ≡ crowd.sections
     → AreCountsWithin (length seats) (λ s. holders s held.bundles) seats → AreCountsWithin crowd.sections (count crowd (price_in held.prices)) seats

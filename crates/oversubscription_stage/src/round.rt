@@ -1,16 +1,10 @@
-// One round of the elimination.
-ghost use Rattle.std.specs.Prelude.{◌≡◌, ◌≤◌, IfOk, IfSome, IfNone, length};
-ghost use Rattle.bundle_rules.specs.Demand.{price_in};
-ghost use Rattle.demand_api.specs.Crowds.{count, holders};
-ghost use Rattle.own_price.specs.Holding.{Holds};
-ghost use Rattle.oversubscription_stage.specs.Rounds.{AreCountsWithin, IsMostOver, IsRound};
+// The section whose price is raised in a round of the elimination.
+ghost use Rattle.std.specs.Prelude.{◌≡◌, ◌≤◌, IfSome, IfNone, length};
+ghost use Rattle.demand_api.specs.Crowds.{holders};
+ghost use Rattle.oversubscription_stage.specs.Rounds.{AreCountsWithin, IsMostOver};
 
-use demand_api::Demands;
-use market_units::{MAX_SECTIONS, NoMemory, SectionNo};
+use market_units::{MAX_SECTIONS, SectionNo};
 use own_price::Held;
-use std::alloc::Global;
-use std::sync::Wait;
-use std::thread::Threads;
 
 /// The section with the most students too many, the lowest ordinal among equals; `None` where no
 /// section has more students than seats.
@@ -34,30 +28,4 @@ pub(crate) fn most_over(held: &Held, seats: &[u16]) -> Option<SectionNo>
         }
     }
     most
-}
-
-/// Raises the price of this section to the least one at which at most its seats and half of those
-/// who are too many, rounded down, take it. The bundles that are held follow.
-pub(crate) fn raise_most<R: Threads + Wait + Sync, D: Demands>(
-    rt: &R,
-    alloc: Global,
-    demands: &mut D,
-    seats: &[u16],
-    held: &mut Held,
-    section: SectionNo,
-) -> Result<(), NoMemory>
-    requires seats { length seats.now ≡ (D.crowd demands.old).sections }
-    requires held { Holds (D.crowd demands.old) held.old }
-    requires section { IsMostOver (D.crowd demands.old).sections
-        (count (D.crowd demands.old) (price_in held.old.prices)) seats.now section.0 }
-    ensures crowd { D.crowd demands.new ≡ D.crowd demands.old }
-    ensures round { IfOk result
-        (λ done. IsRound (D.crowd demands.old) seats.now held.old.prices held.new.prices) }
-    ensures held { IfOk result (λ done. Holds (D.crowd demands.old) held.new) }
-{
-    let seats = u32::from(seats[usize::from(section.0)]);
-    let limit = seats + (held.count(section) - seats) / 2;
-    let least = demands.least_prices(rt, alloc, held.prices(), &[(section, limit)])?;
-    held.raise(rt, alloc, demands, section, least[0])?;
-    Ok(())
 }

@@ -3,7 +3,7 @@ ghost use Rattle.std.specs.Prelude.{◌≡◌, IfOk, length};
 ghost use Rattle.demand_api.specs.Asking.{ArePricesFor};
 ghost use Rattle.oversubscription_stage.specs.Rounds.{IsSettled, AreTaken};
 
-use crate::round::{most_over, raise_most};
+use crate::round::most_over;
 use bundle_rules::Bundle;
 use demand_api::Demands;
 use market_units::{NoMemory, Tokens};
@@ -48,7 +48,10 @@ pub fn settle<R: Threads + Wait + Sync, D: Demands>(
     let mut held = Held::take(rt, alloc, demands, prices)?;
     let mut rounds = 0;
     while let Some(section) = most_over(&held, seats) {
-        raise_most(rt, alloc, demands, seats, &mut held, section)?;
+        let room = u32::from(seats[usize::from(section.0)]);
+        let limit = room + (held.count(section) - room) / 2;
+        let least = demands.least_prices(rt, alloc, held.prices(), &[(section, limit)])?;
+        held.raise(rt, alloc, demands, section, least[0])?;
         rounds += 1;
     }
     Ok(Settled {

@@ -99,7 +99,7 @@ impl Held {
         price: Tokens,
     ) -> Result<(), NoMemory>
         requires held { Holds (D.crowd demands.old) self.old }
-        requires section { section.0 < (D.crowd demands.old).sections }
+        requires section { section.0 < length self.old.prices }
         requires up { price_in self.old.prices section.0 ≤ price.0 }
         requires capped { price.0 ≤ top (D.crowd demands.old) }
         ensures crowd { D.crowd demands.new ≡ D.crowd demands.old }

@@ -1,5 +1,5 @@
 -- The sections of a student's rows are below the number of sections.
-use Rattle.std.proofs.Common.{ℕ, ◌≡◌, ◌<◌, List, map, sym, subst, arith}
+use Rattle.std.proofs.Common.{ℕ, ◌≡◌, ◌<◌, List, map, sym, subst}
 use Rattle.std.specs.Prelude.{ℤ, All}
 use Rattle.std.specs.FinMap.{entries}
 use Rattle.market_units.proofs.Images.{unmapped}

@@ -1,5 +1,5 @@
 -- The sections that are rated or adjusted are the desk's.
-use Rattle.std.proofs.Common.{ℕ, ◌==◌, ◌≡◌, ◌<◌, Bool, true, false, true≢false, not, cond, ◌&&◌, List, [], ◌∷◌, length, get_or, refl, sym, ◌∙◌, subst, arith, inl, inr}
+use Rattle.std.proofs.Common.{ℕ, ◌==◌, ◌≡◌, ◌<◌, true, false, not, cond, ◌&&◌, List, length, refl, arith}
 use Rattle.std.specs.Prelude.{ℤ, All, unsigned_abs}
 use Rattle.std.specs.Cmp.{nat_cmp_total}
 use Rattle.std.specs.Ordering.{nat_cmp, eq_by_cmp}
@@ -11,9 +11,9 @@ use Rattle.utility_language.specs.declared.commands.Command.{Command}
 use Rattle.utility_language.specs.declared.commands.Command.TheVariants.{Rate, Pair, Clear, Close, Unreadable}
 use Rattle.preference_desk.specs.declared.entry.Entry.{Entry}
 use Rattle.preference_desk.specs.DeskNames.{DeskNames, has_name, ordinal_of}
-use Rattle.preference_desk.specs.DeskStep.{DeskState, is_done, changed, reply_to, state_after}
+use Rattle.preference_desk.specs.DeskStep.{DeskState, is_done, changed, reply_to}
 use Rattle.preference_desk.specs.Journals.{opening, state_after_all}
-use Rattle.preference_desk.specs.StudentPreferences.{SectionsBelow, no_preferences, pair_cmp, pair_of, with_rating, with_pair}
+use Rattle.preference_desk.specs.StudentPreferences.{SectionsBelow, no_preferences, pair_cmp, pair_of, with_rating}
 use Rattle.preference_desk.proofs.Keeping.{at_or_default, closed_keep, done_skips, pair_keeps}
 use Rattle.preference_desk.proofs.NameLemmas.{found_inside}
 use Rattle.preference_desk.proofs.RowLemmas.{entries-remove, entries-nothing, All-put}

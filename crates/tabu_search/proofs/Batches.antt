@@ -1,5 +1,5 @@
 -- Counts of vectors, batch by batch.
-use Rattle.std.proofs.Common.{Vec, Global, ℕ, ◌+◌, ◌-◌, ◌<◌, ◌≤◌, ◌≡◌, ◌∙◌, ◌++◌, List, map, take, drop, length, min, get_or, sym, ap, arith, take-add}
+use Rattle.std.proofs.Common.{Vec, Global, ℕ, ◌+◌, ◌-◌, ◌<◌, ◌≤◌, ◌≡◌, ◌∙◌, ◌++◌, ◌∷◌, [], List, map, take, drop, length, min, get_or, sym, ap, arith, take-add}
 use Rattle.std.specs.Prelude.{All, slice_index_or}
 use Rattle.std.proofs.lemmas.List.{map-append, length-map, length-take, length-drop, get_or-map, take_min}
 use Rattle.std.proofs.lemmas.List.Elements.{All-take, All-drop}
@@ -68,3 +68,9 @@ batch_are crowd crowd' vectors batch n same is all =
     rw (same, is)
     (All-take (λ (v : Vec Tokens Global). ArePricesFor crowd v.items) 16 (drop n vectors)
     (All-drop (λ (v : Vec Tokens Global). ArePricesFor crowd v.items) n vectors all))
+
+-- the counts at the one vector that is counted
+pub counted_one : (crowd : CrowdData) (vector : List Tokens) (found : List (Vec ℕ Global)) (first : Vec ℕ Global)
+    → map (λ counts. counts.items) found ≡ counts_at crowd vector ∷ [] → first ≡ slice_index_or found 0 first → first.items ≡ counts_at crowd vector
+counted_one crowd vector [] first all is = absurd (cc all)
+counted_one crowd vector (one ∷ more) first all is = ap (λ (v : Vec ℕ Global). v.items) is ∙ ap (λ found. slice_index_or found 0 []) all

@@ -1,4 +1,4 @@
-// Counts at one vector and at many.
+// Counts at many vectors.
 ghost use Rattle.std.specs.Prelude.{◌≡◌, ◌≤◌, IfOk, All, length, map, take, drop};
 ghost use Rattle.demand_api.specs.Asking.{ArePricesFor};
 ghost use Rattle.tabu_search.specs.Visits.{counts_at};
@@ -8,23 +8,6 @@ use market_units::{MAX_VERSIONS, NoMemory, Tokens};
 use std::alloc::Global;
 use std::sync::Wait;
 use std::thread::Threads;
-
-/// How many students take each section at these prices, by ordinal.
-pub(crate) fn count_one<R: Threads + Wait + Sync, D: Demands>(
-    rt: &R,
-    alloc: Global,
-    demands: &mut D,
-    prices: &[Tokens],
-) -> Result<Vec<u32>, NoMemory>
-    requires { ArePricesFor (D.crowd demands.old) prices.now }
-    ensures crowd { D.crowd demands.new ≡ D.crowd demands.old }
-    ensures value { IfOk result
-        (λ counts. counts.items ≡ counts_at (D.crowd demands.old) prices.now) }
-{
-    let batch = [prices.to_vec(alloc)?];
-    let found = demands.counts(rt, alloc, &batch)?;
-    Ok(found[0].to_vec(alloc)?)
-}
 
 // The next vectors to be counted, as many as are asked for at once.
 fn next_batch(vectors: &[Vec<Tokens>], done: usize) -> &[Vec<Tokens>]

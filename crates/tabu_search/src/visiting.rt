@@ -3,7 +3,6 @@ ghost use Rattle.std.specs.Prelude.{◌≡◌, IfOk, length};
 ghost use Rattle.demand_api.specs.{Asking.ArePricesFor, Crowds.IsCrowd};
 ghost use Rattle.tabu_search.specs.Walks.{IsVisit};
 
-use crate::counting::count_one;
 use clearing_error::error;
 use demand_api::Demands;
 use market_units::{NoMemory, Tokens};
@@ -35,7 +34,9 @@ pub(crate) fn visit_at<R: Threads + Wait + Sync, D: Demands>(
     ensures prices { IfOk result (λ visit. visit.prices.items ≡ prices.items) }
     ensures visit { IfOk result (IsVisit (D.crowd demands.old) seats.now) }
 {
-    let counts = count_one(rt, alloc, demands, &prices)?;
+    let batch = [prices.to_vec(alloc)?];
+    let found = demands.counts(rt, alloc, &batch)?;
+    let counts = found[0].to_vec(alloc)?;
     let error = error(&counts, seats, &prices);
     Ok(Visit {
         prices,

@@ -1,4 +1,4 @@
-use Rattle.std.proofs.Common.{◌≡◌, ◌≤◌, ◌<◌, ◌∙◌, All, length, map, ap, subst, sym, slice_set}
+use Rattle.std.proofs.Common.{◌≡◌, ◌≤◌, ◌<◌, ◌∙◌, All, arith, length, map, ap, subst, sym, slice_set}
 use Rattle.bundle_rules.specs.Bundles.{sections_of}
 use Rattle.bundle_rules.specs.Demand.{price_in}
 use Rattle.demand_api.specs.Crowds.{demand_of}
@@ -55,8 +55,10 @@ returns-in-Ok-clause-bundles g c =
     let told =
     subst (λ place. map sections_of others ≡ map (λ student. demand_of crowd (price_in (slice_set prices place c.args.price)) student.0) students)
     c.from-place.ensures priced in
+    let section : c.args.section.0 < (g.D.Demands.crowd c.args.demands.now).sections =
+    omega (arith, c.requires.section, c.requires.held.prices.same) in
     let new =
-    raised_holds crowd prices c.self.inside.bundles.items others students c.args.section.0 c.args.price held.prices held.bundles c.requires.section up
+    raised_holds crowd prices c.self.inside.bundles.items others students c.args.section.0 c.args.price held.prices held.bundles section up
     c.requires.capped are told in
     let exchange : c.exchange_all.new.bundles ≡ exchanged c.self.inside.bundles.items students others =
     rw (c.deref_mut.ensures.value, c.deref-in-Ok.ensures.value, c.deref-in-Ok-2.ensures.value) at c.exchange_all.ensures.bundles in
