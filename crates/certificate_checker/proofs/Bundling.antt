@@ -28,7 +28,7 @@ use Rattle.certificate_checker.specs.Terms.{TermsData}
 use Rattle.certificate_checker.specs.Parts.{CanCheck}
 use Rattle.certificate_checker.specs.Students.{IsAffordable, IsProvedBundle, MayTake, offer_in, proved_in}
 use Rattle.certificate_checker.specs.Views.{terms_of}
-use Rattle.certificate_checker.proofs.Reading.{HasLengths, lengths, moved, offer_is, proved_is, so_of_has, stage_two_below}
+use Rattle.certificate_checker.proofs.Reading.{HasLengths, lengths, moved, offer_is, proved_is, so_of_has, stage_two_below, nameless_sections}
 
 -- what is read of a student in the second stage: its menu, its budget, the prices, all sections,
 -- and its bundle with the tree
@@ -52,7 +52,7 @@ all_priced terms publication prices bundle is same below = λ j d low.
     record {
       listed = omega arith;
       high = subst (λ (all : List Tokens). get_or (map (λ (t : Tokens). t.0) all) (get_or bundle j d) 0 ≤ 1000001) (sym same)
-          (is.is_publication.prices.each (get_or bundle j d) 0 (let many = is.is_publication.prices.count in let sections = is.sections in omega arith));
+          (is.is_publication.prices.each (get_or bundle j d) 0 (let many = is.is_publication.prices.count in let sections = nameless_sections terms in omega arith));
     }
 
 module _ (terms : Terms) (publication : declared.Publication) (k : ℕ) (m : MenuData) (b : Tokens) (prices : List Tokens) (all : set.FinSet nat_cmp)

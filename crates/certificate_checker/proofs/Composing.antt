@@ -5,7 +5,8 @@ use Rattle.course_catalog.specs.Sections.{Section}
 use Rattle.student_roll.specs.Students.{Student}
 use Rattle.demand_api.specs.Crowds.{CrowdData, Student as Asked}
 use Rattle.demand_api.proofs.Parts.{students_length}
-use Rattle.market_certificate.specs.Publications.{IsPublication, Publication}
+use Rattle.market_certificate.specs.Publications.{IsBundleOf, IsPublication, Publication}
+use Rattle.market_certificate.specs.Tables.{Tables}
 use Rattle.market_crowd.proofs.CrowdFacts.{menus_length}
 use Rattle.utility_language.specs.declared.commands.Command.{Command}
 use Rattle.published_parts.specs.Crowds.{IsCrowdAfter}
@@ -21,10 +22,10 @@ use Rattle.certificate_checker.specs.Certificates.{IsAllocated, IsTextOf}
 use Rattle.certificate_checker.specs.Findings.{IsFirstFinding, IsFirstIn, IsFirstOf, OnFound}
 use Rattle.certificate_checker.specs.Firsts.{AllBelow}
 use Rattle.certificate_checker.specs.Orders.{IsOrderFinding}
-use Rattle.certificate_checker.specs.Parts.{CanCheck}
+use Rattle.certificate_checker.specs.Parts.{CanCheck, nameless}
 use Rattle.certificate_checker.specs.Terms.{TermsData, terms_in}
 use Rattle.certificate_checker.specs.Views.{terms_of}
-use Rattle.certificate_checker.proofs.Reading.{length_map}
+use Rattle.certificate_checker.proofs.Reading.{length_map, nameless_sections, nameless_students}
 pub use Rattle.proof_tree.proofs.Following.{err_from}
 
 -- as many students as the roll has
@@ -35,17 +36,52 @@ crowd_length market streams order crowd is =
     ∙ menus_length market.catalog.sections market.roll.students (wanted_in market is.journal) (map (λ (student : Asked). student.menu) crowd.students)
     is.is_crowd.menus
 
+-- what students and sections are called plays no part in the ranges of a publication
+bundle_renamed : (one other : List (List ℕ)) (bundle : List ℕ) → length one ≡ length other → IsBundleOf one bundle → IsBundleOf other bundle
+bundle_renamed one other bundle same is = record {
+  is_bundle = is.is_bundle;
+  of_catalog = λ k d low. subst (λ n. get_or bundle k d < n) same (is.of_catalog k d low);
+}
+
+renamed : (one other : Tables) (p : Publication) → length one.students ≡ length other.students → length one.sections ≡ length other.sections
+    → IsPublication one p → IsPublication other p
+renamed one other p students sections is = record {
+  order = is.order;
+  budgets = record { count = is.budgets.count ∙ students; each = is.budgets.each };
+  start = record { count = is.start.count ∙ sections; each = is.start.each };
+  error = is.error;
+  prices = record { count = is.prices.count ∙ sections; each = is.prices.each };
+  bundles = record {
+    count = is.bundles.count ∙ students;
+    each = λ k d low. record {
+      bundle = bundle_renamed one.sections other.sections (get_or p.bundles k d).bundle sections (is.bundles.each k d low).bundle;
+      tree = (is.bundles.each k d low).tree;
+    };
+  };
+  turns = λ k d low. record {
+    least = (is.turns k d low).least;
+    most = (is.turns k d low).most;
+    student = subst (λ n. (get_or p.turns k d).student < n) students (is.turns k d low).student;
+    bundle = bundle_renamed one.sections other.sections (get_or p.turns k d).bundle sections (is.turns k d low).bundle;
+    tree = (is.turns k d low).tree;
+  };
+  allocation = record {
+    count = is.allocation.count ∙ students;
+    each = λ k d low. bundle_renamed one.sections other.sections (get_or p.allocation k d) sections (is.allocation.each k d low);
+  };
+  used = record { count = is.used.count ∙ sections; each = is.used.each };
+}
+
 -- a publication may be looked at by the terms of its market
 pub can_check : (market : Market) (streams : List (List Command)) (terms : Terms) (p : Publication) → IsPublication (tables_in market) p
     → IsCrowdAfter market streams p.order (terms_of terms).crowd → terms_of terms ≡ terms_in market (terms_of terms).crowd
     → market.settings.raise ≤ 50 → CanCheck terms p
 can_check market streams terms p is crowd same low = record {
-  tables = tables_in market;
-  is_publication = is;
-  students =
-      length_map (λ (student : Student). student.name) market.roll.students ∙ sym (crowd_length market streams p.order (terms_of terms).crowd crowd)
-      ∙ students_length terms.crowd;
-  sections = length_map (λ (section : Section). section.name) market.catalog.sections ∙ sym crowd.is_crowd.sections;
+  is_publication =
+      renamed (tables_in market) (nameless terms) p
+      (length_map (λ (student : Student). student.name) market.roll.students ∙ sym (crowd_length market streams p.order (terms_of terms).crowd crowd)
+      ∙ students_length terms.crowd ∙ sym (nameless_students terms))
+      (length_map (λ (section : Section). section.name) market.catalog.sections ∙ sym crowd.is_crowd.sections ∙ sym (nameless_sections terms)) is;
   seats = ap (λ (t : TermsData). length t.seats) same ∙ length_map (λ (section : Section). section.seats) market.catalog.sections ∙ sym crowd.is_crowd.sections;
   raise = subst (λ n. n ≤ 50) (sym (ap (λ (t : TermsData). t.raise) same)) low;
 }

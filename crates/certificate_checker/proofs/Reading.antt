@@ -4,7 +4,7 @@ use Rattle.std.specs.Prelude.{All, IsTrue, nat_lt, not, slice_index}
 use Rattle.std.specs.FinSet as set
 use Rattle.std.specs.Ordering.{nat_cmp}
 use Rattle.std.proofs.lemmas.Bool.Decides.{nat_tests}
-use Rattle.std.proofs.lemmas.List.{get_or-map}
+use Rattle.std.proofs.lemmas.List.{get_or-map, length-replicate}
 use Rattle.market_units.specs.declared.units.Tokens.{Tokens}
 use Rattle.bundle_bounds.specs.Offers.{offer_of}
 use Rattle.bundle_rules.specs.Bundles.{sections_of}
@@ -21,7 +21,7 @@ use Rattle.market_certificate.specs.Publications.{IsProved}
 use Rattle.market_certificate.specs.Views.{proved_of, publication_of}
 use Rattle.certificate_checker.specs.declared.terms.Terms.{Terms}
 use Rattle.certificate_checker.specs.Firsts.{AllBelow}
-use Rattle.certificate_checker.specs.Parts.{CanCheck}
+use Rattle.certificate_checker.specs.Parts.{CanCheck, nameless}
 use Rattle.certificate_checker.specs.Students.{offer_in, proved_in}
 use Rattle.published_parts.specs.Offers.{student_in}
 
@@ -57,6 +57,13 @@ pub length_map : {A B : Type 0} (f : A → B) (xs : List A) → length (map f xs
 length_map f [] = refl
 length_map f (x ∷ xs) = let more = length_map f xs in omega arith
 
+-- as many as the terms have
+pub nameless_students : (terms : Terms) → length (nameless terms).students ≡ length terms.crowd.menus.items
+nameless_students terms = length-replicate (length terms.crowd.menus.items) []
+
+pub nameless_sections : (terms : Terms) → length (nameless terms).sections ≡ terms.crowd.sections
+nameless_sections terms = length-replicate terms.crowd.sections []
+
 -- the lengths of what is looked at
 pub record HasLengths (terms : Terms) (publication : declared.Publication) : Type 0 where
   pub drawn : length terms.crowd.budgets.items ≡ length terms.crowd.menus.items
@@ -77,11 +84,11 @@ lengths terms publication is = record {
   students = students_length terms.crowd;
   few = menus_few terms.crowd;
   few_sections = few_sections terms.crowd;
-  budgets = sym (length_map (λ (t : Tokens). t.0) publication.budgets.items) ∙ is.is_publication.budgets.count ∙ is.students;
-  prices = sym (length_map (λ (t : Tokens). t.0) publication.prices.items) ∙ is.is_publication.prices.count ∙ is.sections;
-  bundles = sym (length_map proved_of publication.bundles.items) ∙ is.is_publication.bundles.count ∙ is.students;
-  allocation = sym (length_map sections_of publication.allocation.items) ∙ is.is_publication.allocation.count ∙ is.students;
-  used = is.is_publication.used.count ∙ is.sections;
+  budgets = sym (length_map (λ (t : Tokens). t.0) publication.budgets.items) ∙ is.is_publication.budgets.count ∙ nameless_students terms;
+  prices = sym (length_map (λ (t : Tokens). t.0) publication.prices.items) ∙ is.is_publication.prices.count ∙ nameless_sections terms;
+  bundles = sym (length_map proved_of publication.bundles.items) ∙ is.is_publication.bundles.count ∙ nameless_students terms;
+  allocation = sym (length_map sections_of publication.allocation.items) ∙ is.is_publication.allocation.count ∙ nameless_students terms;
+  used = is.is_publication.used.count ∙ nameless_sections terms;
 }
 
 -- the student of a number has the menu and the budget at that place
@@ -134,9 +141,9 @@ pub stage_two_below : (terms : Terms) (publication : declared.Publication) (k : 
     → k < length publication.bundles.items → item ≡ get_or publication.bundles.items k item
     → All (λ s. s < terms.crowd.sections) (sections_of item.bundle)
 stage_two_below terms publication k item is low read =
-    let proved : IsProved is.tables.sections (get_or (map proved_of publication.bundles.items) k (proved_of item)) =
+    let proved : IsProved (nameless terms).sections (get_or (map proved_of publication.bundles.items) k (proved_of item)) =
     is.is_publication.bundles.each k (proved_of item) (let long = length_map proved_of publication.bundles.items in omega arith) in
     let same : get_or (map proved_of publication.bundles.items) k (proved_of item) ≡ proved_of item =
     get_or-map proved_of publication.bundles.items k item (proved_of item) low ∙ ap proved_of (sym read) in
-    let mine : IsProved is.tables.sections (proved_of item) = subst (IsProved is.tables.sections) same proved in
-    λ j d inside. subst (λ n. get_or (sections_of item.bundle) j d < n) is.sections (mine.bundle.of_catalog j d inside)
+    let mine : IsProved (nameless terms).sections (proved_of item) = subst (IsProved (nameless terms).sections) same proved in
+    λ j d inside. subst (λ n. get_or (sections_of item.bundle) j d < n) (nameless_sections terms) (mine.bundle.of_catalog j d inside)

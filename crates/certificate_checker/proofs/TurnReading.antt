@@ -36,7 +36,7 @@ use Rattle.certificate_checker.specs.Students.{IsAffordable, IsOffered, MayTake}
 use Rattle.certificate_checker.specs.Turns.{EndsQuietly, HasQuietPass, IsDue, IsRightTurn, held_before, order_in, turn_in, turn_offer}
 use Rattle.certificate_checker.specs.Views.{terms_of}
 use Rattle.certificate_checker.proofs.Bundling.{all_priced}
-use Rattle.certificate_checker.proofs.Reading.{HasLengths, length_map, lengths, moved}
+use Rattle.certificate_checker.proofs.Reading.{HasLengths, length_map, lengths, moved, nameless_sections}
 use Rattle.certificate_checker.proofs.Turning.{is_due_turn, no_due_turn, turn_below, turn_is, turn_offer_is, turn_student}
 
 -- a turn is read where the passes have come so far
@@ -69,7 +69,7 @@ menu_priced terms publication k m prices is low same menu listed = λ j d inside
       listed = omega arith;
       high = subst (λ (all : List Tokens). get_or (map (λ (t : Tokens). t.0) all) (get_or m.places j d).section.0 0 ≤ 1000001) (sym listed)
           (is.is_publication.prices.each (get_or m.places j d).section.0 0
-          (let many = is.is_publication.prices.count in let sections = is.sections in omega arith));
+          (let many = is.is_publication.prices.count in let sections = nameless_sections terms in omega arith));
     }
 
 -- what is told of the choices at a floor is so of what the publication held, and of the turn's student

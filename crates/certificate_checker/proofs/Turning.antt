@@ -31,12 +31,12 @@ use Rattle.published_parts.specs.Holdings.{demanded, held_after}
 use Rattle.held_seats.specs.Choices.{may_choose}
 use Rattle.certificate_checker.specs.declared.progress.Progress.{Progress}
 use Rattle.certificate_checker.specs.declared.terms.Terms.{Terms}
-use Rattle.certificate_checker.specs.Parts.{CanCheck, IsDueTurn, IsProgress, MadeChange}
+use Rattle.certificate_checker.specs.Parts.{CanCheck, IsDueTurn, IsProgress, MadeChange, nameless}
 use Rattle.published_parts.specs.Offers.{student_in}
 use Rattle.certificate_checker.specs.Turns.{IsDue, held_before, order_in, turn_in, turn_offer}
 use Rattle.certificate_checker.specs.Views.{terms_of}
 use Rattle.certificate_checker.proofs.Progressing.{next_pass}
-use Rattle.certificate_checker.proofs.Reading.{length_map, so_of_has, student_is}
+use Rattle.certificate_checker.proofs.Reading.{length_map, so_of_has, student_is, nameless_students, nameless_sections}
 
 -- the printed turn at a place
 pub turn_is : (publication : declared.Publication) (k : ℕ) (item : declared_turn.ProvedTurn) → k < length publication.turns.items
@@ -67,23 +67,23 @@ turn_offer_is crowd seats raise k publication item m b raised allowed low first 
 -- the turn has the form of a turn
 pub turn_form : (terms : Terms) (publication : declared.Publication) (k : ℕ) (item : declared_turn.ProvedTurn)
     (is : CanCheck terms (publication_of publication))
-    → k < length publication.turns.items → item ≡ get_or publication.turns.items k item → IsTurn is.tables.students is.tables.sections (turn_of item)
+    → k < length publication.turns.items → item ≡ get_or publication.turns.items k item → IsTurn (nameless terms).students (nameless terms).sections (turn_of item)
 turn_form terms publication k item is low read =
-    let one : IsTurn is.tables.students is.tables.sections (get_or (map turn_of publication.turns.items) k (turn_of item)) =
+    let one : IsTurn (nameless terms).students (nameless terms).sections (get_or (map turn_of publication.turns.items) k (turn_of item)) =
     is.is_publication.turns k (turn_of item) (let long = length_map turn_of publication.turns.items in omega arith) in
     let same : get_or (map turn_of publication.turns.items) k (turn_of item) ≡ turn_of item =
     get_or-map turn_of publication.turns.items k item (turn_of item) low ∙ ap turn_of (sym read) in
-    subst (IsTurn is.tables.students is.tables.sections) same one
+    subst (IsTurn (nameless terms).students (nameless terms).sections) same one
 
 -- its student is one of the crowd, and its sections are the catalogue's
 pub turn_student : (terms : Terms) (publication : declared.Publication) (k : ℕ) (item : declared_turn.ProvedTurn) → CanCheck terms (publication_of publication)
     → k < length publication.turns.items → item ≡ get_or publication.turns.items k item → item.student.0 < length terms.crowd.menus.items
-turn_student terms publication k item is low read = subst (λ n. item.student.0 < n) is.students (turn_form terms publication k item is low read).student
+turn_student terms publication k item is low read = subst (λ n. item.student.0 < n) (nameless_students terms) (turn_form terms publication k item is low read).student
 
 pub turn_below : (terms : Terms) (publication : declared.Publication) (k : ℕ) (item : declared_turn.ProvedTurn) → CanCheck terms (publication_of publication)
     → k < length publication.turns.items → item ≡ get_or publication.turns.items k item → All (λ s. s < terms.crowd.sections) (sections_of item.bundle)
 turn_below terms publication k item is low read =
-    λ j d inside. subst (λ n. get_or (sections_of item.bundle) j d < n) is.sections
+    λ j d inside. subst (λ n. get_or (sections_of item.bundle) j d < n) (nameless_sections terms)
     ((turn_form terms publication k item is low read).bundle.of_catalog j d inside)
 
 -- one turn more
@@ -134,22 +134,22 @@ before_below terms publication k is = held_below terms.crowd.sections (demanded 
         let one = is.is_publication.bundles.each j none inside in
         let same : get_or (demanded (publication_of publication)) j d ≡ (get_or (publication_of publication).bundles j none).bundle =
         get_or-map (λ (proved : Proved). proved.bundle) (publication_of publication).bundles j none d inside in
-        λ s is_in. subst (λ n. s < n) is.sections
-        (so_of_has (λ t. t < length is.tables.sections) (get_or (publication_of publication).bundles j none).bundle one.bundle.of_catalog s
+        λ s is_in. subst (λ n. s < n) (nameless_sections terms)
+        (so_of_has (λ t. t < length (nameless terms).sections) (get_or (publication_of publication).bundles j none).bundle one.bundle.of_catalog s
         (subst (λ (b : List ℕ). has b s ≡ true) same is_in))
 
     each : All (λ (turn : ProvedTurn). (s : ℕ) → has turn.bundle s ≡ true → s < terms.crowd.sections) (publication_of publication).turns
     each = λ j d low.
         let one = is.is_publication.turns j d low in
-        λ s is_in. subst (λ n. s < n) is.sections
-        (so_of_has (λ t. t < length is.tables.sections) (get_or (publication_of publication).turns j d).bundle one.bundle.of_catalog s is_in)
+        λ s is_in. subst (λ n. s < n) (nameless_sections terms)
+        (so_of_has (λ t. t < length (nameless terms).sections) (get_or (publication_of publication).turns j d).bundle one.bundle.of_catalog s is_in)
 
 -- after any turns as many bundles are held as there are students
 pub after_length : (terms : Terms) (publication : declared.Publication) (turns : List ProvedTurn) → CanCheck terms (publication_of publication)
     → length (held_after (demanded (publication_of publication)) turns) ≡ length terms.crowd.menus.items
 after_length terms publication turns is =
     held_length (demanded (publication_of publication)) turns ∙ length_map (λ (proved : Proved). proved.bundle) (publication_of publication).bundles
-    ∙ is.is_publication.bundles.count ∙ is.students
+    ∙ is.is_publication.bundles.count ∙ nameless_students terms
 
 pub before_length : (terms : Terms) (publication : declared.Publication) (k : ℕ) → CanCheck terms (publication_of publication)
     → length (held_before (publication_of publication) k) ≡ length terms.crowd.menus.items

@@ -1,5 +1,5 @@
 -- What the parts of a check go by.
-use Rattle.std.specs.Prelude.{ℕ, ◌≡◌, ◌<◌, ◌≤◌, ◌+◌, ◌-◌, ◌*◌, ◌^◌, true, false, Bool, List, Some, length, slice_get}
+use Rattle.std.specs.Prelude.{ℕ, ◌≡◌, ◌<◌, ◌≤◌, ◌+◌, ◌-◌, ◌*◌, ◌^◌, true, false, Bool, List, [], Some, length, replicate, slice_get}
 use Rattle.market_units.specs.declared.limits.TheConstants.{MAX_RAISE}
 use Rattle.market_certificate.specs.Publications.{IsPublication, ProvedTurn, Publication}
 use Rattle.market_certificate.specs.Tables.{Tables}
@@ -13,13 +13,20 @@ use Rattle.certificate_checker.specs.declared.terms.Terms.{Terms}
 use Rattle.certificate_checker.specs.Firsts.{AllBelow}
 use Rattle.certificate_checker.specs.Turns.{HasQuietPass, IsQuietTurn, order_in}
 
+-- as many students and sections as the terms have, all without a name: what they are called plays
+-- no part in whether a publication may be looked at
+abbrev pub nameless : Terms → Tables
+nameless terms =
+    record {
+      version = 0;
+      students = replicate (length terms.crowd.menus.items) [];
+      sections = replicate terms.crowd.sections [];
+    }
+
 -- A publication may be looked at by these terms: seats for each section, a raise of at most 50
 -- percent, and a publication with a line for each student and each section.
 pub record CanCheck (terms : Terms) (p : Publication) : Type 0 where
-  pub tables : Tables
-  pub is_publication : IsPublication tables p
-  pub students : length tables.students ≡ length terms.crowd.menus.items
-  pub sections : length tables.sections ≡ terms.crowd.sections
+  pub is_publication : IsPublication (nameless terms) p
   pub seats : length terms.seats.items ≡ terms.crowd.sections
   pub raise : terms.raise ≤ MAX_RAISE
 

@@ -1,5 +1,8 @@
--- What the terms of a check are seen as.
+-- What the terms of a check, and what is checked by them, are seen as.
 use Rattle.demand_api.specs.Views.{data_of}
+use Rattle.market_certificate.specs.Publications.{Publication}
+use Rattle.market_certificate.specs.Views.{publication_of}
+use Rattle.certificate_checker.specs.declared.printed.Printed.{Printed}
 use Rattle.certificate_checker.specs.declared.terms.Terms as declared
 use Rattle.certificate_checker.specs.Terms.{TermsData}
 
@@ -11,3 +14,10 @@ terms_of terms =
       seats = terms.seats.items;
       raise = terms.raise;
     }
+
+-- the terms by which what is printed is checked, and the publication that is printed
+abbrev pub terms_seen : Printed → TermsData
+terms_seen printed = terms_of printed.terms.now
+
+abbrev pub printed_in : Printed → Publication
+printed_in printed = publication_of printed.publication.now

@@ -5,49 +5,44 @@ ghost use Rattle.market_units.specs.{Members.has, Totals.total};
 ghost use Rattle.bundle_rules.specs.{Bundles.sections_of, Demand.IsPriced, Demand.price_in};
 ghost use Rattle.bundle_rules.specs.Ordinals.{ordinals};
 ghost use Rattle.bundle_bounds.specs.Offers.{offer_of};
-ghost use Rattle.market_certificate.specs.Views.{publication_of};
 ghost use Rattle.certificate_checker.specs.Findings.{HoldsToBudgets, HoldsToBundles, IsAnswered, IsBundleFinding};
-ghost use Rattle.certificate_checker.specs.Parts.{CanCheck};
 ghost use Rattle.certificate_checker.specs.Students.{IsAffordable, IsOffered, IsProvedBundle};
-ghost use Rattle.certificate_checker.specs.Views.{terms_of};
+ghost use Rattle.certificate_checker.specs.Views.{printed_in, terms_seen};
 
 use crate::Finding;
-use crate::terms::Terms;
+use crate::printed::Printed;
 use bundle_rules::{Bundle, all_allowed, feasible, price_of};
-use market_certificate::Publication;
 use market_units::{MAX_SECTIONS, SectionNo, SectionSet, StudentNo, Tokens};
 use proof_tree::check_tree;
 
 /// Whether each student's bundle of the second stage is affordable and feasible, and has its tree.
 /// Else a finding on the first student of whom it is not so, with what is wrong.
-pub(crate) fn check_bundles(terms: &Terms, publication: &Publication) -> Result<(), Finding>
-    requires terms { CanCheck terms.now (publication_of publication.now) }
-    requires before { HoldsToBudgets (terms_of terms.now) (publication_of publication.now) }
-    ensures { IsAnswered HoldsToBundles (terms_of terms.now) (publication_of publication.now)
+pub(crate) fn check_bundles(printed: &Printed) -> Result<(), Finding>
+    requires before { HoldsToBudgets (terms_seen printed.now) (printed_in printed.now) }
+    ensures { IsAnswered HoldsToBundles (terms_seen printed.now) (printed_in printed.now)
         result }
 {
+    let terms = printed.terms;
+    let publication = printed.publication;
     let all = SectionSet::full(terms.crowd.sections);
     for student in 0..publication.bundles.len() {
-        check_bundle(terms, publication, &all, student)?;
+        check_bundle(printed, &all, student)?;
     }
     Ok(())
 }
 
 // Whether this student's bundle of the second stage is affordable and feasible, and has its tree.
-fn check_bundle(
-    terms: &Terms,
-    publication: &Publication,
-    all: &SectionSet,
-    student: usize,
-) -> Result<(), Finding>
-    requires terms { CanCheck terms.now (publication_of publication.now) }
-    requires all { (s : ℕ) → set.contains all.now s ≡ nat_lt s terms.now.crowd.sections }
-    requires student { student < length terms.now.crowd.menus.items }
+fn check_bundle(printed: &Printed, all: &SectionSet, student: usize) -> Result<(), Finding>
+    requires all { (s : ℕ)
+        → set.contains all.now s ≡ nat_lt s printed.now.terms.now.crowd.sections }
+    requires student { student < length printed.now.terms.now.crowd.menus.items }
     ensures ok { OnOk result
-        (IsProvedBundle (terms_of terms.now).crowd (publication_of publication.now) student) }
+        (IsProvedBundle (terms_seen printed.now).crowd (printed_in printed.now) student) }
     ensures wrong { IfErr result
-        (IsBundleFinding (terms_of terms.now).crowd (publication_of publication.now) student) }
+        (IsBundleFinding (terms_seen printed.now).crowd (printed_in printed.now) student) }
 {
+    let terms = printed.terms;
+    let publication = printed.publication;
     let menu = &terms.crowd.menus[student];
     let budget = terms.crowd.budgets[student];
     let prices = publication.prices.as_slice();

@@ -8,15 +8,16 @@ ghost use Rattle.published_parts.specs.{Holdings.demanded, Markets.market_of, Ma
 ghost use Rattle.published_parts.specs.Views.{market_in};
 ghost use Rattle.certificate_checker.specs.Certificates.{HoldsBy, HoldsOf, IsAccepted, IsTextOf};
 ghost use Rattle.certificate_checker.specs.Findings.{IsFirstIn, IsFirstOf, OnFound};
-ghost use Rattle.certificate_checker.specs.{Parts.AreHeldOn, Parts.CanCheck, Refusals.IsRefused};
-ghost use Rattle.certificate_checker.specs.Views.{terms_of};
+ghost use Rattle.certificate_checker.specs.{Parts.AreHeldOn, Refusals.IsRefused};
+ghost use Rattle.certificate_checker.specs.Views.{printed_in, terms_seen};
 ghost use Rattle.demand_api.specs.Views.{data_of};
 
 use crate::allocation::check_allocation;
 use crate::budgets::check_budgets;
 use crate::bundles::check_bundles;
+use crate::printed::Printed;
 use crate::seats::{check_seats, check_used};
-use crate::terms::{Terms, terms_after};
+use crate::terms::terms_after;
 use crate::turns::check_turns;
 use crate::{Accepted, CheckEnd};
 use course_catalog::Catalog;
@@ -158,7 +159,11 @@ fn accept_publication(
         (publication_of publication))) }
 {
     let terms = terms_after(alloc, market, streams, &publication.order)?;
-    match check_printed(alloc, &terms, &publication) {
+    let printed = Printed {
+        terms: &terms,
+        publication: &publication,
+    };
+    match check_printed(alloc, &printed) {
         Ok(()) => Ok(Accepted {
             publication,
             crowd: terms.crowd,
@@ -167,33 +172,32 @@ fn accept_publication(
     }
 }
 
-// Whether what is printed is right by these terms, or the first finding.
-fn check_printed(alloc: Global, terms: &Terms, publication: &Publication) -> Result<(), CheckEnd>
-    requires terms { CanCheck terms.now (publication_of publication.now) }
-    requires few { length publication.now.turns.items < 2 ^ 32 - 1 }
-    ensures holds { OnOk result (HoldsOf (terms_of terms.now) (publication_of publication.now)) }
+// Whether what is printed is right, or the first finding.
+fn check_printed(alloc: Global, printed: &Printed) -> Result<(), CheckEnd>
+    requires few { length printed.now.publication.now.turns.items < 2 ^ 32 - 1 }
+    ensures holds { OnOk result (HoldsOf (terms_seen printed.now) (printed_in printed.now)) }
     ensures first { IfErr result
-        (λ end. OnFound end (IsFirstIn (terms_of terms.now) (publication_of publication.now))) }
+        (λ end. OnFound end (IsFirstIn (terms_seen printed.now) (printed_in printed.now))) }
 {
-    check_budgets(terms, publication)?;
-    check_bundles(terms, publication)?;
-    let mut floor = stage_two(alloc, terms, publication)?;
-    check_seats(terms, publication, &floor)?;
-    check_turns(alloc, terms, publication, &mut floor)?;
-    check_allocation(terms, publication, &floor)?;
-    check_used(terms, publication, &floor)?;
+    check_budgets(printed)?;
+    check_bundles(printed)?;
+    let mut floor = stage_two(alloc, printed)?;
+    check_seats(printed, &floor)?;
+    check_turns(alloc, printed, &mut floor)?;
+    check_allocation(printed, &floor)?;
+    check_used(printed, &floor)?;
     Ok(())
 }
 
 // What is held in the second stage.
-fn stage_two(alloc: Global, terms: &Terms, publication: &Publication) -> Result<Floor, NoMemory>
-    requires { CanCheck terms.now (publication_of publication.now) }
+fn stage_two(alloc: Global, printed: &Printed) -> Result<Floor, NoMemory>
     ensures { IfOk result
-        (AreHeldOn terms.now.seats.items (demanded (publication_of publication.now))) }
+        (AreHeldOn printed.now.terms.now.seats.items (demanded (printed_in printed.now))) }
 {
+    let publication = printed.publication;
     let mut bundles = Vec::with_capacity(alloc, publication.bundles.len())?;
     'students: for proved in &publication.bundles {
         bundles.push(proved.bundle)?;
     }
-    Floor::open(alloc, &terms.seats, &bundles)
+    Floor::open(alloc, &printed.terms.seats, &bundles)
 }

@@ -12,6 +12,7 @@ mod checking;
 mod findings;
 pub mod laws;
 mod orders;
+mod printed;
 mod progress;
 mod seats;
 mod terms;

@@ -1,32 +1,26 @@
 // The seats of the second stage, and those that are printed as used.
 ghost use Rattle.std.specs.Prelude.{◌≡◌, ◌↔◌, IsTrue, IfErr, OnOk};
-ghost use Rattle.market_certificate.specs.Views.{publication_of};
 ghost use Rattle.published_parts.specs.Holdings.{demanded};
 ghost use Rattle.certificate_checker.specs.Certificates.{IsUseTold};
 ghost use Rattle.certificate_checker.specs.Findings.{HoldsToAllocation, HoldsToBundles, HoldsToSeats, IsAnswered, IsFirstIn};
-ghost use Rattle.certificate_checker.specs.{Firsts.AllBelow, Parts.AreHeldOn, Parts.CanCheck};
-ghost use Rattle.certificate_checker.specs.Views.{terms_of};
+ghost use Rattle.certificate_checker.specs.{Firsts.AllBelow, Parts.AreHeldOn};
+ghost use Rattle.certificate_checker.specs.Views.{printed_in, terms_seen};
 
 use crate::Finding;
-use crate::terms::Terms;
+use crate::printed::Printed;
 use held_seats::Floor;
-use market_certificate::Publication;
 use market_units::SectionNo;
 
 /// Whether no section has more students in the second stage than seats; the floor has their
 /// bundles. Else a finding on the first section that has, with both numbers.
-pub(crate) fn check_seats(
-    terms: &Terms,
-    publication: &Publication,
-    floor: &Floor,
-) -> Result<(), Finding>
-    requires terms { CanCheck terms.now (publication_of publication.now) }
-    requires before { HoldsToBundles (terms_of terms.now) (publication_of publication.now) }
-    requires floor { AreHeldOn terms.now.seats.items (demanded (publication_of publication.now))
+pub(crate) fn check_seats(printed: &Printed, floor: &Floor) -> Result<(), Finding>
+    requires before { HoldsToBundles (terms_seen printed.now) (printed_in printed.now) }
+    requires floor { AreHeldOn printed.now.terms.now.seats.items (demanded (printed_in printed.now))
         floor.now }
-    ensures { IsAnswered HoldsToSeats (terms_of terms.now) (publication_of publication.now)
+    ensures { IsAnswered HoldsToSeats (terms_seen printed.now) (printed_in printed.now)
         result }
 {
+    let terms = printed.terms;
     for place in 0..terms.seats.len() {
         let used = floor.used[place];
         let seats = terms.seats[place];
@@ -43,23 +37,20 @@ pub(crate) fn check_seats(
 
 /// Whether the printed seats of each section are the number of its final holders, who are those on
 /// the floor, and the catalogue's seats. Else a finding on the first section of which it is not so.
-pub(crate) fn check_used(
-    terms: &Terms,
-    publication: &Publication,
-    floor: &Floor,
-) -> Result<(), Finding>
-    requires terms { CanCheck terms.now (publication_of publication.now) }
-    requires before { HoldsToAllocation (terms_of terms.now) (publication_of publication.now) }
-    requires floor { AreHeldOn terms.now.seats.items (publication_of publication.now).allocation
+pub(crate) fn check_used(printed: &Printed, floor: &Floor) -> Result<(), Finding>
+    requires before { HoldsToAllocation (terms_seen printed.now) (printed_in printed.now) }
+    requires floor { AreHeldOn printed.now.terms.now.seats.items (printed_in printed.now).allocation
         floor.now }
     ensures ok { OnOk result
-        (AllBelow (terms_of terms.now).crowd.sections
-        (IsUseTold (terms_of terms.now).seats (publication_of publication.now))) }
-    ensures first { IfErr result (IsFirstIn (terms_of terms.now) (publication_of publication.now)) }
+        (AllBelow (terms_seen printed.now).crowd.sections
+        (IsUseTold (terms_seen printed.now).seats (printed_in printed.now))) }
+    ensures first { IfErr result (IsFirstIn (terms_seen printed.now) (printed_in printed.now)) }
 {
+    let terms = printed.terms;
+    let publication = printed.publication;
     for place in 0..terms.seats.len() {
-        let printed = publication.used[place];
-        if !is_used(printed, floor.used[place], terms.seats[place]) {
+        let told = publication.used[place];
+        if !is_used(told, floor.used[place], terms.seats[place]) {
             return Err(Finding::Used {
                 section: SectionNo(place as u16),
             });

@@ -3,11 +3,12 @@ ghost use Rattle.std.specs.Prelude.{◌↔◌, ◌<◌, ◌^◌, ◌-◌, ◌+�
 ghost use Rattle.market_certificate.specs.Views.{publication_of, turn_of};
 ghost use Rattle.published_parts.specs.Holdings.{demanded, held_after};
 ghost use Rattle.certificate_checker.specs.Findings.{HasTurnFault, HoldsToSeats, HoldsToTheEnd, IsFirstIn, IsTurnFinding, OnFound};
-ghost use Rattle.certificate_checker.specs.Parts.{AreHeldOn, CanCheck, IsDueTurn, IsNextTurn, IsProgress};
+ghost use Rattle.certificate_checker.specs.Parts.{AreHeldOn, IsDueTurn, IsNextTurn, IsProgress};
 ghost use Rattle.certificate_checker.specs.Turns.{IsRightTurn, held_before, turn_in};
-ghost use Rattle.certificate_checker.specs.Views.{terms_of};
+ghost use Rattle.certificate_checker.specs.Views.{printed_in, terms_of, terms_seen};
 
 use crate::bundles::{is_affordable, is_offered};
+use crate::printed::Printed;
 use crate::progress::Progress;
 use crate::terms::Terms;
 use crate::{CheckEnd, Finding, TurnFault};
@@ -24,23 +25,23 @@ use std::alloc::Global;
 /// and after `Ok` those that are held behind the last turn.
 pub(crate) fn check_turns(
     alloc: Global,
-    terms: &Terms,
-    publication: &Publication,
+    printed: &Printed,
     floor: &mut Floor,
 ) -> Result<(), CheckEnd>
-    requires terms { CanCheck terms.now (publication_of publication.now) }
-    requires few { length publication.now.turns.items < 2 ^ 32 - 1 }
-    requires before { HoldsToSeats (terms_of terms.now) (publication_of publication.now) }
-    requires floor { AreHeldOn terms.now.seats.items (demanded (publication_of publication.now))
+    requires few { length printed.now.publication.now.turns.items < 2 ^ 32 - 1 }
+    requires before { HoldsToSeats (terms_seen printed.now) (printed_in printed.now) }
+    requires floor { AreHeldOn printed.now.terms.now.seats.items (demanded (printed_in printed.now))
         floor.old }
-    ensures ok { OnOk result (HoldsToTheEnd (terms_of terms.now) (publication_of publication.now)) }
+    ensures ok { OnOk result (HoldsToTheEnd (terms_seen printed.now) (printed_in printed.now)) }
     ensures floor { OnOk result
-        (AreHeldOn terms.now.seats.items
-        (held_after (demanded (publication_of publication.now))
-        (publication_of publication.now).turns) floor.new) }
+        (AreHeldOn printed.now.terms.now.seats.items
+        (held_after (demanded (printed_in printed.now))
+        (printed_in printed.now).turns) floor.new) }
     ensures first { IfErr result
-        (λ end. OnFound end (IsFirstIn (terms_of terms.now) (publication_of publication.now))) }
+        (λ end. OnFound end (IsFirstIn (terms_seen printed.now) (printed_in printed.now))) }
 {
+    let terms = printed.terms;
+    let publication = printed.publication;
     let order = after_order(alloc, &terms.crowd.budgets)?;
     let mut progress = Progress::start();
     'turns: for place in 0..publication.turns.len() {

@@ -3,6 +3,7 @@ use Rattle.std.proofs.Common.{ℕ, zero, suc, ◌≡◌, ◌<◌, ◌+◌, ◌++
 use Rattle.std.specs.Prelude.{option_map, slice_get, codes}
 use Rattle.std.specs.List.{flat_map, join_with_byte, range_with_len}
 use Rattle.std.proofs.lemmas.Bool.{true≢false}
+use Rattle.std.proofs.lemmas.Bool.Decides.{nat_tests}
 use Rattle.std.proofs.lemmas.List.{get_or-map, map_more, take_more}
 use Rattle.std.proofs.lemmas.List.Concat.{flat_map-append}
 use Rattle.std.proofs.lemmas.List.FromFn.{map-range_with_len_more}
@@ -131,6 +132,9 @@ list_put market s (x ∷ xs) begun new name some named put =
     put ∙ ap (λ w. (begun ++ spaced (codes "wait" ∷ w ∷ map (name_at (names_of market.roll.students)) (x ∷ xs))) ++ 10 ∷ []) named ∙ append_assoc begun (wait_line market s (x ∷ xs)) (10 ∷ [])
 
 -- none of a list in which nobody does
+is_none : (n : ℕ) → (n == 0) ≡ true → n ≡ 0
+is_none n e = grind (arith, nat_tests)
+
 pub list_none : (market : Market) (s : ℕ) (waiting begun : List ℕ) → (length waiting == 0) ≡ true → begun ≡ begun ++ joined (where_any market s waiting)
 list_none market s [] begun none = sym (append-nil begun)
-list_none market s (x ∷ xs) begun none = absurd (true≢false (sym none))
+list_none market s (x ∷ xs) begun none = let n : ℕ = length xs in let some : suc n ≡ 0 = is_none (suc n) none in absurd (omega arith)

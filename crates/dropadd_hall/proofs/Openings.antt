@@ -1,9 +1,10 @@
 -- Clashes in a set of sections, and what a roll and a catalogue give at a place.
-use Rattle.std.proofs.Common.{ℕ, zero, suc, ◌≡◌, ◌<◌, ◌≤◌, ◌+◌, ◌++◌, ◌∙◌, Bool, true, false, not, List, [], ◌∷◌, length, take, get_or, arith, refl, sym, ap, subst, Some, inl, inr}
+use Rattle.std.proofs.Common.{ℕ, zero, suc, ◌≡◌, ◌<◌, ◌≤◌, ◌+◌, ◌++◌, ◌∙◌, Bool, true, false, List, [], ◌∷◌, length, take, get_or, arith, refl, sym, ap, subst, Some, inl, inr}
 use Rattle.std.specs.Prelude.{option_map, slice_get, slice_index_or}
 use Rattle.std.specs.List.{list_any}
 use Rattle.std.proofs.lemmas.Bool.{cases_Bool, true≢false, false≢true}
-use Rattle.std.proofs.lemmas.List.{map_more}
+use Rattle.std.proofs.lemmas.List.{get_or-map, length-map, map_more}
+use Rattle.std.proofs.lemmas.List.Folds.{list_any_at, list_any_none}
 use Rattle.market_units.specs.Totals.{total}
 use Rattle.market_units.proofs.Sums.{total-append}
 use Rattle.market_units.specs.declared.units.SectionNo.{SectionNo}
@@ -32,6 +33,24 @@ none_any p (x ∷ xs) each = rw (each x (has-here x xs)) (none_any p xs (λ t th
 -- whether two of a set clash
 abbrev pub two_clash : List Section → List ℕ → Bool
 two_clash sections set = list_any (λ s. list_any (λ t. sections_clash sections s t) set) set
+
+-- and none does, where none of its items clashes with one of them
+pub none_clashing : (sections : List Section) (items : List SectionNo) (d : SectionNo)
+    → ((j : ℕ) → j < length items → list_any (λ t. sections_clash sections (get_or items j d).0 t) (ordinals items) ≡ false)
+    → two_clash sections (ordinals items) ≡ false
+none_clashing sections items d each =
+    list_any_none (λ s. list_any (λ t. sections_clash sections s t) (ordinals items)) (ordinals items)
+    (λ k e low.
+    let inside : k < length items = subst (λ n. k < n) (length-map items (λ (section : SectionNo). section.0)) low in
+    subst (λ s. list_any (λ t. sections_clash sections s t) (ordinals items) ≡ false)
+    (sym (get_or-map (λ (section : SectionNo). section.0) items k d e inside)) (each k inside))
+
+pub some_clashing : (sections : List Section) (items : List SectionNo) (k : ℕ) (d : SectionNo) → k < length items
+    → list_any (λ t. sections_clash sections (get_or items k d).0 t) (ordinals items) ≡ true → two_clash sections (ordinals items) ≡ true
+some_clashing sections items k d low is =
+    list_any_at (λ s. list_any (λ t. sections_clash sections s t) (ordinals items)) (ordinals items) k d.0
+    (subst (λ n. k < n) (sym (length-map items (λ (section : SectionNo). section.0))) low)
+    (subst (λ s. list_any (λ t. sections_clash sections s t) (ordinals items) ≡ true) (sym (get_or-map (λ (section : SectionNo). section.0) items k d d.0 low)) is)
 
 pub apart : (sections : List Section) (set : List ℕ) → two_clash sections set ≡ false → (s t : ℕ) → has set s ≡ true → has set t ≡ true
     → sections_clash sections s t ≡ false
@@ -93,12 +112,3 @@ module _ (catalog : CatalogData) (roll : RollData) (i : ℕ) (set : List ℕ) wh
 
   pub clashing : two_clash catalog.sections set ≡ true → ¬ IsAllowed (record { catalog = catalog; roll = roll }) i set
   clashing some is = absurd (true≢false (sym some ∙ none_clash catalog.sections set is.apart))
-
--- a test that is denied
-pub denied : (b : Bool) → not b ≡ true → b ≡ false
-denied true e = absurd (false≢true e)
-denied false e = refl
-
-pub granted : (b : Bool) → not b ≡ false → b ≡ true
-granted true e = refl
-granted false e = absurd (true≢false e)

@@ -75,7 +75,12 @@ fn may_hold(catalog: &Catalog, roll: &Roll, student: StudentNo, held: &Bundle) -
     if sum_credits(catalog, sections) > u32::from(roll.credits(student)) {
         return false;
     }
-    !some_clash(catalog, sections, sections)
+    'looked: for section in sections {
+        if clashes_with_one(catalog, *section, sections) {
+            return false;
+        }
+    }
+    true
 }
 
 // The credits of these sections together.
@@ -90,23 +95,6 @@ fn sum_credits(catalog: &Catalog, sections: &[SectionNo]) -> u32
         sum += u32::from(catalog.credits(*section));
     }
     sum
-}
-
-// Whether one of the sections clashes with one of the others.
-fn some_clash(catalog: &Catalog, sections: &[SectionNo], others: &[SectionNo]) -> bool
-    requires within { All (λ section. section.0 < length catalog.now.sections) sections.now }
-    requires others { All (λ other. other.0 < length catalog.now.sections) others.now }
-    ensures { result
-        ≡ list_any
-        (λ s. list_any (λ t. sections_clash catalog.now.sections s t) (ordinals others.now))
-        (ordinals sections.now) }
-{
-    match sections {
-        [] => false,
-        [section, more @ ..] => {
-            clashes_with_one(catalog, *section, others) || some_clash(catalog, more, others)
-        }
-    }
 }
 
 // Whether the section clashes with one of the others.

@@ -16,6 +16,15 @@ use market_units::{NoMemory, SectionNo, StudentNo};
 use std::alloc::Global;
 use student_roll::Roll;
 
+// A desk, and the catalogue and the roll that it is one for.
+#[derive(Clone, Copy)]
+struct NamedDesk<'a> {
+    catalog: &'a Catalog,
+    roll: &'a Roll,
+    desk: &'a HallDesk,
+    ghost market: { market_of desk.now ≡ record { catalog = catalog.now; roll = roll.now } },
+}
+
 /// The text of what was requested and replied in a hall, and of what is held, waited for and used
 /// after it. The desk is one for this catalogue and this roll, and the journal's replies name
 /// sections and students of theirs. `NoMemory` is the only error.
@@ -36,9 +45,14 @@ pub fn put_hall(
 {
     let mut text = Vec::new(alloc);
     put_entries(&mut text, catalog, roll, hall.journal.steps())?;
-    put_bundles(&mut text, catalog, roll, &hall.desk)?;
-    put_lists(&mut text, catalog, roll, &hall.desk)?;
-    put_all_seats(&mut text, catalog, &hall.desk)?;
+    let named = NamedDesk {
+        catalog,
+        roll,
+        desk: &hall.desk,
+    };
+    put_bundles(&mut text, &named)?;
+    put_lists(&mut text, &named)?;
+    put_all_seats(&mut text, &named)?;
     Ok(text)
 }
 
@@ -66,20 +80,17 @@ fn put_entries(
 }
 
 // Puts the line of what each student holds behind the text.
-fn put_bundles(
-    text: &mut Vec<u8>,
-    catalog: &Catalog,
-    roll: &Roll,
-    desk: &HallDesk,
-) -> Result<(), NoMemory>
-    requires { market_of desk.now ≡ record { catalog = catalog.now; roll = roll.now } }
+fn put_bundles(text: &mut Vec<u8>, named: &NamedDesk) -> Result<(), NoMemory>
     ensures { OnOk result
         (text.new.items
         ≡ text.old.items
         ++ joined
-        (map (held_line (market_of desk.now) (state_of desk.now))
-        (range_with_len 0 (student_count (market_of desk.now))))) }
+        (map (held_line (market_of named.now.desk.now) (state_of named.now.desk.now))
+        (range_with_len 0 (student_count (market_of named.now.desk.now))))) }
 {
+    let desk = named.desk;
+    let catalog = named.catalog;
+    let roll = named.roll;
     'students: for student in 0..roll.len() {
         let student = StudentNo(student);
         put_held(text, catalog, &roll.name(student), &desk.bundle(student))?;
@@ -88,20 +99,17 @@ fn put_bundles(
 }
 
 // Puts the line of each section's waiting list behind the text, where anybody waits.
-fn put_lists(
-    text: &mut Vec<u8>,
-    catalog: &Catalog,
-    roll: &Roll,
-    desk: &HallDesk,
-) -> Result<(), NoMemory>
-    requires { market_of desk.now ≡ record { catalog = catalog.now; roll = roll.now } }
+fn put_lists(text: &mut Vec<u8>, named: &NamedDesk) -> Result<(), NoMemory>
     ensures { OnOk result
         (text.new.items
         ≡ text.old.items
         ++ joined
-        (flat_map (wait_lines (market_of desk.now) (state_of desk.now))
-        (range_with_len 0 (section_count (market_of desk.now))))) }
+        (flat_map (wait_lines (market_of named.now.desk.now) (state_of named.now.desk.now))
+        (range_with_len 0 (section_count (market_of named.now.desk.now))))) }
 {
+    let desk = named.desk;
+    let catalog = named.catalog;
+    let roll = named.roll;
     'sections: for section in 0..catalog.len() {
         let section = SectionNo(section);
         let waiting = desk.waiting(section);
@@ -114,15 +122,16 @@ fn put_lists(
 }
 
 // Puts the line of each section's seats behind the text.
-fn put_all_seats(text: &mut Vec<u8>, catalog: &Catalog, desk: &HallDesk) -> Result<(), NoMemory>
-    requires { (market_of desk.now).catalog ≡ catalog.now }
+fn put_all_seats(text: &mut Vec<u8>, named: &NamedDesk) -> Result<(), NoMemory>
     ensures { OnOk result
         (text.new.items
         ≡ text.old.items
         ++ joined
-        (map (seats_line (market_of desk.now) (state_of desk.now))
-        (range_with_len 0 (section_count (market_of desk.now))))) }
+        (map (seats_line (market_of named.now.desk.now) (state_of named.now.desk.now))
+        (range_with_len 0 (section_count (market_of named.now.desk.now))))) }
 {
+    let desk = named.desk;
+    let catalog = named.catalog;
     'sections: for section in 0..catalog.len() {
         let section = SectionNo(section);
         let name = catalog.name(section);

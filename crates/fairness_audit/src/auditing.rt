@@ -1,6 +1,5 @@
 // Rows of all students, by workers.
 ghost use Rattle.std.specs.Prelude.{◌≡◌, ◌≤◌, ◌<◌, ℕ, All, IfOk, length, map, slice_index_or};
-ghost use Rattle.std.specs.Vec.{vec_len};
 ghost use Rattle.std.specs.Arc.{arc_value};
 ghost use Rattle.task_board.specs.{Kept.AreSettled, Seats.IsFinished, Seats.IsFree};
 ghost use Rattle.fairness_audit.specs.Allocations.{IsAllocation, allocation_of, student_count};

@@ -1,5 +1,5 @@
 // What a student sees in the bundle of another.
-ghost use Rattle.std.specs.Prelude.{◌≡◌, ◌≤◌, ◌<◌, ◌+◌, ◌++◌, IsTrue, length, option_map, true};
+ghost use Rattle.std.specs.Prelude.{◌≡◌, ◌≤◌, ◌<◌, ◌+◌, ◌++◌, length, option_map};
 ghost use Rattle.market_units.specs.declared.units.SectionNo.{SectionNo};
 ghost use Rattle.bundle_rules.specs.{Bundles.sections_of, Menus.wishes_of};
 ghost use Rattle.bundle_rules.specs.Ordinals.{ordinals, IsBundle};

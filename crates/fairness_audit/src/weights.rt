@@ -1,5 +1,5 @@
 // Which bundles need no search, since all that could be seen in them is worth too little.
-ghost use Rattle.std.specs.Prelude.{◌≡◌, ◌≤◌, ◌<◌, ◌*◌, ◌+◌, ◌-◌, All, unsigned_abs, IsTrue, false, length, slice_index};
+ghost use Rattle.std.specs.Prelude.{◌≡◌, ◌≤◌, ◌<◌, ◌*◌, ◌+◌, ◌-◌, All, unsigned_abs, false, length, slice_index};
 ghost use Rattle.std.proofs.Props.{props};
 ghost use Rattle.market_units.specs.Totals.{total};
 ghost use Rattle.bundle_rules.specs.Bundles.{sections_of};

@@ -42,7 +42,12 @@ impl Wishes {
             (range_with_len 0 (rated_count self.sections)))) }
     {
         'ratings: for others in 0..self.sections.min(MOST_RATED) {
-            put_rating(text, self.seed, student, self.section_behind(student, others))?;
+            put_rating(
+                text,
+                self.seed,
+                student,
+                self.section_behind(student, others),
+            )?;
         }
         Ok(())
     }

@@ -9,27 +9,27 @@ use Rattle.certificate_checker.proofs.allocation.check_allocation.Goals as goal
 
 pub index-requires-in-loop-place : goal.index-requires-in-loop-place
 index-requires-in-loop-place c =
-    let p = publication_of c.args.publication.now in
-    let long : HasLengths c.args.terms.now c.args.publication.now = lengths c.args.terms.now c.args.publication.now c.requires.terms in
-    let held : length c.args.floor.now.held.items ≡ length c.args.terms.now.crowd.menus.items =
+    let p = publication_of c.args.printed.now.publication.now in
+    let long : HasLengths c.args.printed.now.terms.now c.args.printed.now.publication.now = lengths c.args.printed.now.terms.now c.args.printed.now.publication.now c.args.printed.now.can in
+    let held : length c.args.floor.now.held.items ≡ length c.args.printed.now.terms.now.crowd.menus.items =
     sym (length_map sections_of c.args.floor.now.held.items) ∙ ap length c.requires.floor.held
-    ∙ after_length c.args.terms.now c.args.publication.now p.turns c.requires.terms in
+    ∙ after_length c.args.printed.now.terms.now c.args.printed.now.publication.now p.turns c.args.printed.now.can in
     omega arith
 
 pub overflow_cast-result : goal.overflow_cast-result
 overflow_cast-result c =
-    let long : HasLengths c.args.terms.now c.args.publication.now = lengths c.args.terms.now c.args.publication.now c.requires.terms in
+    let long : HasLengths c.args.printed.now.terms.now c.args.printed.now.publication.now = lengths c.args.printed.now.terms.now c.args.printed.now.publication.now c.args.printed.now.can in
     let few : c.loop-place.place ≤ 2000 = omega arith in
     search rules
 
 pub returns-then-ne : goal.returns-then-ne
 returns-then-ne c =
-    let p = publication_of c.args.publication.now in
-    let long : HasLengths c.args.terms.now c.args.publication.now = lengths c.args.terms.now c.args.publication.now c.requires.terms in
-    let held : length c.args.floor.now.held.items ≡ length c.args.terms.now.crowd.menus.items =
+    let p = publication_of c.args.printed.now.publication.now in
+    let long : HasLengths c.args.printed.now.terms.now c.args.printed.now.publication.now = lengths c.args.printed.now.terms.now c.args.printed.now.publication.now c.args.printed.now.can in
+    let held : length c.args.floor.now.held.items ≡ length c.args.printed.now.terms.now.crowd.menus.items =
     sym (length_map sections_of c.args.floor.now.held.items) ∙ ap length c.requires.floor.held
-    ∙ after_length c.args.terms.now c.args.publication.now p.turns c.requires.terms in
-    let low : c.loop-place.place < length c.args.publication.now.allocation.items = omega arith in
+    ∙ after_length c.args.printed.now.terms.now c.args.printed.now.publication.now p.turns c.args.printed.now.can in
+    let low : c.loop-place.place < length c.args.printed.now.publication.now.allocation.items = omega arith in
     let small : c.loop-place.place < length c.args.floor.now.held.items = omega arith in (
       tt,
       record {
@@ -38,7 +38,7 @@ returns-then-ne c =
           within = omega arith;
           before = c.loop-place.invariant;
           fails =
-              are_unequal c.args.publication.now.allocation.items c.args.floor.now.held.items (held_after (demanded p) p.turns) c.loop-place.place
+              are_unequal c.args.printed.now.publication.now.allocation.items c.args.floor.now.held.items (held_after (demanded p) p.turns) c.loop-place.place
               c.index.result.now c.index-in-loop-place.result.now low small c.index.ensures c.index-in-loop-place.ensures c.requires.floor.held
               (sym c.ne.ensures ∙ c.if-ne.true);
         };
@@ -47,18 +47,18 @@ returns-then-ne c =
 
 pub loop-place-preserved : goal.loop-place-preserved
 loop-place-preserved c =
-    let p = publication_of c.args.publication.now in
-    let long : HasLengths c.args.terms.now c.args.publication.now = lengths c.args.terms.now c.args.publication.now c.requires.terms in
-    let held : length c.args.floor.now.held.items ≡ length c.args.terms.now.crowd.menus.items =
+    let p = publication_of c.args.printed.now.publication.now in
+    let long : HasLengths c.args.printed.now.terms.now c.args.printed.now.publication.now = lengths c.args.printed.now.terms.now c.args.printed.now.publication.now c.args.printed.now.can in
+    let held : length c.args.floor.now.held.items ≡ length c.args.printed.now.terms.now.crowd.menus.items =
     sym (length_map sections_of c.args.floor.now.held.items) ∙ ap length c.requires.floor.held
-    ∙ after_length c.args.terms.now c.args.publication.now p.turns c.requires.terms in
-    let low : c.loop-place.place < length c.args.publication.now.allocation.items = omega arith in
+    ∙ after_length c.args.printed.now.terms.now c.args.printed.now.publication.now p.turns c.args.printed.now.can in
+    let low : c.loop-place.place < length c.args.printed.now.publication.now.allocation.items = omega arith in
     let small : c.loop-place.place < length c.args.floor.now.held.items = omega arith in
     below_more _ _ c.loop-place.invariant
-    (are_equal c.args.publication.now.allocation.items c.args.floor.now.held.items (held_after (demanded p) p.turns) c.loop-place.place c.index.result.now
+    (are_equal c.args.printed.now.publication.now.allocation.items c.args.floor.now.held.items (held_after (demanded p) p.turns) c.loop-place.place c.index.result.now
     c.index-in-loop-place.result.now low small c.index.ensures c.index-in-loop-place.ensures c.requires.floor.held (sym c.ne.ensures ∙ c.if-ne.false))
 
 pub returns : goal.returns
 returns c =
-    let long : HasLengths c.args.terms.now c.args.publication.now = lengths c.args.terms.now c.args.publication.now c.requires.terms in
+    let long : HasLengths c.args.printed.now.terms.now c.args.printed.now.publication.now = lengths c.args.printed.now.terms.now c.args.printed.now.publication.now c.args.printed.now.can in
     ((c.requires.before, fewer _ c.loop-place.place _ (omega arith) c.loop-place.invariant), tt)

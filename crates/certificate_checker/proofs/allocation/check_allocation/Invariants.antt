@@ -4,4 +4,4 @@ use Rattle.certificate_checker.specs.Firsts.{AllBelow}
 use Rattle.certificate_checker.proofs.allocation.check_allocation.Given as goal
 
 abbrev pub invariant-loop-place : goal.invariant-loop-place
-invariant-loop-place l = AllBelow l.place (IsAllocated (publication_of l.publication))
+invariant-loop-place l = AllBelow l.place (IsAllocated (publication_of l.printed.publication.now))

@@ -5,4 +5,4 @@ use Rattle.certificate_checker.specs.Views.{terms_of}
 use Rattle.certificate_checker.proofs.budgets.check_budgets.Given as goal
 
 abbrev pub invariant-loop-place : goal.invariant-loop-place
-invariant-loop-place l = AllBelow l.place (HasBudget (terms_of l.terms).crowd (publication_of l.publication))
+invariant-loop-place l = AllBelow l.place (HasBudget (terms_of l.printed.terms.now).crowd (publication_of l.printed.publication.now))

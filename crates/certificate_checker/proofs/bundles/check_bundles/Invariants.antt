@@ -5,4 +5,4 @@ use Rattle.certificate_checker.specs.Views.{terms_of}
 use Rattle.certificate_checker.proofs.bundles.check_bundles.Given as goal
 
 abbrev pub invariant-loop-student : goal.invariant-loop-student
-invariant-loop-student l = AllBelow l.student (IsProvedBundle (terms_of l.terms).crowd (publication_of l.publication))
+invariant-loop-student l = AllBelow l.student (IsProvedBundle (terms_of l.printed.terms.now).crowd (publication_of l.printed.publication.now))

@@ -10,15 +10,17 @@ use Rattle.certificate_checker.specs.Views.{terms_of}
 use Rattle.certificate_checker.proofs.Composing.{can_check, on_found, order_first, printed_first}
 use Rattle.certificate_checker.proofs.checking.accept_publication.Goals as goal
 
-pub check_printed-requires-clause-terms : goal.check_printed-requires-clause-terms
-check_printed-requires-clause-terms c =
+pub invariant_of-printed : goal.invariant_of-printed
+invariant_of-printed c =
     let after =
     subst
     (λ order. IsCrowdAfter (market_in c.args.market.now) (map (λ stream. stream.items) c.args.streams.now) order
     (terms_of c.in_ok-terms.terms).crowd)
     c.deref.ensures.value c.in_ok-terms.ensures.crowd in
-    can_check (market_in c.args.market.now) _ c.in_ok-terms.terms (publication_of c.args.publication)
-    c.requires.publication after c.in_ok-terms.ensures.terms c.args.market.now.raise
+    record {
+      can = can_check (market_in c.args.market.now) _ c.in_ok-terms.terms (publication_of c.args.publication)
+          c.requires.publication after c.in_ok-terms.ensures.terms c.args.market.now.raise;
+    }
 
 pub returns-in_err-terms-clause-first : goal.returns-in_err-terms-clause-first
 returns-in_err-terms-clause-first c =

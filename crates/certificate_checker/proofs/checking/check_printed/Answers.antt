@@ -8,14 +8,14 @@ use Rattle.certificate_checker.proofs.checking.check_printed.Goals as goal
 
 pub check_used-requires-clause-floor : goal.check_used-requires-clause-floor
 check_used-requires-clause-floor c =
-    let terms = c.args.terms.now in
-    let p = publication_of c.args.publication.now in
-    let long : HasLengths terms c.args.publication.now = lengths terms c.args.publication.now c.requires.terms in
+    let terms = c.args.printed.now.terms.now in
+    let p = publication_of c.args.printed.now.publication.now in
+    let long : HasLengths terms c.args.printed.now.publication.now = lengths terms c.args.printed.now.publication.now c.args.printed.now.can in
     record {
       is_floor = c.in_ok-check_turns.ensures.floor.is_floor;
       held =
           c.in_ok-check_turns.ensures.floor.held
           ∙ sym
-          (allocation_is p _ (length_map sections_of c.args.publication.now.allocation.items ∙ long.allocation ∙ sym long.students)
-          (after_length terms c.args.publication.now p.turns c.requires.terms ∙ sym long.students) c.in_ok-check_allocation.ensures.0.1);
+          (allocation_is p _ (length_map sections_of c.args.printed.now.publication.now.allocation.items ∙ long.allocation ∙ sym long.students)
+          (after_length terms c.args.printed.now.publication.now p.turns c.args.printed.now.can ∙ sym long.students) c.in_ok-check_allocation.ensures.0.1);
     }

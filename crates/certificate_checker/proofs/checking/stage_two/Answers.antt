@@ -6,12 +6,12 @@ use Rattle.certificate_checker.proofs.checking.stage_two.Goals as goal
 
 pub open-requires-clause-few : goal.open-requires-clause-few
 open-requires-clause-few c =
-    stage_two_few c.args.terms.now c.args.publication.now c.students.proved-index c.students.bundles.items c.deref-2.result.now c.requires
+    stage_two_few c.args.printed.now.terms.now c.args.printed.now.publication.now c.students.proved-index c.students.bundles.items c.deref-2.result.now c.args.printed.now.can
     c.deref-2.ensures.value c.students.invariant (omega arith)
 
 pub open-requires-clause-below : goal.open-requires-clause-below
 open-requires-clause-below c =
-    stage_two_fits c.args.terms.now c.args.publication.now c.students.proved-index c.students.bundles.items c.deref-2.result.now c.deref.result.now c.requires
+    stage_two_fits c.args.printed.now.terms.now c.args.printed.now.publication.now c.students.proved-index c.students.bundles.items c.deref-2.result.now c.deref.result.now c.args.printed.now.can
     c.deref.ensures.value c.deref-2.ensures.value c.students.invariant (omega arith)
 
 pub returns : goal.returns
@@ -21,7 +21,7 @@ returns c =
       is_floor = subst (λ seats. IsFloor seats floor) c.deref.ensures.value is;
       held =
           held
-          ∙ stage_two_held c.args.publication.now c.students.proved-index c.students.bundles.items c.deref-2.result.now c.deref-2.ensures.value
+          ∙ stage_two_held c.args.printed.now.publication.now c.students.proved-index c.students.bundles.items c.deref-2.result.now c.deref-2.ensures.value
           c.students.invariant (omega arith);
     })
     c.open.ensures.held c.open.ensures.floor

@@ -6,4 +6,4 @@ use Rattle.certificate_checker.proofs.checking.stage_two.Given as goal
 
 abbrev pub invariant-students : goal.invariant-students
 invariant-students l =
-    map sections_of l.bundles.items ≡ map (λ (proved : Proved). proved.bundle) (map proved_of (take l.proved-index l.publication.bundles.items))
+    map sections_of l.bundles.items ≡ map (λ (proved : Proved). proved.bundle) (map proved_of (take l.proved-index l.printed.publication.now.bundles.items))

@@ -21,26 +21,26 @@ not_zero n e = grind (arith, nat_tests)
 
 pub after_order-requires : goal.after_order-requires
 after_order-requires c =
-    let few : length c.args.terms.now.crowd.menus.items ≤ 2000 = menus_few c.args.terms.now.crowd in
-    let same : length c.args.terms.now.crowd.budgets.items ≡ length c.args.terms.now.crowd.menus.items = c.args.terms.now.crowd.same in
+    let few : length c.args.printed.now.terms.now.crowd.menus.items ≤ 2000 = menus_few c.args.printed.now.terms.now.crowd in
+    let same : length c.args.printed.now.terms.now.crowd.budgets.items ≡ length c.args.printed.now.terms.now.crowd.menus.items = c.args.printed.now.terms.now.crowd.same in
     search rules
 
 pub turns-init : goal.turns-init
 turns-init c = record {
   right = λ n low. absurd (omega arith);
-  progress = c.start-progress.ensures (length c.args.terms.now.crowd.menus.items) (publication_of c.args.publication.now);
+  progress = c.start-progress.ensures (length c.args.printed.now.terms.now.crowd.menus.items) (publication_of c.args.printed.now.publication.now);
   floor = c.requires.floor;
 }
 
 pub take_turn-requires-clause-turn : goal.take_turn-requires-clause-turn
 take_turn-requires-clause-turn c = record {
-  can = c.requires.terms;
+  can = c.args.printed.now.can;
   few = c.requires.few;
   low = search rules;
   order_is =
       ap (map (λ (student : StudentNo). student.0)) c.deref-in-turns.ensures.value ∙ c.in_ok-order.ensures.value
       ∙ ap after_order_of
-      (ap amounts c.deref.ensures.value ∙ sym (budgets_are c.args.terms.now.crowd.menus.items c.args.terms.now.crowd.budgets.items c.args.terms.now.crowd.same));
+      (ap amounts c.deref.ensures.value ∙ sym (budgets_are c.args.printed.now.terms.now.crowd.menus.items c.args.printed.now.terms.now.crowd.budgets.items c.args.printed.now.terms.now.crowd.same));
   so_far = c.turns.invariant.progress;
 }
 
@@ -53,63 +53,63 @@ turns-preserved c = record {
 
 pub returns-then-is_empty-clause-floor : goal.returns-then-is_empty-clause-floor
 returns-then-is_empty-clause-floor c =
-    let turns = length_map turn_of c.args.publication.now.turns.items in
-    let past : length (publication_of c.args.publication.now).turns ≤ c.turns.place = omega arith in
+    let turns = length_map turn_of c.args.printed.now.publication.now.turns.items in
+    let past : length (publication_of c.args.printed.now.publication.now).turns ≤ c.turns.place = omega arith in
     record {
       is_floor = c.turns.invariant.floor.is_floor;
-      held = c.turns.invariant.floor.held ∙ held_whole (publication_of c.args.publication.now) c.turns.place past;
+      held = c.turns.invariant.floor.held ∙ held_whole (publication_of c.args.printed.now.publication.now) c.turns.place past;
     }
 
 pub returns-then-is_empty-clause-ok : goal.returns-then-is_empty-clause-ok
 returns-then-is_empty-clause-ok c =
-    let order : map (λ (student : StudentNo). student.0) c.in_ok-order.order.items ≡ order_in (terms_of c.args.terms.now).crowd =
+    let order : map (λ (student : StudentNo). student.0) c.in_ok-order.order.items ≡ order_in (terms_of c.args.printed.now.terms.now).crowd =
     c.in_ok-order.ensures.value
     ∙ ap after_order_of
     (ap amounts c.deref.ensures.value
-    ∙ sym (budgets_are c.args.terms.now.crowd.menus.items c.args.terms.now.crowd.budgets.items c.args.terms.now.crowd.same)) in
-    let long : length c.in_ok-order.order.items ≡ length c.args.terms.now.crowd.menus.items =
-    order_is_long c.args.terms.now c.in_ok-order.order.items order in
-    let students = students_length c.args.terms.now.crowd in
-    let turns = length_map turn_of c.args.publication.now.turns.items in
+    ∙ sym (budgets_are c.args.printed.now.terms.now.crowd.menus.items c.args.printed.now.terms.now.crowd.budgets.items c.args.printed.now.terms.now.crowd.same)) in
+    let long : length c.in_ok-order.order.items ≡ length c.args.printed.now.terms.now.crowd.menus.items =
+    order_is_long c.args.printed.now.terms.now c.in_ok-order.order.items order in
+    let students = students_length c.args.printed.now.terms.now.crowd in
+    let turns = length_map turn_of c.args.printed.now.publication.now.turns.items in
     let empty : vec_len c.in_ok-order.order ≡ 0 = is_zero (vec_len c.in_ok-order.order) (sym c.is_empty.ensures ∙ c.if-is_empty.true) in
     ((c.requires.before, fewer _ c.turns.place _ (omega arith) c.turns.invariant.right), λ some. absurd (omega arith))
 
 pub returns-then-progress-clause-floor : goal.returns-then-progress-clause-floor
 returns-then-progress-clause-floor c =
-    let turns = length_map turn_of c.args.publication.now.turns.items in
-    let past : length (publication_of c.args.publication.now).turns ≤ c.turns.place = omega arith in
+    let turns = length_map turn_of c.args.printed.now.publication.now.turns.items in
+    let past : length (publication_of c.args.printed.now.publication.now).turns ≤ c.turns.place = omega arith in
     record {
       is_floor = c.turns.invariant.floor.is_floor;
-      held = c.turns.invariant.floor.held ∙ held_whole (publication_of c.args.publication.now) c.turns.place past;
+      held = c.turns.invariant.floor.held ∙ held_whole (publication_of c.args.printed.now.publication.now) c.turns.place past;
     }
 
 pub returns-then-progress-clause-ok : goal.returns-then-progress-clause-ok
 returns-then-progress-clause-ok c =
-    let turns = length_map turn_of c.args.publication.now.turns.items in
-    let at : c.turns.place ≡ length c.args.publication.now.turns.items = omega arith in (
+    let turns = length_map turn_of c.args.printed.now.publication.now.turns.items in
+    let at : c.turns.place ≡ length c.args.printed.now.publication.now.turns.items = omega arith in (
       (c.requires.before, fewer _ c.turns.place _ (omega arith) c.turns.invariant.right),
-      ends_quietly c.args.terms.now c.args.publication.now c.turns.place c.turns.progress c.requires.terms at c.turns.invariant.progress c.if-progress.true,
+      ends_quietly c.args.printed.now.terms.now c.args.printed.now.publication.now c.turns.place c.turns.progress c.args.printed.now.can at c.turns.invariant.progress c.if-progress.true,
     )
 
 pub returns-clause-first : goal.returns-clause-first
 returns-clause-first c =
-    let order : map (λ (student : StudentNo). student.0) c.in_ok-order.order.items ≡ order_in (terms_of c.args.terms.now).crowd =
+    let order : map (λ (student : StudentNo). student.0) c.in_ok-order.order.items ≡ order_in (terms_of c.args.printed.now.terms.now).crowd =
     c.in_ok-order.ensures.value
     ∙ ap after_order_of
     (ap amounts c.deref.ensures.value
-    ∙ sym (budgets_are c.args.terms.now.crowd.menus.items c.args.terms.now.crowd.budgets.items c.args.terms.now.crowd.same)) in
-    let long : length c.in_ok-order.order.items ≡ length c.args.terms.now.crowd.menus.items =
-    order_is_long c.args.terms.now c.in_ok-order.order.items order in
-    let turns = length_map turn_of c.args.publication.now.turns.items in
-    let at : c.turns.place ≡ length c.args.publication.now.turns.items = omega arith in
+    ∙ sym (budgets_are c.args.printed.now.terms.now.crowd.menus.items c.args.printed.now.terms.now.crowd.budgets.items c.args.printed.now.terms.now.crowd.same)) in
+    let long : length c.in_ok-order.order.items ≡ length c.args.printed.now.terms.now.crowd.menus.items =
+    order_is_long c.args.printed.now.terms.now c.in_ok-order.order.items order in
+    let turns = length_map turn_of c.args.printed.now.publication.now.turns.items in
+    let at : c.turns.place ≡ length c.args.printed.now.publication.now.turns.items = omega arith in
     let full : vec_len c.in_ok-order.order ≢ 0 = not_zero (vec_len c.in_ok-order.order) (sym c.is_empty.ensures ∙ c.if-is_empty.false) in
-    let same : c.len.result ≡ length (map turn_of c.args.publication.now.turns.items) = omega arith in
-    let some : 0 < length c.args.terms.now.crowd.menus.items = omega arith in
+    let same : c.len.result ≡ length (map turn_of c.args.printed.now.publication.now.turns.items) = omega arith in
+    let some : 0 < length c.args.printed.now.terms.now.crowd.menus.items = omega arith in
     record {
       before = (c.requires.before, fewer _ c.turns.place _ (omega arith) c.turns.invariant.right);
       found = (
         same,
-        ends_early c.args.terms.now c.args.publication.now c.turns.place c.turns.progress c.requires.terms at c.turns.invariant.progress some
+        ends_early c.args.printed.now.terms.now c.args.printed.now.publication.now c.turns.place c.turns.progress c.args.printed.now.can at c.turns.invariant.progress some
             c.if-progress.false,
       );
     }

@@ -8,7 +8,7 @@ use Rattle.certificate_checker.proofs.turns.check_turns.Given as goal
 
 abbrev pub invariant-turns : goal.invariant-turns
 invariant-turns l = record {
-  right : AllBelow l.place (IsRightTurn (terms_of l.terms) (publication_of l.publication));
-  progress : IsProgress (length l.terms.crowd.menus.items) (publication_of l.publication) l.place l.progress;
-  floor : AreHeldOn l.terms.seats.items (held_before (publication_of l.publication) l.place) l.floor;
+  right : AllBelow l.place (IsRightTurn (terms_of l.printed.terms.now) (publication_of l.printed.publication.now));
+  progress : IsProgress (length l.printed.terms.now.crowd.menus.items) (publication_of l.printed.publication.now) l.place l.progress;
+  floor : AreHeldOn l.printed.terms.now.seats.items (held_before (publication_of l.printed.publication.now) l.place) l.floor;
 }

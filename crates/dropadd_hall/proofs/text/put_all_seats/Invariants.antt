@@ -7,4 +7,4 @@ use Rattle.dropadd_hall.proofs.text.put_all_seats.Given as goal
 
 -- the lines of so many sections
 abbrev pub invariant-sections : goal.invariant-sections
-invariant-sections l = l.text.items ≡ l.initial.text.items ++ joined (map (seats_line (market_of l.desk) (state_of l.desk)) (range_with_len 0 l.section))
+invariant-sections l = l.text.items ≡ l.initial.text.items ++ joined (map (seats_line (market_of l.named.desk.now) (state_of l.named.desk.now)) (range_with_len 0 l.section))

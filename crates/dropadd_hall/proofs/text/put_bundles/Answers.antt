@@ -10,15 +10,15 @@ use Rattle.dropadd_hall.proofs.text.put_bundles.Goals as goal
 
 pub put_held-requires : goal.put_held-requires
 put_held-requires c =
-    all_within (length c.args.catalog.now.sections) (sections_of c.bundle.result)
-    (λ s there. subst (λ (m : Market). s < section_count m) c.requires (c.bundle.ensures.within s there))
+    all_within (length c.args.named.now.catalog.now.sections) (sections_of c.bundle.result)
+    (λ s there. subst (λ (m : Market). s < section_count m) c.args.named.now.market (c.bundle.ensures.within s there))
 
 pub students-preserved : goal.students-preserved
 students-preserved c =
-    let market = market_of c.args.desk.now in
-    let state = state_of c.args.desk.now in
+    let market = market_of c.args.named.now.desk.now in
+    let state = state_of c.args.named.now.desk.now in
     line_more (held_line market state) c.students.student c.args.text.now.items c.students.text.items c.put_held.new.text.items c.students.invariant
     (c.in_ok-put_held.ensures
     ∙ ap (λ l. (c.students.text.items ++ l) ++ 10 ∷ [])
-    (held_put market state c.args.catalog.now c.args.roll.now c.students.student (name_bytes c.name.result) (sections_of c.bundle.result) c.requires
+    (held_put market state c.args.named.now.catalog.now c.args.named.now.roll.now c.students.student (name_bytes c.name.result) (sections_of c.bundle.result) c.args.named.now.market
     (omega arith) c.name.ensures c.bundle.ensures.value))

@@ -7,4 +7,4 @@ use Rattle.dropadd_hall.proofs.text.put_bundles.Given as goal
 
 -- the lines of so many students
 abbrev pub invariant-students : goal.invariant-students
-invariant-students l = l.text.items ≡ l.initial.text.items ++ joined (map (held_line (market_of l.desk) (state_of l.desk)) (range_with_len 0 l.student))
+invariant-students l = l.text.items ≡ l.initial.text.items ++ joined (map (held_line (market_of l.named.desk.now) (state_of l.named.desk.now)) (range_with_len 0 l.student))

@@ -7,4 +7,4 @@ use Rattle.dropadd_hall.proofs.text.put_lists.Given as goal
 
 -- the lists of so many sections
 abbrev pub invariant-sections : goal.invariant-sections
-invariant-sections l = l.text.items ≡ l.initial.text.items ++ joined (flat_map (wait_lines (market_of l.desk) (state_of l.desk)) (range_with_len 0 l.section))
+invariant-sections l = l.text.items ≡ l.initial.text.items ++ joined (flat_map (wait_lines (market_of l.named.desk.now) (state_of l.named.desk.now)) (range_with_len 0 l.section))

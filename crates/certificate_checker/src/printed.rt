@@ -1,0 +1,16 @@
+// What is printed, as it is looked at.
+ghost use Rattle.std.proofs.Props.{props};
+ghost use Rattle.bundle_rules.specs.Sets.{IsAscending-prop};
+ghost use Rattle.market_certificate.specs.Views.{publication_of};
+ghost use Rattle.certificate_checker.specs.Parts.{CanCheck};
+
+use crate::terms::Terms;
+use market_certificate::Publication;
+
+/// A publication, and what it is checked by: it has a line for each of their students and sections.
+#[derive(Clone, Copy)]
+pub(crate) struct Printed<'a> {
+    pub terms: &'a Terms,
+    pub publication: &'a Publication,
+    pub ghost can: { CanCheck terms.now (publication_of publication.now) } by { Prim.hlevel (props, IsAscending-prop) },
+}
