@@ -1,6 +1,6 @@
 -- Inputs that are taken one behind another.
 use Rattle.std.proofs.Common.{ℕ, ◌≡◌, ◌<◌, ◌≤◌, ◌+◌, List, [], ◌∷◌, ◌++◌, length, arith, ap, sym, subst, ◌∙◌, refl, Global}
-use Rattle.std.specs.Prelude.{Err, IfErr, IfOk, Ok, OnOk, Result, Vec}
+use Rattle.std.specs.Prelude.{Err, IfErr, IfOk, Ok, Result, Vec}
 use Rattle.std.specs.List.{AllZip}
 use Rattle.std.proofs.lemmas.List.{length-append}
 use Rattle.market_edge.specs.declared.shelf.Shelf as Shelf
@@ -13,17 +13,18 @@ use Rattle.market_host.specs.declared.trouble.Trouble.TheVariants.{OutOfMemory}
 use Rattle.market_host.specs.Inputs.{AreRead, HasFault, IsOfGrammar, commands_among}
 use Rattle.market_host.specs.Kinds.{Kind, OpensWith, Session, front_of, kind_behind, kind_of, limit_of, streams_of}
 use Rattle.market_host.specs.Outcomes.{IsLastAtEnd}
-use Rattle.market_host.specs.Reading.{IsRefusal, IsTroubleOfSession, IsTroubleOfSessions, IsUnread}
-use Rattle.market_host.specs.Sessions.{command_count}
+use Rattle.market_host.specs.Reading.{IsRefusal, IsSurplus, IsTroubleOfSession, IsTroubleOfSessions}
+use Rattle.market_host.specs.Sessions.{command_count, session_text}
 use Rattle.market_host.specs.Sights.{sight}
-use Rattle.market_host.specs.Taking.{AreTaken, IsTaken, Keeps, OneStops, Stops, Takes}
-use Rattle.market_host.specs.Traces.{AreReadOut, AreReadUntil, Uses, trace}
-use Rattle.market_host.specs.Troubles.{HasTrouble, IsAtEnd}
+use Rattle.market_host.specs.Taking.{AreTaken, IsNotRead, IsReadWhole, IsTaken, Keeps, OneStops, Reads, SessionStops, Stops, Takes, TakesSession}
+use Rattle.market_host.specs.Traces.{AreReadOut, AreReadUntil, trace}
+use Rattle.market_host.specs.Troubles.{HasTrouble}
 use Rattle.market_host.proofs.InputTroubles.{front_read, none_read, texts_long, trouble_before, trouble_of_refusal, trouble_of_unread}
 use Rattle.market_host.proofs.ReadOut.{added_at_end, behind_at_end, none_at_end}
-use Rattle.market_host.proofs.SessionsRead.{no_commands, sessions_read}
+use Rattle.market_host.proofs.SessionsRead.{is_session, no_commands, sessions_read, trouble_of_session}
 use Rattle.market_host.proofs.Shelves.{end_from, seen_from}
-use Rattle.market_host.proofs.TraceFacts.{none_used, read_behind, until_before, until_behind, until_memory, until_refused}
+use Rattle.market_host.proofs.TraceFacts.{none_used, read_behind, until_before, until_behind, until_memory, until_refused, until_surplus}
+use Rattle.utility_language.specs.Commands.{command_lines}
 
 -- a form whose first inputs have these kinds has at least as many in front of its streams
 pub front_long : (form : Form) (kinds : List Kind) → OpensWith kinds form → length kinds ≤ length (front_of form)
@@ -42,38 +43,62 @@ module _ {H : Type 0} (shelf : Shelf.Ghosts H) where
   kept_over a b c p q = record { holds = q.holds ∙ p.holds; later = λ other. omega (arith, p.later other, q.later other) }
 
   -- an input is read whole, or it is not
-  module _ (a b : H) (kind : Kind) (name : List ℕ) (number : ℕ) (Q : List (List ℕ) → Type 0) (kept : Keeps shelf a b) where
-    pub unread_stops : (stop : Trouble) → IsUnread (limit_of kind) (sight shelf a b) name number stop
-        → AreReadUntil (trace shelf a b) (name ∷ []) number stop → Stops shelf kind name number Q a b stop
-    unread_stops stop unread used = record {
-      trouble = λ form earlier texts later read of is holds. trouble_of_unread form (sight shelf a b) earlier texts later name number read is kind stop of unread;
-      used = used;
-      kept = kept;
+  module _ (a b : H) (kind : Kind) (name : List ℕ) (number : ℕ) (Q : List (List ℕ) → Type 0) where
+    pub unread_stops : (stop : Trouble) → IsNotRead shelf (limit_of kind) name number a b stop → Stops shelf kind name number Q a b stop
+    unread_stops stop said = record {
+      trouble = λ form earlier texts later read of is holds.
+          trouble_of_unread form (sight shelf a b) earlier texts later name number read is kind stop of said.unread;
+      used = said.used;
+      kept = said.kept;
     }
 
     -- what its text says is had, or the text is refused
     pub read_takes : {A : Type 0} (IsSaidBy : List ℕ → A → Type 0) (IsSo : ℕ → Cause → Type 0) (text : List ℕ) (result : Result A Trouble)
-        → IsTextOf (shelf.shows a).holds name text → length text ≤ limit_of kind → IsAtEnd (sight shelf a b) name → AreReadOut (trace shelf a b) (name ∷ [])
+        → IsReadWhole shelf (limit_of kind) name a b text
         → ((texts : List (List ℕ)) → Q texts → (row : ℕ) (cause : Cause) → IsSo row cause → HasFault kind texts row cause text)
         → IfOk result (IsSaidBy text) → IfErr result (IsRefusal IsSo number) → Takes shelf kind name number Q IsSaidBy a b result
-    read_takes IsSaidBy IsSo text (Ok said) whole within ended used fault says refused =
-        record { text = text; whole = whole; within = within; says = says; ended = ended; used = used; kept = kept }
-    read_takes IsSaidBy IsSo text (Err stop) whole within ended used fault says refused = record {
-      trouble =
-          λ form earlier texts later read of is holds.
-          trouble_of_refusal form (sight shelf a b) earlier texts later name number read is kind IsSo text stop of ended whole within (fault texts holds) refused;
-      used = until_refused shelf a b name number IsSo stop used refused;
-      kept = kept;
+    read_takes IsSaidBy IsSo text (Ok said) read fault says refused =
+        record { text = text; whole = read.whole; within = read.within; says = says; ended = read.ended; used = read.used; kept = read.kept }
+    read_takes IsSaidBy IsSo text (Err stop) read fault says refused = record {
+      trouble = λ form earlier texts later before of is holds.
+          trouble_of_refusal form (sight shelf a b) earlier texts later name number before is kind IsSo text stop of read.ended read.whole read.within
+          (fault texts holds) refused;
+      used = until_refused shelf a b name number IsSo stop read.used refused;
+      kept = read.kept;
     }
 
     -- the text itself is had
-    pub text_takes : (result : Result (Vec ℕ Global) Trouble) → IfOk result (λ text. IsTextOf (shelf.shows a).holds name text.items)
-        → IfOk result (λ text. length text.items ≤ limit_of kind) → OnOk result (IsAtEnd (sight shelf a b) name)
-        → IfErr result (IsUnread (limit_of kind) (sight shelf a b) name number) → Uses (trace shelf a b) (name ∷ []) number result
+    pub text_takes : (result : Result (Vec ℕ Global) Trouble) → Reads shelf (limit_of kind) name number a b result
         → Takes shelf kind name number Q (λ bytes text. bytes ≡ text.items) a b result
-    text_takes (Ok text) whole within ended unread used =
-        record { text = text.items; whole = whole; within = within; says = refl; ended = ended; used = used; kept = kept }
-    text_takes (Err stop) whole within ended unread used = unread_stops stop unread used
+    text_takes (Ok text) read =
+        record { text = text.items; whole = read.whole; within = read.within; says = refl; ended = read.ended; used = read.used; kept = read.kept }
+    text_takes (Err stop) said = unread_stops stop said
+
+  -- a session is read whole, or it is not
+  module _ (a b : H) (name : List ℕ) (number room : ℕ) where
+    pub unread_session : (stop : Trouble) → IsNotRead shelf (limit_of Session) name number a b stop → SessionStops shelf name number room a b stop
+    unread_session stop said = record {
+      trouble = λ form earlier texts later read streams behind is left.
+          trouble_of_unread form (sight shelf a b) earlier texts later name number read is Session stop (is_session form (length earlier) streams behind)
+          said.unread;
+      used = said.used;
+      kept = said.kept;
+    }
+
+    -- its items are had, or there is no room for them
+    pub session_takes : {A : Type 0} (IsItemOf : List (List ℕ) → A → Type 0) (text : List ℕ) (result : Result (Vec A Global) Trouble)
+        → IsReadWhole shelf (limit_of Session) name a b text
+        → IfOk result (λ stream. AllZip IsItemOf (command_lines (session_text text)) stream.items × (command_count text ≤ room))
+        → IfErr result (IsSurplus text room number) → TakesSession shelf IsItemOf name number room a b result
+    session_takes IsItemOf text (Ok stream) read says surplus =
+        record { read = (text, read.whole, read.within, says); ended = read.ended; used = read.used; kept = read.kept }
+    session_takes IsItemOf text (Err stop) read says surplus = record {
+      trouble = λ form earlier texts later before streams behind is left.
+          trouble_of_session form (sight shelf a b) earlier texts later name text number room stop before is streams behind left read.ended read.whole
+          read.within surplus;
+      used = until_surplus shelf a b name text room number stop read.used surplus;
+      kept = read.kept;
+    }
 
   -- no input is taken yet
   pub none_taken : (form : Form) (a : H) → AreTaken shelf form [] [] a a

@@ -1,6 +1,6 @@
 -- Inputs that are used one after another.
 use Rattle.std.proofs.Common.{ℕ, Bool, true, false, cond, ◌≡◌, ◌+◌, List, [], ◌∷◌, ◌++◌, length, map, Some, None, arith, ap, sym, ◌∙◌, refl, append_assoc}
-use Rattle.std.specs.Prelude.{IsTrue, Option, Result, Ok, Err, IfErr}
+use Rattle.std.specs.Prelude.{IsTrue, Option}
 use Rattle.std.proofs.lemmas.List.{append-nil, length-append, map-append}
 use Rattle.market_edge.specs.declared.shelf.Shelf as Shelf
 use Rattle.market_edge.specs.Openings.{BeginsAtMost, Opening, Changes, read_out, with_read_out}
@@ -9,7 +9,7 @@ use Rattle.market_host.specs.declared.trouble.Trouble.{Trouble}
 use Rattle.market_host.specs.declared.trouble.Trouble.TheVariants.{ShelfFault, Refused, TooLong, OutOfMemory}
 use Rattle.market_host.specs.Statuses.{status_of}
 use Rattle.market_host.specs.Reading.{IsRefusal, IsSurplus}
-use Rattle.market_host.specs.Traces.{AreReadOut, AreReadTo, AreReadUntil, AreUsed, CountsStand, IsLastBegun, Trace, Uses, only_begun, trace, with_begun_too}
+use Rattle.market_host.specs.Traces.{AreReadOut, AreReadTo, AreReadUntil, AreUsed, CountsStand, IsLastBegun, Trace, only_begun, trace, with_begun_too}
 
 changes_by : (old new : Option (List Opening)) (change other : List Opening → List Opening) → ((openings : List Opening) → change openings ≡ other openings)
     → Changes old new change → Changes old new other
@@ -157,12 +157,6 @@ module _ {H : Type 0} (shelf : Shelf.Ghosts H) where
   until_surplus a b name text room number OutOfMemory p surplus = until_memory a b (name ∷ []) number p
   until_surplus a b name text room number (ShelfFault n) p surplus = absurd surplus
   until_surplus a b name text room number (Refused n row cause) p surplus = absurd surplus
-
-  -- the same, by what is made of the text
-  pub uses_surplus : {A : Type 0} (a b : H) (name text : List ℕ) (room number : ℕ) (result : Result A Trouble) → AreReadOut (trace shelf a b) (name ∷ [])
-      → IfErr result (IsSurplus text room number) → Uses (trace shelf a b) (name ∷ []) number result
-  uses_surplus a b name text room number (Ok x) p surplus = p
-  uses_surplus a b name text room number (Err stop) p surplus = until_surplus a b name text room number stop p surplus
 
 -- what stops a call, by its status
 pub stopped_used : (words : List (List ℕ)) (seen : Trace) (stop : Trouble) → AreReadTo words seen stop → AreUsed words seen (status_of stop)

@@ -1,5 +1,5 @@
 -- What a call answers.
-use Rattle.std.specs.Prelude.{ℕ, ◌≡◌, ◌≢◌, List}
+use Rattle.std.specs.Prelude.{ℕ, ◌≡◌, ◌≢◌, ◌≤◌, List}
 use Rattle.market_edge.specs.Faults.{Rose}
 use Rattle.market_edge.specs.Sinks.{Takes, TakesFront}
 use Rattle.market_host.specs.declared.status.Status.{Status}
@@ -48,3 +48,5 @@ pub record IsWordless (writes : Writing) (status : Status) : Type 0 where
   pub replaced : status ≡ SinkFault
       → TakesFront writes.taken_before writes.taken_after (line_of trouble.OutOfMemory)
   pub uncounted : status ≢ SinkFault → writes.faults_after ≡ writes.faults_before
+  -- the sink's count of faults does not fall
+  pub later : writes.faults_before ≤ writes.faults_after

@@ -7,13 +7,28 @@ use Rattle.demand_text.specs.Texts.{demand_text}
 use Rattle.market_settings.specs.declared.reader.Settings.{Settings}
 use Rattle.market_settings.specs.Settings.{settings_of}
 use Rattle.market_units.specs.declared.units.Tokens.{Tokens}
+use Rattle.preference_desk.specs.Journals.{IsLegalJournal, MergesStreams}
+use Rattle.preference_desk.specs.MarketNames.{market_names}
 use Rattle.preference_desk.specs.declared.entry.Entry.{Entry}
 use Rattle.price_sheet.specs.Sheets.{prices_of}
 use Rattle.published_parts.specs.Crowds.{IsCrowdIn}
-use Rattle.published_parts.specs.Markets.{market_of}
+use Rattle.published_parts.specs.Markets.{Market, market_of}
 use Rattle.student_roll.specs.Students.{RollData}
+use Rattle.utility_language.specs.declared.commands.Command.{Command}
 use Rattle.market_host.specs.Markets.{IsHeld}
 use Rattle.market_host.specs.Marks.{without_mark}
+
+-- the text tells a journal that a desk for this market keeps of these streams, and what the crowd
+-- of its students takes at these prices
+abbrev pub TellsDemand : Market → List (List Command) → List Tokens → List ℕ → Type 0
+TellsDemand market streams prices text =
+    (journal : List Entry)
+    × IsLegalJournal (market_names market.catalog.sections market.roll.students) journal
+    × MergesStreams streams journal
+    × (crowd : CrowdData) × IsCrowdIn market journal crowd
+    × (text
+    ≡ demand_text market.catalog.sections market.roll.students journal
+    (taken_at crowd (map (λ section. section.seats) market.catalog.sections) prices))
 
 -- The text tells one journal of a market that was held on these inputs, and what the crowd of its
 -- students takes at the prices, as they were read: the bundles, the counts, and the error for the

@@ -22,6 +22,7 @@ pub mod Reading
 pub mod Refusals
 pub mod Requests
 pub mod Runs
+pub mod Said
 pub mod Sessions
 pub mod Sights
 pub mod Statuses

@@ -38,6 +38,8 @@ unknown_line word = codes "no such name: word " ++ decimal word ++ codes "\n"
 -- the line that says what stops a call
 abbrev pub line_of : Trouble → List ℕ
 line_of (ShelfFault input) = codes "input " ++ decimal input ++ codes " can not be read\n"
-line_of (Refused input row cause) = codes "input " ++ decimal input ++ codes " row " ++ decimal row ++ codes ": " ++ cause_words cause ++ codes "\n"
+line_of (Refused input row cause) =
+    codes "input " ++ decimal input ++ codes " row " ++ decimal row ++ codes ": "
+    ++ cause_words cause ++ codes "\n"
 line_of (TooLong input) = codes "input " ++ decimal input ++ codes " is too long\n"
 line_of OutOfMemory = codes "out of memory\n"

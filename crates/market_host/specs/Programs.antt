@@ -1,5 +1,5 @@
 -- What the words of a process are, and what it ends with.
-use Rattle.std.specs.Prelude.{ℕ, ◌≡◌, ◌⊎◌, List, [], map, drop, Result, Ok, Err, String}
+use Rattle.std.specs.Prelude.{ℕ, ◌≡◌, ◌⊎◌, ◌≤◌, List, [], map, drop, Result, Ok, Err, String}
 use Rattle.std.proofs.Common.{Global}
 use Rattle.std.specs.String.{string_bytes}
 use Rattle.std.specs.Vec.Iter.{into_iter_items}
@@ -8,6 +8,7 @@ use Rattle.market_edge.specs.declared.shelf.Shelf as Shelf
 use Rattle.market_host.specs.declared.status.Status.{Status}
 use Rattle.market_host.specs.Answers.{IsAnswered, IsWordless}
 use Rattle.market_host.specs.Sights.{Writing, sight}
+use Rattle.market_host.specs.Taking.{Keeps}
 use Rattle.market_host.specs.Traces.{trace}
 
 -- the words behind the program's name, as the system hands them over; where it hands over none that
@@ -18,9 +19,10 @@ words_given (Err error) = []
 
 -- A process with these words behind its name answers this status, where its shelf was the first and
 -- is the second: as a call with these words does; or there is no memory for them, and the shelf
--- stays as it was.
+-- stays as it was. What the shelf holds stays, and no count of faults falls.
 abbrev pub EndsProcess : {H : Type 0} → List (List ℕ) → Shelf.Ghosts H → H → H → Writing → Status
     → Type 0
 EndsProcess words shelf old new writes status =
-    IsAnswered words (sight shelf old new) (trace shelf old new) writes status
-    ⊎ (IsWordless writes status × (new ≡ old))
+    Keeps shelf old new × (writes.faults_before ≤ writes.faults_after)
+    × (IsAnswered words (sight shelf old new) (trace shelf old new) writes status
+    ⊎ (IsWordless writes status × (new ≡ old)))

@@ -45,7 +45,11 @@ names_with_commas sections bundle =
 -- the two lines that tell a student's bundle and its utility
 abbrev pub quoted_text : List Section → List ℕ → List ℕ → ℤ → List ℕ
 quoted_text sections name bundle worth =
-    codes "bundle " ++ (name ++ (codes " [" ++ (names_with_commas sections bundle ++ (codes "]\nutility " ++ (signed_decimal worth ++ codes "\n")))))
+    codes "bundle "
+    ++ (name
+    ++ (codes " ["
+    ++ (names_with_commas sections bundle
+    ++ (codes "]\nutility " ++ (signed_decimal worth ++ codes "\n")))))
 
 -- a menu of the student, and the best bundle of that menu where nothing has a price and every
 -- section is allowed, are told

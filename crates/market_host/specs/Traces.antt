@@ -1,6 +1,6 @@
 -- How a call uses its inputs: which of them it begins, how far it reads them, and whether it counts
 -- a fault.
-use Rattle.std.specs.Prelude.{ℕ, ◌≡◌, ◌+◌, ◌≤◌, false, List, [], ◌++◌, length, map, Option, Result, MatchResult, ⊤}
+use Rattle.std.specs.Prelude.{ℕ, ◌≡◌, ◌+◌, ◌≤◌, false, List, [], ◌++◌, length, map, Option, ⊤}
 use Rattle.market_edge.specs.declared.shelf.Shelf as Shelf
 use Rattle.market_edge.specs.Openings.{Opening, Changes, read_out, with_read_out}
 use Rattle.market_words.specs.declared.words.Form.{Form}
@@ -68,11 +68,6 @@ AreReadUntil seen names first stop =
     × (ended : List (List ℕ)) × (begun : List (List ℕ)) × (later : List (List ℕ))
     × (names ≡ ended ++ (begun ++ later)) × IsLastBegun stop (first + length ended) (length begun)
     × Changes seen.earlier seen.openings (with_begun_too ended begun)
-
--- a call that reads these inputs, the first of which has this number, uses them so
-abbrev pub Uses : {A : Type 0} → Trace → List (List ℕ) → ℕ → Result A Trouble → Type 0
-Uses seen names first result =
-    MatchResult result (λ _. AreReadOut seen names) (AreReadUntil seen names first)
 
 -- all inputs of the words were read to their ends, or they were read until this stops the call
 abbrev pub AreAllRead : List (List ℕ) → Trace → Type 0

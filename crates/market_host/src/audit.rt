@@ -1,19 +1,17 @@
 // Whom the students of a published text envy.
-ghost use Rattle.std.specs.Prelude.{◌≤◌, List, ℕ, [], ◌∷◌, IfOk, length};
-ghost use Rattle.market_settings.specs.Settings.{AreInRange};
-ghost use Rattle.published_parts.specs.Markets.{market_of};
+ghost use Rattle.std.specs.Prelude.{List, ℕ, [], ◌∷◌, IfOk};
 ghost use Rattle.session_hall.specs.Streams.{command_lists};
-ghost use Rattle.market_host.specs.Endings.{bytes_of};
+ghost use Rattle.market_host.specs.{Endings.bytes_of, Said.market_said};
 ghost use Rattle.market_host.specs.Works.{AreNamesOf, EndsFor, IsAnswer, names_in};
-ghost use Rattle.market_words.specs.Forms.{AreWorkers};
 
 use crate::ended::{Ended, told_end};
 use crate::names::InputNames;
 use crate::published::{Published, take_published};
 use crate::trouble::Trouble;
+use crate::workers::Workers;
 use fairness_audit::published_audit;
 use market_edge::{Gate, Passed, Shelf};
-use market_units::{MAX_TEXT_BYTES, NoMemory};
+use market_units::NoMemory;
 use market_words::Form;
 use std::alloc::Global;
 use std::sync::Wait;
@@ -35,6 +33,7 @@ pub fn audit<R: Threads + Wait + Sync, H: Shelf>(
         (names_in names.entry.front.now names.entry.streams.now) shelf.old shelf.new result }
 {
     let published = take_published(alloc, names, shelf)?;
+    let workers = Workers { number: workers };
     let ended = audited(rt, alloc, workers, published, gate)?;
     Ok(ended)
 }
@@ -43,17 +42,13 @@ pub fn audit<R: Threads + Wait + Sync, H: Shelf>(
 fn audited<R: Threads + Wait + Sync>(
     rt: &R,
     alloc: Global,
-    workers: u16,
+    workers: Workers,
     published: Published,
     gate: &(dyn Gate + Sync),
 ) -> Result<Ended, NoMemory>
-    requires workers { AreWorkers workers }
-    requires in_range { AreInRange published.market.settings }
-    requires short { length published.text.items ≤ MAX_TEXT_BYTES }
     ensures { IfOk result
-        (λ ended. EndsFor (Form.Audit workers)
-        (market_of published.market.catalog published.market.roll published.market.settings)
-        (published.text.items ∷ []) (command_lists published.streams.items) ended.status
+        (λ ended. EndsFor (Form.Audit workers.number) (market_said published.market)
+        (published.text.items ∷ []) (command_lists published.streams.lists.items) ended.status
         (bytes_of ended.output)) }
 {
     let Published {
@@ -67,6 +62,14 @@ fn audited<R: Threads + Wait + Sync>(
         roll: &market.roll,
         settings: &market.settings,
     };
-    let told = published_audit(rt, alloc, workers, &lent, &streams, text, &passed);
+    let told = published_audit(
+        rt,
+        alloc,
+        workers.number,
+        &lent,
+        &streams.lists,
+        text,
+        &passed,
+    );
     told_end(&market.catalog, &market.roll, told)
 }

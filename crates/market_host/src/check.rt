@@ -1,9 +1,7 @@
 // Whether a published text is accepted.
-ghost use Rattle.std.specs.Prelude.{◌≤◌, List, ℕ, [], ◌∷◌, IfOk, length};
-ghost use Rattle.market_settings.specs.Settings.{AreInRange};
-ghost use Rattle.published_parts.specs.Markets.{market_of};
+ghost use Rattle.std.specs.Prelude.{List, ℕ, [], ◌∷◌, IfOk};
 ghost use Rattle.session_hall.specs.Streams.{command_lists};
-ghost use Rattle.market_host.specs.Endings.{bytes_of};
+ghost use Rattle.market_host.specs.{Endings.bytes_of, Said.market_said};
 ghost use Rattle.market_host.specs.Works.{AreNamesOf, EndsFor, IsAnswer, names_in};
 
 use crate::Status;
@@ -14,7 +12,7 @@ use crate::published::{Published, take_published};
 use crate::trouble::Trouble;
 use certificate_checker::{CheckEnd, check_owned, finding_line};
 use market_edge::Shelf;
-use market_units::{MAX_TEXT_BYTES, NoMemory};
+use market_units::NoMemory;
 use market_words::Form;
 use std::alloc::Global;
 
@@ -33,12 +31,9 @@ pub fn check<H: Shelf>(alloc: Global, names: InputNames, shelf: &mut H) -> Resul
 
 // How it ends for what the inputs say.
 fn checked(alloc: Global, published: Published) -> Result<Ended, NoMemory>
-    requires in_range { AreInRange published.market.settings }
-    requires short { length published.text.items ≤ MAX_TEXT_BYTES }
     ensures { IfOk result
-        (λ ended. EndsFor Form.Check
-        (market_of published.market.catalog published.market.roll published.market.settings)
-        (published.text.items ∷ []) (command_lists published.streams.items) ended.status
+        (λ ended. EndsFor Form.Check (market_said published.market)
+        (published.text.items ∷ []) (command_lists published.streams.lists.items) ended.status
         (bytes_of ended.output)) }
 {
     let Published {
@@ -51,7 +46,7 @@ fn checked(alloc: Global, published: Published) -> Result<Ended, NoMemory>
         roll: &market.roll,
         settings: &market.settings,
     };
-    match check_owned(alloc, &lent, &streams, text) {
+    match check_owned(alloc, &lent, &streams.lists, text) {
         Ok(()) => Ok(Ended {
             status: Status::Done,
             output: Output::Line(accepted()),

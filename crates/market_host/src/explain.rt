@@ -1,10 +1,9 @@
 // Why a student does not have a section.
-ghost use Rattle.std.specs.Prelude.{◌≡◌, ◌≤◌, List, ℕ, IfOk, length};
-ghost use Rattle.market_settings.specs.Settings.{AreInRange};
+ghost use Rattle.std.specs.Prelude.{◌≡◌, List, ℕ, IfOk};
 ghost use Rattle.market_units.specs.Name.{name_bytes};
-ghost use Rattle.published_parts.specs.Markets.{market_of};
 ghost use Rattle.session_hall.specs.Streams.{command_lists};
 ghost use Rattle.market_host.specs.{Endings.bytes_of, Explains.IsReasonEnd, Lines.unknown_line};
+ghost use Rattle.market_host.specs.Said.{market_said};
 ghost use Rattle.market_host.specs.Works.{AreNamesOf, IsAnswer, names_in};
 
 use crate::Status;
@@ -15,7 +14,7 @@ use crate::published::{Published, take_published};
 use crate::trouble::Trouble;
 use explain_desk::published_reason;
 use market_edge::Shelf;
-use market_units::{MAX_TEXT_BYTES, Name, NoMemory};
+use market_units::{Name, NoMemory};
 use market_words::Form;
 use std::alloc::Global;
 
@@ -51,10 +50,10 @@ fn reason_for(
     student: &Name,
     section: &Name,
 ) -> Result<Ended, NoMemory>
-    requires short { length published.text.items ≤ MAX_TEXT_BYTES }
-    requires in_range { AreInRange published.market.settings }
-    ensures { IfOk result (λ ended. IsReasonEnd (market_of published.market.catalog published.market.roll published.market.settings) (command_lists published.streams.items)
-        published.text.items (name_bytes student.now) (name_bytes section.now) ended.status (bytes_of ended.output)) }
+    ensures { IfOk result
+        (λ ended. IsReasonEnd (market_said published.market)
+        (command_lists published.streams.lists.items) published.text.items
+        (name_bytes student.now) (name_bytes section.now) ended.status (bytes_of ended.output)) }
 {
     let Published {
         market,
@@ -72,7 +71,7 @@ fn reason_for(
         roll: &market.roll,
         settings: &market.settings,
     };
-    let told = published_reason(alloc, &lent, &streams, text, enrolled, listed);
+    let told = published_reason(alloc, &lent, &streams.lists, text, enrolled, listed);
     told_end(&market.catalog, &market.roll, told)
 }
 

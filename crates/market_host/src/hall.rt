@@ -1,6 +1,6 @@
 // Drop and add after publication.
 ghost use Rattle.std.specs.Prelude.{◌≤◌, List, ℕ, IfOk, length};
-ghost use Rattle.dropadd_hall.specs.Streams.{request_count, request_lists};
+ghost use Rattle.dropadd_hall.specs.Streams.{request_lists};
 ghost use Rattle.market_host.specs.Endings.{bytes_of};
 ghost use Rattle.market_host.specs.Works.{AreNamesOf, HallEndsFor, IsAnswer, names_in};
 
@@ -8,12 +8,13 @@ use crate::ended::{Ended, told_end};
 use crate::names::InputNames;
 use crate::published::take_text;
 use crate::sessions::take_sessions;
+use crate::streams::Streams;
 use crate::tables::{Tables, take_tables};
 use crate::trouble::Trouble;
 use dropadd_desk::HallCommand;
 use dropadd_hall::published_hall;
 use market_edge::{Gate, Passed, Shelf};
-use market_units::{MAX_COMMANDS, MAX_SESSIONS, MAX_TEXT_BYTES, NoMemory};
+use market_units::{MAX_TEXT_BYTES, NoMemory};
 use market_words::Form;
 use std::alloc::Global;
 use std::sync::Wait;
@@ -49,15 +50,13 @@ fn opened<R: Threads + Wait + Sync>(
     alloc: Global,
     tables: &Tables,
     text: &[u8],
-    streams: &[Vec<HallCommand>],
+    streams: &Streams<HallCommand>,
     gate: &(dyn Gate + Sync),
 ) -> Result<Ended, NoMemory>
     requires short { length text.now ≤ MAX_TEXT_BYTES }
-    requires sessions { (1 ≤ length streams.now) × (length streams.now ≤ MAX_SESSIONS) }
-    requires requests { request_count streams.now ≤ MAX_COMMANDS }
     ensures { IfOk result
         (λ ended. HallEndsFor tables.now.catalog tables.now.roll text.now
-        (request_lists streams.now) ended.status (bytes_of ended.output)) }
+        (request_lists streams.now.lists.items) ended.status (bytes_of ended.output)) }
 {
     let passed = Passed { gate };
     let told = published_hall(
@@ -66,7 +65,7 @@ fn opened<R: Threads + Wait + Sync>(
         &tables.catalog,
         &tables.roll,
         text,
-        streams,
+        &streams.lists,
         &passed,
     );
     told_end(&tables.catalog, &tables.roll, told)

@@ -14,7 +14,7 @@ use crate::ended::Ended;
 use crate::explain::explain;
 use crate::hall::hall;
 use crate::line::{line_for, usage};
-use crate::make::{Numbers, make};
+use crate::make::{MakeNumbers, make};
 use crate::names::names_of;
 use crate::prefer::prefer;
 use crate::quote::quote;
@@ -60,8 +60,7 @@ pub fn course_match<R: Threads + Wait + Sync, H: Shelf, K: Sink>(
 /// What is answered where there is no memory for the words themselves: that memory is wanted,
 /// unless the sink fails.
 pub fn no_memory_for_words<K: Sink>(sink: &mut K) -> Status
-    ensures answered { IsWordless (writing K.Sink sink.old sink.new) result }
-    ensures sink_later { (K.shows sink.old).faults ≤ (K.shows sink.new).faults }
+    ensures { IsWordless (writing K.Sink sink.old sink.new) result }
 {
     finish(
         sink,
@@ -124,7 +123,7 @@ fn answer<R: Threads + Wait + Sync, H: Shelf>(
             sections,
             accept,
         } => {
-            let numbers = Numbers {
+            let numbers = MakeNumbers {
                 seed,
                 students,
                 sections,

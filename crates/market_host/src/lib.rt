@@ -32,10 +32,12 @@ mod sessions;
 mod settings;
 mod status;
 mod stream_item;
+mod streams;
 mod sure;
 mod tables;
 mod text;
 mod trouble;
+mod workers;
 
 pub use cause::Cause;
 pub use certificate_checker::Finding;

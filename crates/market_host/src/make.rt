@@ -15,9 +15,9 @@ use std::alloc::Global;
 use std::sync::Wait;
 use std::thread::Threads;
 
-/// The numbers that a made market is made of: those of the words of `make`, in their ranges.
+/// The numbers that the words of `make` say, in their ranges: a market is made of them.
 #[derive(Clone, Copy)]
-pub struct Numbers {
+pub struct MakeNumbers {
     pub seed: u64,
     pub students: u16,
     pub sections: u16,
@@ -30,7 +30,7 @@ pub fn make<R: Threads + Wait + Sync>(
     rt: &R,
     alloc: Global,
     workers: u16,
-    numbers: Numbers,
+    numbers: MakeNumbers,
     gate: &(dyn Gate + Sync),
 ) -> Result<Ended, NoMemory>
     requires { (words : List (List ℕ))

@@ -1,23 +1,20 @@
 // The journal of the sessions, and the preferences that it closes with.
-ghost use Rattle.std.specs.Prelude.{◌≡◌, ◌≤◌, List, ℕ, length, IfOk};
-ghost use Rattle.market_host.specs.Sessions.{AreStreams};
+ghost use Rattle.std.specs.Prelude.{List, ℕ, IfOk};
+ghost use Rattle.market_host.specs.{Preferences.TellsPreferences, Sessions.AreStreams};
 ghost use Rattle.market_host.specs.Works.{AreNamesOf, IsAnswer, names_in};
-ghost use Rattle.preference_desk.specs.Journals.{IsLegalJournal, MergesStreams};
-ghost use Rattle.preference_desk.specs.MarketNames.{market_names};
-ghost use Rattle.preference_text.specs.Texts as texts;
-ghost use Rattle.session_hall.specs.Streams.{command_count, command_lists};
+ghost use Rattle.session_hall.specs.Streams.{command_lists};
 
 use crate::Status;
 use crate::ended::{Ended, Output};
 use crate::names::InputNames;
 use crate::sessions::take_sessions;
+use crate::streams::Streams;
 use crate::tables::take_tables;
 use crate::trouble::Trouble;
 use course_catalog::Catalog;
 use market_edge::{Gate, Passed, Shelf};
-use market_units::{MAX_COMMANDS, MAX_SESSIONS, NoMemory};
+use market_units::NoMemory;
 use market_words::Form;
-use preference_desk::Entry;
 use preference_text::preferences_text;
 use session_hall::hold;
 use std::alloc::Global;
@@ -57,16 +54,16 @@ fn text_of<R: Threads + Wait + Sync>(
     alloc: Global,
     catalog: &Catalog,
     roll: &Roll,
-    streams: &[Vec<Command>],
+    streams: &Streams<Command>,
     gate: &(dyn Gate + Sync),
 ) -> Result<Vec<u8>, NoMemory>
-    requires sessions { (1 ≤ length streams.now) × (length streams.now ≤ MAX_SESSIONS) }
-    requires commands { command_count streams.now ≤ MAX_COMMANDS }
-    requires told { (sessions : List (List ℕ)) × AreStreams sessions (command_lists streams.now) }
-    ensures { IfOk result (λ text. (journal : List Entry) × IsLegalJournal (market_names catalog.now.sections roll.now.students) journal
-        × MergesStreams (command_lists streams.now) journal × (text.items ≡ texts.preferences_text catalog.now.sections roll.now.students journal)) }
+    requires { (sessions : List (List ℕ))
+        × AreStreams sessions (command_lists streams.now.lists.items) }
+    ensures { IfOk result
+        (λ text. TellsPreferences catalog.now roll.now (command_lists streams.now.lists.items)
+        text.items) }
 {
     let passed = Passed { gate };
-    let closed = hold(rt, alloc, catalog, roll, streams, &passed)?;
+    let closed = hold(rt, alloc, catalog, roll, &streams.lists, &passed)?;
     preferences_text(alloc, catalog, roll, &closed.desk)
 }

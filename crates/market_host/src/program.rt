@@ -1,5 +1,5 @@
 // The whole process, over whatever shelf, sink and gate it is given.
-ghost use Rattle.std.specs.Prelude.{◌≡◌, ◌≤◌, List, ℕ, drop, IfOk};
+ghost use Rattle.std.specs.Prelude.{◌≡◌, drop, IfOk};
 ghost use Rattle.std.specs.Process.{exit_status};
 ghost use Rattle.std.specs.Vec.Iter.{into_iter_items};
 ghost use Rattle.market_host.specs.{Programs.EndsProcess, Programs.words_given, Sights.writing};
@@ -29,15 +29,9 @@ pub fn exit_code<R: Threads + Wait + Sync, H: Shelf, K: Sink>(
 ) -> ExitCode
     // The process ends with the number of a status, which a call with the words behind its name
     // answers; or there is no memory for these words, and the shelf stays as it was.
-    ensures written { (status : Status) × (exit_status result ≡ number_of status)
+    ensures { (status : Status) × (exit_status result ≡ number_of status)
         × EndsProcess (words_given args) H.Shelf shelf.old shelf.new
         (writing K.Sink sink.old sink.new) status }
-
-    // What the shelf holds stays, and no count of faults falls.
-    ensures holds { (H.shows shelf.new).holds ≡ (H.shows shelf.old).holds }
-    ensures later { (other : List ℕ)
-        → (H.shows shelf.old).faults other ≤ (H.shows shelf.new).faults other }
-    ensures sink_later { (K.shows sink.old).faults ≤ (K.shows sink.new).faults }
 {
     let status = answered(rt, alloc, args, shelf, sink, gate);
     ExitCode::from(status.number())
@@ -52,12 +46,8 @@ fn answered<R: Threads + Wait + Sync, H: Shelf, K: Sink>(
     sink: &mut K,
     gate: &(dyn Gate + Sync),
 ) -> Status
-    ensures ends { EndsProcess (words_given args) H.Shelf shelf.old shelf.new
+    ensures { EndsProcess (words_given args) H.Shelf shelf.old shelf.new
         (writing K.Sink sink.old sink.new) result }
-    ensures holds { (H.shows shelf.new).holds ≡ (H.shows shelf.old).holds }
-    ensures later { (other : List ℕ)
-        → (H.shows shelf.old).faults other ≤ (H.shows shelf.new).faults other }
-    ensures sink_later { (K.shows sink.old).faults ≤ (K.shows sink.new).faults }
 {
     match args {
         Ok(args) => match words_behind_name(alloc, args) {

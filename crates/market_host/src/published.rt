@@ -1,16 +1,16 @@
 // A published text, with the market and the sessions for which it is looked at.
-ghost use Rattle.std.specs.Prelude.{◌≡◌, ◌≤◌, List, ℕ, IfOk, length, [], ◌∷◌, ⊤};
-ghost use Rattle.market_settings.specs.Settings.{AreInRange};
-ghost use Rattle.published_parts.specs.Markets.{market_of};
+ghost use Rattle.std.specs.Prelude.{◌≡◌, ◌≤◌, List, ℕ, length, [], ◌∷◌, ⊤};
+ghost use Rattle.market_units.specs.declared.limits.TheConstants.{MAX_TEXT_BYTES};
 ghost use Rattle.session_hall.specs.Streams.{command_lists};
 ghost use Rattle.market_host.specs.Kinds as kind;
-ghost use Rattle.market_host.specs.{Kinds.OpensPublished, Markets.AreInputs};
+ghost use Rattle.market_host.specs.{Kinds.OpensPublished, Markets.AreInputs, Said.market_said};
 ghost use Rattle.market_host.specs.{Taking.Takes, Taking.TakesAll, Works.names_in};
 
 use crate::inputs::read_input;
 use crate::market::{Market, take_market};
 use crate::names::InputNames;
 use crate::sessions::take_sessions;
+use crate::streams::Streams;
 use crate::trouble::Trouble;
 use market_edge::Shelf;
 use market_units::{MAX_SESSIONS, MAX_TEXT_BYTES};
@@ -19,12 +19,13 @@ use std::alloc::Global;
 use utility_language::Command;
 
 /// What the inputs of a call say that looks at a published text: the market, the text's bytes as
-/// they stand, and the commands of each session.
+/// they stand, which are within their limit, and the commands of each session.
 #[derive(Drop)]
 pub struct Published {
     pub market: Market,
     pub text: Vec<u8>,
-    pub streams: Vec<Vec<Command>>,
+    pub streams: Streams<Command>,
+    pub ghost short: { length text.items ≤ MAX_TEXT_BYTES },
 }
 
 /// The market, the text and the sessions that the inputs of these names are, which are all inputs,
@@ -37,13 +38,11 @@ pub fn take_published<H: Shelf>(
     requires front { length names.front.now ≡ 4 }
     requires some { 1 ≤ length names.streams.now }
     requires few { length names.streams.now ≤ MAX_SESSIONS }
-    ensures taken { (form : Form) → OpensPublished form
+    ensures { (form : Form) → OpensPublished form
         → TakesAll H.Shelf form (names_in names.entry.front.now names.entry.streams.now)
-        (λ texts published. AreInputs texts (market_of published.market.catalog published.market.roll published.market.settings)
-        (published.text.items ∷ []) (command_lists published.streams.items)) shelf.old shelf.new
-        result }
-    ensures in_range { IfOk result (λ published. AreInRange published.market.settings) }
-    ensures short { IfOk result (λ published. length published.text.items ≤ MAX_TEXT_BYTES) }
+        (λ texts published. AreInputs texts (market_said published.market)
+        (published.text.items ∷ []) (command_lists published.streams.lists.items)) shelf.old
+        shelf.new result }
 {
     let [catalog, roll, settings, text] = names.front else {
         unreachable!();
@@ -72,8 +71,8 @@ pub fn take_text<H: Shelf>(
     name: &str,
     input: u16,
 ) -> Result<Vec<u8>, Trouble>
-    ensures { Takes H.Shelf kind.Published name.now input (λ _. ⊤) (λ bytes text. bytes ≡ text.items)
-        shelf.old shelf.new result }
+    ensures { Takes H.Shelf kind.Published name.now input (λ _. ⊤)
+        (λ bytes text. bytes ≡ text.items) shelf.old shelf.new result }
 {
     read_input(alloc, shelf, name, input, MAX_TEXT_BYTES)
 }

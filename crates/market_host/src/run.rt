@@ -1,11 +1,8 @@
 // What a market publishes.
-ghost use Rattle.std.specs.Prelude.{◌≡◌, ◌≤◌, ◌++◌, List, ℕ, [], length, IfOk};
-ghost use Rattle.market_host.specs.{Endings.bytes_of, Lines.no_prices_line};
+ghost use Rattle.std.specs.Prelude.{◌≡◌, ◌++◌, List, ℕ, [], IfOk};
+ghost use Rattle.market_host.specs.{Endings.bytes_of, Lines.no_prices_line, Said.market_said};
 ghost use Rattle.market_host.specs.Works.{AreNamesOf, EndsFor, IsAnswer, names_in};
-ghost use Rattle.market_settings.specs.Settings.{AreInRange};
-ghost use Rattle.market_words.specs.Forms.{AreWorkers};
-ghost use Rattle.published_parts.specs.Markets.{market_of};
-ghost use Rattle.session_hall.specs.Streams.{command_count, command_lists};
+ghost use Rattle.session_hall.specs.Streams.{command_lists};
 
 use crate::Status;
 use crate::ended::{Ended, Output};
@@ -13,10 +10,12 @@ use crate::line::no_prices;
 use crate::market::{Market, take_market};
 use crate::names::InputNames;
 use crate::sessions::take_sessions;
+use crate::streams::Streams;
 use crate::trouble::Trouble;
+use crate::workers::Workers;
 use market_edge::{Gate, Shelf};
 use market_run::{HeldEnd, held_text};
-use market_units::{MAX_COMMANDS, MAX_SESSIONS, NoMemory};
+use market_units::NoMemory;
 use market_words::Form;
 use std::alloc::Global;
 use std::sync::Wait;
@@ -49,6 +48,7 @@ pub fn run<R: Threads + Wait + Sync, H: Shelf>(
         settings.as_str(),
     )?;
     let streams = take_sessions(alloc, shelf, names.streams, 4)?;
+    let workers = Workers { number: workers };
     let ended = held(rt, alloc, workers, &market, &streams, gate)?;
     Ok(ended)
 }
@@ -57,26 +57,21 @@ pub fn run<R: Threads + Wait + Sync, H: Shelf>(
 fn held<R: Threads + Wait + Sync>(
     rt: &R,
     alloc: Global,
-    workers: u16,
+    workers: Workers,
     market: &Market,
-    streams: &[Vec<Command>],
+    streams: &Streams<Command>,
     gate: &(dyn Gate + Sync),
 ) -> Result<Ended, NoMemory>
-    requires workers { AreWorkers workers }
-    requires in_range { AreInRange market.now.settings }
-    requires sessions { (1 ≤ length streams.now) × (length streams.now ≤ MAX_SESSIONS) }
-    requires commands { command_count streams.now ≤ MAX_COMMANDS }
     ensures { IfOk result
-        (λ ended. EndsFor (Form.Run workers)
-        (market_of market.now.catalog market.now.roll market.now.settings) []
-        (command_lists streams.now) ended.status (bytes_of ended.output)) }
+        (λ ended. EndsFor (Form.Run workers.number) (market_said market.now) []
+        (command_lists streams.now.lists.items) ended.status (bytes_of ended.output)) }
 {
     let lent = published_parts::Market {
         catalog: &market.catalog,
         roll: &market.roll,
         settings: &market.settings,
     };
-    match held_text(rt, alloc, workers, &lent, streams, gate) {
+    match held_text(rt, alloc, workers.number, &lent, &streams.lists, gate) {
         Ok(text) => Ok(Ended {
             status: Status::Done,
             output: Output::Text(text),

@@ -1,11 +1,10 @@
 // One session of a call.
-ghost use Rattle.std.specs.Prelude.{◌≡◌, ◌≤◌, List, ℕ, length, IfOk, IfErr, OnOk, [], ◌∷◌};
+ghost use Rattle.std.specs.Prelude.{◌≤◌, IfOk, IfErr};
 ghost use Rattle.std.specs.List.{AllZip};
 ghost use Rattle.utility_language.specs.Commands.{command_lines};
-ghost use Rattle.market_host.specs.Kinds.{Session};
-ghost use Rattle.market_host.specs.Reading.{IsRead, IsSurplus, IsTroubleOfSession};
-ghost use Rattle.market_host.specs.{Sessions.command_count, Sessions.session_text, Sights.sight};
-ghost use Rattle.market_host.specs.{Traces.Uses, Traces.trace, Troubles.IsAtEnd};
+ghost use Rattle.market_host.specs.Reading.{IsSurplus};
+ghost use Rattle.market_host.specs.Sessions.{command_count, session_text};
+ghost use Rattle.market_host.specs.Taking.{TakesSession};
 
 use crate::inputs::{read_input, without_mark};
 use crate::stream_item::StreamItem;
@@ -24,17 +23,7 @@ pub fn take_session<H: Shelf, S: StreamItem>(
     input: u16,
     room: u32,
 ) -> Result<Vec<S>, Trouble>
-    ensures read { IfOk result
-        (λ items. IsRead Session (H.shows shelf.old).holds name.now
-        (λ text. AllZip S.is_item_of (command_lines (session_text text)) items.items
-        × (command_count text ≤ room))) }
-    ensures trouble { IfErr result
-        (IsTroubleOfSession (sight H.Shelf shelf.old shelf.new) room name.now input) }
-    ensures end { OnOk result (IsAtEnd (sight H.Shelf shelf.old shelf.new) name.now) }
-    ensures holds { (H.shows shelf.new).holds ≡ (H.shows shelf.old).holds }
-    ensures later { (other : List ℕ)
-        → (H.shows shelf.old).faults other ≤ (H.shows shelf.new).faults other }
-    ensures used { Uses (trace H.Shelf shelf.old shelf.new) (name.now ∷ []) input result }
+    ensures { TakesSession H.Shelf S.is_item_of name.now input room shelf.old shelf.new result }
 {
     let bytes = read_input(alloc, shelf, name, input, MAX_INPUT_BYTES)?;
     items_in(alloc, &bytes, input, room)

@@ -13,21 +13,21 @@ take_published-requires-clause-some g c = c.requires.named.1.some
 pub take_published-requires-clause-few : goal.take_published-requires-clause-few
 take_published-requires-clause-few g c = c.requires.named.1.few
 
-pub audited-requires-clause-workers : goal.audited-requires-clause-workers
-audited-requires-clause-workers g c κs within = c.requires.named.1.has.6
-
 pub returns-in_err-published : goal.returns-in_err-published
 returns-in_err-published g c =
     let p = err_from_is_err_and c.from_residual.result c.from_residual.ensures.1 in
-    rw (p.1, p.2) (c.in_err-published.ensures.taken (Audit c.args.workers) (refl, refl))
+    rw (p.1, p.2) (c.in_err-published.ensures (Audit c.args.workers) (refl, refl))
 
 pub returns-in_err-ended : goal.returns-in_err-ended
 returns-in_err-ended g c =
     let p = err_from_is_err_and c.from_residual-in_err-ended.result c.from_residual-in_err-ended.ensures.1 in
-    let said = c.in_ok-published.ensures.taken (Audit c.args.workers) (refl, refl) in
+    let said = c.in_ok-published.ensures (Audit c.args.workers) (refl, refl) in
     rw (p.1, p.2) (memory_stops g.H.Shelf (Audit c.args.workers) _ said.0 c.args.shelf.now c.take_published.new.shelf said.1)
 
 pub returns : goal.returns
 returns g c =
-    let said = c.in_ok-published.ensures.taken (Audit c.args.workers) (refl, refl) in
+    let said = c.in_ok-published.ensures (Audit c.args.workers) (refl, refl) in
     (said.0, said.1, c.in_ok-ended.ensures said.0 said.2)
+
+pub invariant_of-workers : goal.invariant_of-workers
+invariant_of-workers g c = record { within = c.requires.named.1.has.6 }

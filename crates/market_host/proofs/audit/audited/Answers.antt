@@ -17,14 +17,14 @@ pub returns : goal.returns
 returns g c =
     let said = c.args.published.market in
     let market = market_of said.catalog said.roll said.settings in
-    let streams = command_lists c.args.published.streams.items in
+    let streams = command_lists c.args.published.streams.lists.items in
     let text = c.args.published.text.items in
     let told = c.published_audit-told.result in
     let is = c.published_audit-told.ensures in
     IfOk-weaker c.told_end.result _ _
-    (λ ended. told_ends (tables_in market) told ended (EndsFor (Audit c.args.workers) market (text ∷ []) streams)
+    (λ ended. told_ends (tables_in market) told ended (EndsFor (Audit c.args.workers.number) market (text ∷ []) streams)
     (IsRefused market streams text) (IsRefused market streams text)
-    (IfOk-weaker told _ _ (λ audited. audit_done market streams text c.args.workers audited.items) (rw c.deref.ensures.value at is.audited))
+    (IfOk-weaker told _ _ (λ audited. audit_done market streams text c.args.workers.number audited.items) (rw c.deref.ensures.value at is.audited))
     (rw c.deref.ensures.value at is.refused) (rw c.deref.ensures.value at is.refused)
-    (λ finding refused too. audit_found market streams text c.args.workers finding _ refused.refused refused.first refl))
+    (λ finding refused too. audit_found market streams text c.args.workers.number finding _ refused.refused refused.first refl))
     c.told_end.ensures

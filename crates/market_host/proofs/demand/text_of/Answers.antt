@@ -47,5 +47,5 @@ returns g c =
     (map entry_of_step c.in_ok-closed.closed.journal) crowd c.all_seats-seats.result.now c.args.prices.now c.in_ok-taken.taken text.items
     c.in_ok-closed.ensures.names c.closed.ensures.after c.in_ok-closed.ensures.entries c.journal.ensures.entries
     c.in_ok-crowd.ensures c.all_seats-seats.ensures c.in_ok-taken.ensures.value is in
-    (map entry_of_step c.in_ok-closed.closed.journal, c.in_ok-closed.ensures.legal, c.in_ok-closed.ensures.merges, crowd, told.0, told.1)))
+    (map entry_of_step c.in_ok-closed.closed.journal, c.in_ok-closed.ensures.legal, (rw c.deref.ensures.value at c.in_ok-closed.ensures.merges), crowd, told.0, told.1)))
     c.demand_text.ensures

@@ -20,20 +20,20 @@ take_published-requires-clause-few g c = c.requires.named.1.few
 pub returns-in_err-published : goal.returns-in_err-published
 returns-in_err-published g c =
     let p = err_from_is_err_and c.from_residual.result c.from_residual.ensures.1 in
-    rw (p.1, p.2) (c.in_err-published.ensures.taken (Explain c.args.student c.args.section) (refl, refl))
+    rw (p.1, p.2) (c.in_err-published.ensures (Explain c.args.student c.args.section) (refl, refl))
 
 pub returns-in_err-ended : goal.returns-in_err-ended
 returns-in_err-ended g c =
     let p = err_from_is_err_and c.from_residual-in_err-ended.result c.from_residual-in_err-ended.ensures.1 in
-    let said = c.in_ok-published.ensures.taken (Explain c.args.student c.args.section) (refl, refl) in
+    let said = c.in_ok-published.ensures (Explain c.args.student c.args.section) (refl, refl) in
     rw (p.1, p.2) (memory_stops g.H.Shelf (Explain c.args.student c.args.section) _ said.0 c.args.shelf.now c.take_published.new.shelf said.1)
 
 pub returns : goal.returns
 returns g c =
     let published = c.in_ok-published.published in
-    let said = c.in_ok-published.ensures.taken (Explain c.args.student c.args.section) (refl, refl) in (
+    let said = c.in_ok-published.ensures (Explain c.args.student c.args.section) (refl, refl) in (
       said.0,
       said.1,
-      (explain_ended (market_of published.market.catalog published.market.roll published.market.settings) (command_lists published.streams.items)
+      (explain_ended (market_of published.market.catalog published.market.roll published.market.settings) (command_lists published.streams.lists.items)
           published.text.items c.args.student c.args.section c.in_ok-ended.ended.status (bytes_of c.in_ok-ended.ended.output) c.in_ok-ended.ensures said.0 said.2),
     )

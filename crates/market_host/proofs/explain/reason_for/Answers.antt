@@ -16,7 +16,7 @@ use Rattle.market_host.proofs.explain.reason_for.Goals as goal
 pub returns-in_default : goal.returns-in_default
 returns-in_default c =
     let market = c.args.published.market in
-    unknown_end (market_of market.catalog market.roll market.settings) (command_lists c.args.published.streams.items) c.args.published.text.items
+    unknown_end (market_of market.catalog market.roll market.settings) (command_lists c.args.published.streams.lists.items) c.args.published.text.items
     (name_bytes c.args.student.now) (name_bytes c.args.section.now) 6
     c.unknown.result.status (bytes_of c.unknown.result.output) c.unknown.ensures.status c.unknown.ensures.line
     (inl (refl, not_among (λ s. s.0) c.find.result (name_bytes c.args.student.now) (names_of market.roll.students) c.find.ensures.place c.in_default.is))
@@ -26,7 +26,7 @@ returns-in_default-find c =
     let market = c.args.published.market in
     let enrolled =
     found_at (λ s. s.0) c.find.result c.in-Some.enrolled (name_bytes c.args.student.now) (names_of market.roll.students) c.find.ensures.place c.in-Some.is in
-    unknown_end (market_of market.catalog market.roll market.settings) (command_lists c.args.published.streams.items) c.args.published.text.items
+    unknown_end (market_of market.catalog market.roll market.settings) (command_lists c.args.published.streams.lists.items) c.args.published.text.items
     (name_bytes c.args.student.now) (name_bytes c.args.section.now) 7
     c.unknown-in_default-find.result.status (bytes_of c.unknown-in_default-find.result.output) c.unknown-in_default-find.ensures.status
     c.unknown-in_default-find.ensures.line
@@ -44,7 +44,7 @@ pub returns : goal.returns
 returns c =
     let said = c.args.published.market in
     let market = market_of said.catalog said.roll said.settings in
-    let streams = command_lists c.args.published.streams.items in
+    let streams = command_lists c.args.published.streams.lists.items in
     let text = c.args.published.text.items in
     let student = name_bytes c.args.student.now in
     let section = name_bytes c.args.section.now in

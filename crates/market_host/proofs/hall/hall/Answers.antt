@@ -1,18 +1,12 @@
-use Rattle.std.proofs.Common.{◌≡◌, ◌≤◌, [], ◌∷◌, ◌++◌, arith, length, map, refl, subst}
+use Rattle.std.proofs.Common.{◌≤◌, [], ◌∷◌, ◌++◌, arith, length, map, refl, subst}
 use Rattle.std.specs.String.{string_bytes}
 use Rattle.std.proofs.lemmas.List.{length-map}
 use Rattle.std.proofs.lemmas.Result.{err_from_is_err_and}
-use Rattle.dropadd_hall.specs.Requests.{IsRequestOf}
-use Rattle.dropadd_hall.specs.Streams.{request_count}
-use Rattle.market_units.specs.Totals.{total}
 use Rattle.market_words.specs.declared.words.Form.TheVariants.{Hall}
 use Rattle.market_host.specs.Endings.{bytes_of}
 use Rattle.market_host.specs.Kinds.{Published}
-use Rattle.market_host.specs.Sessions.{command_count}
 use Rattle.market_host.specs.Works.{Ends}
 use Rattle.market_host.proofs.HallFacts.{hall_ended, third_stops, third_taken}
-use Rattle.market_host.proofs.SessionsRead.{streams_of_names}
-use Rattle.market_host.proofs.StreamFacts.{count_of_sessions}
 use Rattle.market_host.proofs.Taking.{memory_stops, rest_stops, rest_taken}
 use Rattle.market_host.proofs.WordFacts.{three_names}
 use Rattle.market_host.proofs.Works.{stops_named, taken_named}
@@ -61,28 +55,12 @@ returns-in_err-streams g c =
     c.in_err-streams.field-0.0 named
     (rest_stops g.H.Shelf Hall c.args.shelf.now c.take_text.new.shelf c.take_sessions.new.shelf front (tables.0 ++ one.text ∷ []) third names 4
     c.in_err-streams.field-0.0 refl refl refl c.in_err-streams.ensures.trouble c.in_err-streams.ensures.used
-    (record { holds = c.in_err-streams.ensures.holds; later = c.in_err-streams.ensures.later })))
+    c.in_err-streams.ensures.kept))
 
 pub opened-requires-clause-short : goal.opened-requires-clause-short
 opened-requires-clause-short g c κs within =
     let one = c.in_ok-text.ensures in
     rw c.deref.ensures.value (subst (λ bytes. length bytes ≤ 67108864) one.says one.within)
-
-pub opened-requires-clause-sessions : goal.opened-requires-clause-sessions
-opened-requires-clause-sessions g c κs within =
-    let read = c.in_ok-streams.ensures.read in
-    let count =
-    streams_of_names IsRequestOf (g.H.Shelf.shows c.take_text.new.shelf).holds (map string_bytes c.args.names.streams.now) read.0 c.in_ok-streams.streams.items
-    read.1 read.2 in
-    let long = length-map c.args.names.streams.now string_bytes in
-    rw c.deref-2.ensures.value (omega (arith, count, long, c.requires.named.1.some), omega (arith, count, long, c.requires.named.1.few))
-
-pub opened-requires-clause-requests : goal.opened-requires-clause-requests
-opened-requires-clause-requests g c κs within =
-    let read = c.in_ok-streams.ensures.read in
-    let count : total command_count read.0 ≡ request_count c.in_ok-streams.streams.items =
-    count_of_sessions IsRequestOf read.0 c.in_ok-streams.streams.items read.2.items in
-    rw c.deref-2.ensures.value (omega (arith, count, read.2.count))
 
 pub returns-in_err-ended : goal.returns-in_err-ended
 returns-in_err-ended g c =
@@ -101,8 +79,8 @@ returns-in_err-ended g c =
     let read = c.in_ok-streams.ensures.read in
     let taken =
     rest_taken g.H.Shelf Hall c.args.shelf.now c.take_text.new.shelf c.take_sessions.new.shelf front (tables.0 ++ one.text ∷ []) third names read.0 refl refl
-    read.2.each (omega (arith, read.2.count)) (omega (arith, length-map c.args.names.streams.now string_bytes, c.requires.named.1.some)) c.in_ok-streams.ensures.end
-    c.in_ok-streams.ensures.used (record { holds = c.in_ok-streams.ensures.holds; later = c.in_ok-streams.ensures.later }) in
+    read.2.each (omega (arith, read.2.count)) (omega (arith, length-map c.args.names.streams.now string_bytes, c.requires.named.1.some)) c.in_ok-streams.ensures.ended
+    c.in_ok-streams.ensures.used c.in_ok-streams.ensures.kept in
     rw (p.1, p.2) (stops_named g.H.Shelf Hall c.args.shelf.now c.take_sessions.new.shelf (map string_bytes c.args.names.front.now) front names _ named
     (memory_stops g.H.Shelf Hall (front ++ names) ((tables.0 ++ one.text ∷ []) ++ read.0) c.args.shelf.now c.take_sessions.new.shelf taken))
 
@@ -122,14 +100,14 @@ returns g c =
     let read = c.in_ok-streams.ensures.read in
     let taken =
     rest_taken g.H.Shelf Hall c.args.shelf.now c.take_text.new.shelf c.take_sessions.new.shelf front (tables.0 ++ one.text ∷ []) third names read.0 refl refl
-    read.2.each (omega (arith, read.2.count)) (omega (arith, length-map c.args.names.streams.now string_bytes, c.requires.named.1.some)) c.in_ok-streams.ensures.end
-    c.in_ok-streams.ensures.used (record { holds = c.in_ok-streams.ensures.holds; later = c.in_ok-streams.ensures.later }) in
+    read.2.each (omega (arith, read.2.count)) (omega (arith, length-map c.args.names.streams.now string_bytes, c.requires.named.1.some)) c.in_ok-streams.ensures.ended
+    c.in_ok-streams.ensures.used c.in_ok-streams.ensures.kept in
     let ended = c.in_ok-ended.ended in
     taken_named g.H.Shelf Hall c.args.shelf.now c.take_sessions.new.shelf (map string_bytes c.args.names.front.now) front names
     (λ texts. Ends Hall texts ended.status (bytes_of ended.output)) named (
       (tables.0 ++ one.text ∷ []) ++ read.0,
       taken,
       hall_ended (g.H.Shelf.shows c.take_text.new.shelf).holds c.in_ok-tables.tables.catalog c.in_ok-tables.tables.roll
-          c.in_ok-text.text.items one.text tables.0 names read.0 read.1 c.in_ok-streams.streams.items ended.status (bytes_of ended.output) tables.2 one.says read.2
-          (rw (c.deref.ensures.value, c.deref-2.ensures.value) at c.in_ok-ended.ensures),
+          c.in_ok-text.text.items one.text tables.0 names read.0 read.1 c.in_ok-streams.streams.lists.items ended.status (bytes_of ended.output) tables.2 one.says read.2
+          (rw c.deref.ensures.value at c.in_ok-ended.ensures),
     )

@@ -18,12 +18,12 @@ returns g c =
     let enrolled = c.args.tables.now.roll in
     let market : Market = record { catalog = offered; roll = enrolled } in
     let text = c.args.text.now in
-    let streams = request_lists c.args.streams.now in
+    let streams = request_lists c.args.streams.now.lists.items in
     let told = c.published_hall-told.result in
     let is = c.published_hall-told.ensures in
     IfOk-weaker c.told_end.result _ _
     (λ ended. told_ends (tables_in market) told ended (HallEndsFor offered enrolled text streams) (λ _. ¬ CanOpen market text) (IsOpeningFinding market text)
-    (IfOk-weaker told _ _ (λ made. hall_done offered enrolled text streams made.items) is.told)
+    (IfOk-weaker told _ _ (λ made. hall_done offered enrolled text streams made.items) (rw c.deref.ensures.value at is.told))
     (err_found told (λ finding no. no.refused) is.refused) (err_found told (λ finding no. no.first) is.refused)
     (λ finding refused first. hall_found offered enrolled text streams finding _ refused first refl))
     c.told_end.ensures

@@ -7,13 +7,11 @@ pub returns-in_err-bytes-clause-taken : goal.returns-in_err-bytes-clause-taken
 returns-in_err-bytes-clause-taken g c =
     let p = err_from_is_err_and c.from_residual.result c.from_residual.ensures.1 in
     rw (p.1, p.2) (unread_stops g.H.Shelf c.args.shelf.now c.read_input.new.shelf g.I.Input.kind c.args.name.now c.args.input (λ _. ⊤)
-    (record { holds = c.in_err-bytes.ensures.holds; later = c.in_err-bytes.ensures.later }) c.in_err-bytes.field-0.0
-    (rw g.met.I.Input.within c.in_err-bytes.ensures.unread) c.in_err-bytes.ensures.used)
+    c.in_err-bytes.field-0.0 (rw g.met.I.Input.within c.in_err-bytes.ensures))
 
 pub returns-clause-taken : goal.returns-clause-taken
 returns-clause-taken g c =
     let bytes = c.in_ok-bytes.bytes.items in
-    read_takes g.H.Shelf c.args.shelf.now c.read_input.new.shelf g.I.Input.kind c.args.name.now c.args.input (λ _. ⊤)
-    (record { holds = c.in_ok-bytes.ensures.holds; later = c.in_ok-bytes.ensures.later }) g.I.Input.is_said_by (g.I.Input.is_faulty bytes) bytes c.read_from.result
-    c.in_ok-bytes.ensures.whole (rw g.met.I.Input.within c.in_ok-bytes.ensures.within) c.in_ok-bytes.ensures.end c.in_ok-bytes.ensures.used
-    (λ texts _. g.met.I.Input.faults texts bytes) (rw c.deref.ensures.value at c.read_from.ensures.said) (rw c.deref.ensures.value at c.read_from.ensures.refused)
+    read_takes g.H.Shelf c.args.shelf.now c.read_input.new.shelf g.I.Input.kind c.args.name.now c.args.input (λ _. ⊤) g.I.Input.is_said_by
+    (g.I.Input.is_faulty bytes) bytes c.read_from.result (rw g.met.I.Input.within c.in_ok-bytes.ensures) (λ texts _. g.met.I.Input.faults texts bytes)
+    (rw c.deref.ensures.value at c.read_from.ensures.said) (rw c.deref.ensures.value at c.read_from.ensures.refused)

@@ -1,17 +1,11 @@
-use Rattle.std.proofs.Common.{◌≡◌, [], ◌∷◌, ◌++◌, arith, map, refl}
+use Rattle.std.proofs.Common.{[], ◌∷◌, ◌++◌, arith, map, refl}
 use Rattle.std.specs.String.{string_bytes}
-use Rattle.std.specs.Vec.{vec_len}
 use Rattle.std.proofs.lemmas.List.{length-map}
 use Rattle.std.proofs.lemmas.Result.{err_from_is_err_and}
-use Rattle.market_units.specs.Totals.{total}
 use Rattle.market_words.specs.declared.words.Form.TheVariants.{Prefer}
-use Rattle.utility_language.specs.Commands.{IsCommandOf}
 use Rattle.market_host.specs.declared.status.Status.TheVariants.{Done}
-use Rattle.market_host.specs.Sessions.{command_count}
 use Rattle.market_host.specs.Works.{Ends}
 use Rattle.market_host.proofs.PreferFacts.{prefer_done}
-use Rattle.market_host.proofs.SessionsRead.{streams_of_names}
-use Rattle.market_host.proofs.StreamFacts.{count_of_sessions}
 use Rattle.market_host.proofs.Taking.{memory_stops, rest_stops, rest_taken}
 use Rattle.market_host.proofs.WordFacts.{two_names}
 use Rattle.market_host.proofs.Works.{stops_named, taken_named}
@@ -41,23 +35,7 @@ returns-in_err-streams g c =
     c.in_err-streams.field-0.0 named
     (rest_stops g.H.Shelf Prefer c.args.shelf.now c.take_tables.new.shelf c.take_sessions.new.shelf front tables.0 tables.1 names 3
     c.in_err-streams.field-0.0 refl refl refl c.in_err-streams.ensures.trouble c.in_err-streams.ensures.used
-    (record { holds = c.in_err-streams.ensures.holds; later = c.in_err-streams.ensures.later })))
-
-pub text_of-requires-clause-sessions : goal.text_of-requires-clause-sessions
-text_of-requires-clause-sessions g c κs within =
-    let read = c.in_ok-streams.ensures.read in
-    let count =
-    streams_of_names IsCommandOf (g.H.Shelf.shows c.take_tables.new.shelf).holds (map string_bytes c.args.names.streams.now) read.0 c.in_ok-streams.streams.items
-    read.1 read.2 in
-    let long = length-map c.args.names.streams.now string_bytes in
-    rw c.deref.ensures.value (omega (arith, count, long, c.requires.named.1.some), omega (arith, count, long, c.requires.named.1.few))
-
-pub text_of-requires-clause-commands : goal.text_of-requires-clause-commands
-text_of-requires-clause-commands g c κs within =
-    let read = c.in_ok-streams.ensures.read in
-    let count : total command_count read.0 ≡ total vec_len c.in_ok-streams.streams.items =
-    count_of_sessions IsCommandOf read.0 c.in_ok-streams.streams.items read.2.items in
-    rw c.deref.ensures.value (omega (arith, count, read.2.count))
+    c.in_err-streams.ensures.kept))
 
 pub returns-in_err-text : goal.returns-in_err-text
 returns-in_err-text g c =
@@ -71,8 +49,8 @@ returns-in_err-text g c =
     let read = c.in_ok-streams.ensures.read in
     let taken =
     rest_taken g.H.Shelf Prefer c.args.shelf.now c.take_tables.new.shelf c.take_sessions.new.shelf front tables.0 tables.1 names read.0 refl refl read.2.each
-    (omega (arith, read.2.count)) (omega (arith, length-map c.args.names.streams.now string_bytes, c.requires.named.1.some)) c.in_ok-streams.ensures.end
-    c.in_ok-streams.ensures.used (record { holds = c.in_ok-streams.ensures.holds; later = c.in_ok-streams.ensures.later }) in
+    (omega (arith, read.2.count)) (omega (arith, length-map c.args.names.streams.now string_bytes, c.requires.named.1.some)) c.in_ok-streams.ensures.ended
+    c.in_ok-streams.ensures.used c.in_ok-streams.ensures.kept in
     rw (p.1, p.2) (stops_named g.H.Shelf Prefer c.args.shelf.now c.take_sessions.new.shelf (map string_bytes c.args.names.front.now) front names _ named
     (memory_stops g.H.Shelf Prefer (front ++ names) (tables.0 ++ read.0) c.args.shelf.now c.take_sessions.new.shelf taken))
 
@@ -87,12 +65,12 @@ returns g c =
     let read = c.in_ok-streams.ensures.read in
     let taken =
     rest_taken g.H.Shelf Prefer c.args.shelf.now c.take_tables.new.shelf c.take_sessions.new.shelf front tables.0 tables.1 names read.0 refl refl read.2.each
-    (omega (arith, read.2.count)) (omega (arith, length-map c.args.names.streams.now string_bytes, c.requires.named.1.some)) c.in_ok-streams.ensures.end
-    c.in_ok-streams.ensures.used (record { holds = c.in_ok-streams.ensures.holds; later = c.in_ok-streams.ensures.later }) in
+    (omega (arith, read.2.count)) (omega (arith, length-map c.args.names.streams.now string_bytes, c.requires.named.1.some)) c.in_ok-streams.ensures.ended
+    c.in_ok-streams.ensures.used c.in_ok-streams.ensures.kept in
     taken_named g.H.Shelf Prefer c.args.shelf.now c.take_sessions.new.shelf (map string_bytes c.args.names.front.now) front names
     (λ texts. Ends Prefer texts Done c.in_ok-text.text.items) named (
       tables.0 ++ read.0,
       taken,
       prefer_done (g.H.Shelf.shows c.take_tables.new.shelf).holds c.in_ok-tables.tables.catalog c.in_ok-tables.tables.roll tables.0 names
-          read.0 read.1 c.in_ok-streams.streams.items c.in_ok-text.text.items tables.2 read.2 (rw c.deref.ensures.value at c.in_ok-text.ensures),
+          read.0 read.1 c.in_ok-streams.streams.lists.items c.in_ok-text.text.items tables.2 read.2 c.in_ok-text.ensures,
     )

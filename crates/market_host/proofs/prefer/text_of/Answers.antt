@@ -9,7 +9,7 @@ use Rattle.market_host.proofs.prefer.text_of.Goals as goal
 pub preferences_text-requires-clause-short : goal.preferences_text-requires-clause-short
 preferences_text-requires-clause-short g c =
     subst (All HasShortCommand) (sym c.in_ok-closed.ensures.entries)
-    (short_entries c.requires.told.0 c.args.streams.now _ c.requires.told.1 c.in_ok-closed.ensures.merges)
+    (short_entries c.requires.0 c.args.streams.now.lists.items _ c.requires.1 (rw c.deref.ensures.value at c.in_ok-closed.ensures.merges))
 
 pub returns : goal.returns
 returns g c =
@@ -17,7 +17,7 @@ returns g c =
     (λ text is. (
       map entry_of_step c.in_ok-closed.closed.journal,
       c.in_ok-closed.ensures.legal,
-      c.in_ok-closed.ensures.merges,
+      (rw c.deref.ensures.value at c.in_ok-closed.ensures.merges),
       rw c.in_ok-closed.ensures.entries at is,
     ))
     c.preferences_text.ensures

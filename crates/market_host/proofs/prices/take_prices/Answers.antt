@@ -12,16 +12,13 @@ pub returns-in_err-bytes : goal.returns-in_err-bytes
 returns-in_err-bytes g c =
     let p = err_from_is_err_and c.from_residual.result c.from_residual.ensures.1 in
     rw (p.1, p.2) (unread_stops g.H.Shelf c.args.shelf.now c.read_input.new.shelf Prices c.args.name.now c.args.input
-    (λ texts. BeginWithCatalog texts c.args.catalog.now) (record { holds = c.in_err-bytes.ensures.holds; later = c.in_err-bytes.ensures.later }) c.in_err-bytes.field-0.0
-    c.in_err-bytes.ensures.unread c.in_err-bytes.ensures.used)
+    (λ texts. BeginWithCatalog texts c.args.catalog.now) c.in_err-bytes.field-0.0 c.in_err-bytes.ensures)
 
 pub returns : goal.returns
 returns g c =
     let bytes = c.in_ok-bytes.bytes.items in
     read_takes g.H.Shelf c.args.shelf.now c.read_input.new.shelf Prices c.args.name.now c.args.input (λ texts. BeginWithCatalog texts c.args.catalog.now)
-    (record { holds = c.in_ok-bytes.ensures.holds; later = c.in_ok-bytes.ensures.later })
     (λ text prices. prices_of c.args.catalog.now.sections text ≡ Ok (map (λ price. price.0) prices.items))
     (AreNoPrices c.args.catalog.now.sections bytes) bytes c.prices_in.result
-    c.in_ok-bytes.ensures.whole c.in_ok-bytes.ensures.within c.in_ok-bytes.ensures.end c.in_ok-bytes.ensures.used
-    (λ texts begins row cause is. (c.args.catalog.now, begins, is)) (rw c.deref.ensures.value at c.prices_in.ensures.read)
+    c.in_ok-bytes.ensures (λ texts begins row cause is. (c.args.catalog.now, begins, is)) (rw c.deref.ensures.value at c.prices_in.ensures.read)
     (rw c.deref.ensures.value at c.prices_in.ensures.refused)

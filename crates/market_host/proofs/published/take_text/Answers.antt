@@ -5,6 +5,4 @@ use Rattle.market_host.proofs.published.take_text.Goals as goal
 
 pub returns : goal.returns
 returns g c =
-    text_takes g.H.Shelf c.args.shelf.now c.read_input.new.shelf Published c.args.name.now c.args.input (λ _. ⊤)
-    (record { holds = c.read_input.ensures.holds; later = c.read_input.ensures.later })
-    c.read_input.result c.read_input.ensures.whole c.read_input.ensures.within c.read_input.ensures.end c.read_input.ensures.unread c.read_input.ensures.used
+    text_takes g.H.Shelf c.args.shelf.now c.read_input.new.shelf Published c.args.name.now c.args.input (λ _. ⊤) c.read_input.result c.read_input.ensures

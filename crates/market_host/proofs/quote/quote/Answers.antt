@@ -36,7 +36,7 @@ returns-in_err-commands g c =
     rw (p.1, p.2, named, other) (session_stops g.H.Shelf (Quote c.args.name c.args.credits c.args.courses) c.args.shelf.now c.take_input.new.shelf c.take_session.new.shelf (c.as_str.result.now ∷ [])
     (one.text ∷ []) (catalog_taken g.H.Shelf (Quote c.args.name c.args.credits c.args.courses) c.args.shelf.now c.take_input.new.shelf c.as_str.result.now c.in_ok-catalog.catalog refl (omega arith) one)
     c.as_str-2.result.now 2 200000 c.in_err-commands.field-0.0 refl refl refl refl c.in_err-commands.ensures.trouble c.in_err-commands.ensures.used
-    (record { holds = c.in_err-commands.ensures.holds; later = c.in_err-commands.ensures.later }))
+    c.in_err-commands.ensures.kept)
 
 pub best_text-requires-clause-few : goal.best_text-requires-clause-few
 best_text-requires-clause-few g c =
@@ -64,8 +64,8 @@ returns-in_err-text g c =
     rest_taken g.H.Shelf (Quote c.args.name c.args.credits c.args.courses) c.args.shelf.now c.take_input.new.shelf c.take_session.new.shelf (c.as_str.result.now ∷ []) (one.text ∷ []) first
     (c.as_str-2.result.now ∷ []) (read.0 ∷ []) refl refl ((read.1, read.2), tt) (omega (arith, read.3.1)) (omega arith)
     (added_at_end (sight g.H.Shelf c.take_input.new.shelf c.take_session.new.shelf) (c.as_str-2.result.now ∷ []) [] c.as_str-2.result.now refl
-    c.in_ok-commands.ensures.end) c.in_ok-commands.ensures.used
-    (record { holds = c.in_ok-commands.ensures.holds; later = c.in_ok-commands.ensures.later }) in
+    c.in_ok-commands.ensures.ended) c.in_ok-commands.ensures.used
+    c.in_ok-commands.ensures.kept in
     rw (p.1, p.2, named, other) (memory_stops g.H.Shelf (Quote c.args.name c.args.credits c.args.courses) (c.as_str.result.now ∷ c.as_str-2.result.now ∷ []) (one.text ∷ read.0 ∷ []) c.args.shelf.now
     c.take_session.new.shelf taken)
 
@@ -82,8 +82,8 @@ returns g c =
     rest_taken g.H.Shelf (Quote c.args.name c.args.credits c.args.courses) c.args.shelf.now c.take_input.new.shelf c.take_session.new.shelf (c.as_str.result.now ∷ []) (one.text ∷ []) first
     (c.as_str-2.result.now ∷ []) (read.0 ∷ []) refl refl ((read.1, read.2), tt) (omega (arith, read.3.1)) (omega arith)
     (added_at_end (sight g.H.Shelf c.take_input.new.shelf c.take_session.new.shelf) (c.as_str-2.result.now ∷ []) [] c.as_str-2.result.now refl
-    c.in_ok-commands.ensures.end) c.in_ok-commands.ensures.used
-    (record { holds = c.in_ok-commands.ensures.holds; later = c.in_ok-commands.ensures.later }) in
+    c.in_ok-commands.ensures.ended) c.in_ok-commands.ensures.used
+    c.in_ok-commands.ensures.kept in
     rw (named, other) (
       one.text ∷ read.0 ∷ [],
       taken,

@@ -1,18 +1,12 @@
-use Rattle.std.proofs.Common.{◌≡◌, [], ◌∷◌, arith, map, refl}
+use Rattle.std.proofs.Common.{[], ◌∷◌, arith, map, refl}
 use Rattle.std.specs.String.{string_bytes}
-use Rattle.std.specs.Vec.{vec_len}
 use Rattle.std.proofs.lemmas.List.{length-map}
 use Rattle.std.proofs.lemmas.Result.{err_from_is_err_and}
-use Rattle.market_units.specs.Totals.{total}
 use Rattle.market_words.specs.declared.words.Form.TheVariants.{Run}
 use Rattle.published_parts.specs.Markets.{market_of}
 use Rattle.session_hall.specs.Streams.{command_lists}
-use Rattle.utility_language.specs.Commands.{IsCommandOf}
 use Rattle.market_host.specs.Markets.{AreInputs}
-use Rattle.market_host.specs.Sessions.{command_count}
 use Rattle.market_host.proofs.MarketFacts.{inputs_taken}
-use Rattle.market_host.proofs.SessionsRead.{streams_of_names}
-use Rattle.market_host.proofs.StreamFacts.{count_of_sessions}
 use Rattle.market_host.proofs.Taking.{memory_stops, rest_stops}
 use Rattle.market_host.proofs.WordFacts.{three_names}
 use Rattle.market_host.proofs.Works.{stops_named, taken_named}
@@ -27,7 +21,7 @@ returns-in_err-market g c =
     c.as_str-3.ensures.value in
     let names = map string_bytes c.args.names.streams.now in
     rw (p.1, p.2) (stops_named g.H.Shelf (Run c.args.workers) c.args.shelf.now c.take_market.new.shelf (map string_bytes c.args.names.front.now) _ names
-    c.in_err-market.field-0.0 named (c.in_err-market.ensures.taken (Run c.args.workers) ([], refl) names))
+    c.in_err-market.field-0.0 named (c.in_err-market.ensures (Run c.args.workers) ([], refl) names))
 
 pub returns-in_err-streams : goal.returns-in_err-streams
 returns-in_err-streams g c =
@@ -38,29 +32,12 @@ returns-in_err-streams g c =
     c.as_str-3.ensures.value in
     let names = map string_bytes c.args.names.streams.now in
     let front = c.as_str.result.now ∷ c.as_str-2.result.now ∷ c.as_str-3.result.now ∷ [] in
-    let said = c.in_ok-market.ensures.taken (Run c.args.workers) ([], refl) in
+    let said = c.in_ok-market.ensures (Run c.args.workers) ([], refl) in
     rw (p.1, p.2) (stops_named g.H.Shelf (Run c.args.workers) c.args.shelf.now c.take_sessions.new.shelf (map string_bytes c.args.names.front.now) front names
     c.in_err-streams.field-0.0 named
     (rest_stops g.H.Shelf (Run c.args.workers) c.args.shelf.now c.take_market.new.shelf c.take_sessions.new.shelf front said.0 said.1 names 4
     c.in_err-streams.field-0.0 refl refl refl c.in_err-streams.ensures.trouble c.in_err-streams.ensures.used
-    (record { holds = c.in_err-streams.ensures.holds; later = c.in_err-streams.ensures.later })))
-
-pub held-requires-clause-workers : goal.held-requires-clause-workers
-held-requires-clause-workers g c κs within = c.requires.named.1.has.5
-
-pub held-requires-clause-sessions : goal.held-requires-clause-sessions
-held-requires-clause-sessions g c κs within =
-    let read = c.in_ok-streams.ensures.read in
-    let count = streams_of_names IsCommandOf (g.H.Shelf.shows c.take_market.new.shelf).holds (map string_bytes c.args.names.streams.now) read.0 c.in_ok-streams.streams.items read.1 read.2 in
-    let long = length-map c.args.names.streams.now string_bytes in
-    rw c.deref.ensures.value (omega (arith, count, long, c.requires.named.1.some), omega (arith, count, long, c.requires.named.1.few))
-
-pub held-requires-clause-commands : goal.held-requires-clause-commands
-held-requires-clause-commands g c κs within =
-    let read = c.in_ok-streams.ensures.read in
-    let count : total command_count read.0 ≡ total vec_len c.in_ok-streams.streams.items =
-    count_of_sessions IsCommandOf read.0 c.in_ok-streams.streams.items read.2.items in
-    rw c.deref.ensures.value (omega (arith, count, read.2.count))
+    c.in_err-streams.ensures.kept))
 
 pub returns-in_err-ended : goal.returns-in_err-ended
 returns-in_err-ended g c =
@@ -75,9 +52,9 @@ returns-in_err-ended g c =
     let read = c.in_ok-streams.ensures.read in
     let said =
     inputs_taken g.H.Shelf (Run c.args.workers) c.args.shelf.now c.take_market.new.shelf c.take_sessions.new.shelf front [] market names read.0 read.1
-    c.in_ok-streams.streams.items (c.in_ok-market.ensures.taken (Run c.args.workers) ([], refl)) refl refl read.2
-    (omega (arith, length-map c.args.names.streams.now string_bytes, c.requires.named.1.some)) c.in_ok-streams.ensures.end c.in_ok-streams.ensures.used
-    (record { holds = c.in_ok-streams.ensures.holds; later = c.in_ok-streams.ensures.later }) in
+    c.in_ok-streams.streams.lists.items (c.in_ok-market.ensures (Run c.args.workers) ([], refl)) refl refl read.2
+    (omega (arith, length-map c.args.names.streams.now string_bytes, c.requires.named.1.some)) c.in_ok-streams.ensures.ended c.in_ok-streams.ensures.used
+    c.in_ok-streams.ensures.kept in
     rw (p.1, p.2) (stops_named g.H.Shelf (Run c.args.workers) c.args.shelf.now c.take_sessions.new.shelf (map string_bytes c.args.names.front.now) front names _
     named (memory_stops g.H.Shelf (Run c.args.workers) _ said.0 c.args.shelf.now c.take_sessions.new.shelf said.1))
 
@@ -93,9 +70,12 @@ returns g c =
     let read = c.in_ok-streams.ensures.read in
     let said =
     taken_named g.H.Shelf (Run c.args.workers) c.args.shelf.now c.take_sessions.new.shelf (map string_bytes c.args.names.front.now) front names
-    (λ texts. AreInputs texts market [] (command_lists c.in_ok-streams.streams.items)) named
+    (λ texts. AreInputs texts market [] (command_lists c.in_ok-streams.streams.lists.items)) named
     (inputs_taken g.H.Shelf (Run c.args.workers) c.args.shelf.now c.take_market.new.shelf c.take_sessions.new.shelf front [] market names read.0 read.1
-    c.in_ok-streams.streams.items (c.in_ok-market.ensures.taken (Run c.args.workers) ([], refl)) refl refl read.2
-    (omega (arith, length-map c.args.names.streams.now string_bytes, c.requires.named.1.some)) c.in_ok-streams.ensures.end c.in_ok-streams.ensures.used
-    (record { holds = c.in_ok-streams.ensures.holds; later = c.in_ok-streams.ensures.later })) in
-    (said.0, said.1, (rw c.deref.ensures.value at c.in_ok-ended.ensures) said.0 said.2)
+    c.in_ok-streams.streams.lists.items (c.in_ok-market.ensures (Run c.args.workers) ([], refl)) refl refl read.2
+    (omega (arith, length-map c.args.names.streams.now string_bytes, c.requires.named.1.some)) c.in_ok-streams.ensures.ended c.in_ok-streams.ensures.used
+    c.in_ok-streams.ensures.kept) in
+    (said.0, said.1, c.in_ok-ended.ensures said.0 said.2)
+
+pub invariant_of-workers : goal.invariant_of-workers
+invariant_of-workers g c = record { within = c.requires.named.1.has.5 }
