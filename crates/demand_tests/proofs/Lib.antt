@@ -1,2 +1,1 @@
-mod BoardRounds
-mod TwoVersions
+mod Driving

@@ -2,6 +2,7 @@ mod board;
 mod bounds;
 mod clearing;
 mod crowds;
+mod driver;
 mod held_workers;
 mod menus;
 mod plain_demands;

@@ -113,8 +113,8 @@ fn calls_of(worker: &Passes) -> u64 {
 // than two when the first task is posted and two others.
 const HELD: [(u32, u64, u64); 2] = [(3, 4, 0), (2, 1, 2)];
 
-// Who draws before its start is passed leaves the other too few tasks; who passes before its post is
-// held with a task that the others then settle too late.
+// Who draws before its start is passed leaves the other too few tasks; who passes before its post
+// is held with a task that the others then settle too late.
 #[test]
 fn a_comparison_is_worked_behind_the_start_and_before_the_call(
     rt: HostRuntime,
@@ -129,8 +129,8 @@ fn a_comparison_is_worked_behind_the_start_and_before_the_call(
     Ok(())
 }
 
-// How many of the four take the section where it is free, when that is asked past a shut gate by two
-// workers who were asked at 104 before.
+// How many of the four take the section where it is free, when that is asked past a shut gate by
+// two workers who were asked at 104 before.
 fn count_past<R: Abort + Threads + Wait + Sync>(
     rt: &R,
     alloc: Global,

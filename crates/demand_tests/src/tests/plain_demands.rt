@@ -1,32 +1,15 @@
 // Demands that are found by trying every choice.
-ghost use Rattle.std.specs.Prelude.{◌≤◌, IsTrue, All, length};
-ghost use Rattle.demand_api.specs.{Asking.ArePricesFor, Views.data_of};
-
 use crate::tests::menus::{menu_of, rated};
 use crate::tests::rivals::rivals;
+use crate::tests::workers::{all_have_prices, at};
 use bundle_rules::Bundle;
 use demand_api::{Crowd, Demands, PlainDemands};
-use market_units::{SectionNo, StudentNo, Tokens};
+use market_units::{MAX_VERSIONS, SectionNo, StudentNo, Tokens};
 use std::alloc::Global;
 use std::process::Abort;
 use std::sync::{Arc, Wait};
 use std::test::Fail;
 use std::thread::Threads;
-
-// Whether each of these vectors has prices that can be asked of the crowd.
-fn all_have_prices(crowd: &Crowd, batch: &[Vec<Tokens>]) -> bool
-    ensures { IsTrue result
-        → All (λ prices. ArePricesFor (data_of crowd.now) prices.items) batch.now }
-{
-    match batch {
-        [] => true,
-        [prices, more @ ..] => crowd.has_prices(prices) && all_have_prices(crowd, more),
-    }
-}
-
-fn at<R: Abort>(rt: &R, alloc: Global, price: u32) -> Vec<Tokens> {
-    vec![in alloc; Tokens(price); 1].expect(rt, "memory")
-}
 
 // How many students take each section at each of these vectors.
 fn counts_of<R: Abort + Threads + Wait + Sync>(
@@ -34,10 +17,8 @@ fn counts_of<R: Abort + Threads + Wait + Sync>(
     alloc: Global,
     crowd: Crowd,
     batch: &[Vec<Tokens>],
-) -> Vec<Vec<u32>>
-    requires some { 1 ≤ length batch.now }
-    requires few { length batch.now ≤ 16 }
-{
+) -> Vec<Vec<u32>> {
+    assert!(rt; 1 <= batch.len() && batch.len() <= MAX_VERSIONS);
     assert!(rt; all_have_prices(&crowd, batch));
     let crowd = Arc::new(alloc, crowd).expect(rt, "memory");
     let mut demands = PlainDemands::make(crowd);
@@ -50,10 +31,10 @@ fn counts_of_four_students(rt: HostRuntime) -> Result<(), Fail> {
     let crowd = rivals(&rt, alloc, 4);
     assert_eq!(rt; crowd.top(), Tokens(104));
     let batch = [
-        at(&rt, alloc, 104),
-        at(&rt, alloc, 102),
-        at(&rt, alloc, 103),
-        at(&rt, alloc, 0),
+        at(alloc, 104)?,
+        at(alloc, 102)?,
+        at(alloc, 103)?,
+        at(alloc, 0)?,
     ];
     let found = counts_of(&rt, alloc, crowd, &batch);
     let wanted = [0, 2, 1, 4];

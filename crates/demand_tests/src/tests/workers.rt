@@ -1,5 +1,5 @@
 // Four students of budgets 100 to 103 who want the one section, asked by some workers.
-ghost use Rattle.std.specs.Prelude.{◌≤◌, IsTrue};
+ghost use Rattle.std.specs.Prelude.{IsTrue};
 ghost use Rattle.demand_api.specs.{Asking.ArePricesFor, Views.data_of};
 ghost use Rattle.demand_workers.specs.Rounds.{AreVersionsFor};
 
@@ -54,9 +54,7 @@ impl Gate for CountingGate {
 }
 
 // So many students with budgets from 100 on, shared by workers.
-fn shared_rivals<R: Abort>(rt: &R, alloc: Global, count: u32) -> Result<Arc<Crowd>, NoMemory>
-    requires { count ≤ 100 }
-{
+fn shared_rivals<R: Abort>(rt: &R, alloc: Global, count: u32) -> Result<Arc<Crowd>, NoMemory> {
     Ok(Arc::new(alloc, rivals(rt, alloc, count))?)
 }
 
@@ -82,9 +80,8 @@ fn counts_by<R: Abort + Threads + Wait + Sync>(
     alloc: Global,
     workers: u16,
     gate: &(dyn Gate + Sync),
-) -> Result<[u32; 4], Fail>
-    requires { (1 ≤ workers) × (workers ≤ MAX_WORKERS) }
-{
+) -> Result<[u32; 4], Fail> {
+    assert!(rt; 1 <= workers && workers <= MAX_WORKERS);
     let crowd = shared_rivals(rt, alloc, 4)?;
     let batch = [
         at(alloc, 104)?,
@@ -154,8 +151,8 @@ fn counts_in_turn<R: Abort + Threads + Wait + Sync>(
     Ok([at_first, at_second, at_third])
 }
 
-// At the second prices three students keep what is remembered, so that the fourth alone is asked; at
-// the third nothing is kept.
+// At the second prices three students keep what is remembered, so that the fourth alone is asked;
+// at the third nothing is kept.
 #[test]
 fn who_keeps_its_bundle_is_not_asked(rt: HostRuntime) -> Result<(), Fail> {
     let found = counts_in_turn(&rt, rt.alloc())?;
@@ -168,9 +165,8 @@ fn bundles_by<R: Abort + Threads + Wait + Sync>(
     rt: &R,
     alloc: Global,
     workers: u16,
-) -> Result<[bool; 4], Fail>
-    requires { (1 ≤ workers) × (workers ≤ MAX_WORKERS) }
-{
+) -> Result<[bool; 4], Fail> {
+    assert!(rt; 1 <= workers && workers <= MAX_WORKERS);
     let crowd = shared_rivals(rt, alloc, 4)?;
     let prices = [Tokens(102)];
     assert!(rt; crowd.has_prices(&prices));
@@ -204,9 +200,8 @@ pub(crate) fn exceeds_by<R: Abort + Threads + Wait + Sync>(
     workers: u16,
     limit: u32,
     gate: &(dyn Gate + Sync),
-) -> Result<bool, Fail>
-    requires { (1 ≤ workers) × (workers ≤ MAX_WORKERS) }
-{
+) -> Result<bool, Fail> {
+    assert!(rt; 1 <= workers && workers <= MAX_WORKERS);
     let crowd = shared_rivals(rt, alloc, 4)?;
     let prices = [Tokens(0)];
     assert!(rt; crowd.has_prices(&prices));

@@ -1,11 +1,10 @@
 // Two sessions at one desk.
 ghost use Rattle.std.specs.Prelude.{◌≤◌, length, IfOk};
-ghost use Rattle.session_hall.specs.Streams.{command_count};
 
 use crate::tests::readers::tables_in;
 use gates::HoldingGate;
 use market_edge::{Gate, MeetingGate};
-use market_units::{MAX_COMMANDS, MAX_SESSIONS, NoMemory, SectionNo, StudentNo};
+use market_units::{SectionNo, StudentNo};
 use preference_desk::{Entry, Reply};
 use session_hall::{ClosedDesk, hold};
 use std::alloc::Global;
@@ -50,20 +49,6 @@ fn stream_of(alloc: Global, lines: &[(&[u8], Reply)]) -> Result<Vec<Command>, Fa
     Ok(commands)
 }
 
-// What sessions of these streams leave.
-fn hold_streams<R: Abort + Threads + Wait + Sync, G: Gate + Sync>(
-    rt: &R,
-    alloc: Global,
-    streams: &[Vec<Command>],
-    gate: &G,
-) -> Result<ClosedDesk, NoMemory>
-    requires sessions { (1 ≤ length streams.now) × (length streams.now ≤ MAX_SESSIONS) }
-    requires commands { command_count streams.now ≤ MAX_COMMANDS }
-{
-    let (catalog, roll) = tables_in(rt, alloc, CATALOG, ROLL);
-    hold(rt, alloc, &catalog, &roll, streams, gate)
-}
-
 // What two sessions with these lines leave.
 fn hold_two<R: Abort + Threads + Wait + Sync, G: Gate + Sync>(
     rt: &R,
@@ -72,9 +57,11 @@ fn hold_two<R: Abort + Threads + Wait + Sync, G: Gate + Sync>(
     second: &[(&[u8], Reply)],
     gate: &G,
 ) -> Result<ClosedDesk, Fail> {
+    let (catalog, roll) = tables_in(rt, alloc, CATALOG, ROLL);
     let first = stream_of(alloc, first)?;
     let second = stream_of(alloc, second)?;
-    Ok(hold_streams(rt, alloc, &[first, second], gate)?)
+    let streams = [first, second];
+    Ok(hold(rt, alloc, &catalog, &roll, &streams, gate)?)
 }
 
 // Whether the entries of this session are these lines with their replies, in order.

@@ -50,17 +50,6 @@ fn command_of(line: &[u8]) -> Command
     }
 }
 
-// Posts the line's command in the session's name.
-fn say(rt: &impl Abort, desk: &mut Desk, session: u16, line: &[u8])
-    requires { All HasShortCommand (entries_of desk.old) }
-    ensures names { names_of desk.new ≡ names_of desk.old }
-    ensures short { All HasShortCommand (entries_of desk.new) }
-{
-    let command = command_of(line);
-    assert!(rt; desk.room() >= 1);
-    desk.post(session, command);
-}
-
 // Posts each line's command in its session's name.
 fn say_each(rt: &impl Abort, desk: &mut Desk, said: &[(u16, &[u8])])
     requires { All HasShortCommand (entries_of desk.old) }
@@ -68,7 +57,9 @@ fn say_each(rt: &impl Abort, desk: &mut Desk, said: &[(u16, &[u8])])
     ensures short { All HasShortCommand (entries_of desk.new) }
 {
     for (session, line) in said {
-        say(rt, desk, *session, line);
+        let command = command_of(line);
+        assert!(rt; desk.room() >= 1);
+        desk.post(*session, command);
     }
 }
 
@@ -81,17 +72,6 @@ fn lines_in<'a>(alloc: Global, said: &'a [u8]) -> Result<Vec<(u16, &'a [u8])>, F
         }
     }
     Ok(lines)
-}
-
-// What is told after this session.
-fn try_session(rt: &impl Abort, alloc: Global, session: &WorkedSession) -> Result<(), Fail> {
-    let (catalog, roll) = tables_in(rt, alloc, THREE_SECTIONS_CATALOGUE, ROLL);
-    let mut desk = Desk::prepare(alloc, &catalog, &roll, 20)?;
-    let lines = lines_in(alloc, session.said)?;
-    say_each(rt, &mut desk, lines.as_slice());
-    let printed = preferences_text(alloc, &catalog, &roll, &desk)?;
-    assert_eq!(rt; printed.as_slice(), session.told.as_bytes());
-    Ok(())
 }
 
 // The text after these lines is this one.
@@ -107,6 +87,12 @@ fn try_text(
     let printed = preferences_text(alloc, &catalog, &roll, &desk)?;
     assert_eq!(rt; printed.as_slice(), text);
     Ok(())
+}
+
+// What is told after this session.
+fn try_session(rt: &impl Abort, alloc: Global, session: &WorkedSession) -> Result<(), Fail> {
+    let lines = lines_in(alloc, session.said)?;
+    try_text(rt, alloc, &lines, session.told.as_bytes())
 }
 
 #[test]

@@ -2,7 +2,7 @@ use Rattle.std.specs.FinSet as set
 use Rattle.bundle_rules.specs.Demand.{price_in}
 use Rattle.bundle_rules.specs.Bundles.{sections_of}
 use Rattle.demand_api.proofs.Takers.{priced_at, found_demand}
-use Rattle.demand_tests.proofs.tests.board.taken.Goals as goal
+use Rattle.demand_tests.proofs.tests.driver.taken.Goals as goal
 
 pub best_plain-requires : goal.best_plain-requires
 best_plain-requires c =
