@@ -16,7 +16,7 @@ pub(crate) enum Resource {
     Count,
 }
 
-/// A resource at a price, in millionths of a point of utility for what is taken of it.
+/// A resource at a price: thousandths of a point of utility for each token, credit or section.
 #[derive(Clone, Copy)]
 pub(crate) struct Rate {
     pub(crate) resource: Resource,
