@@ -174,7 +174,6 @@ fn accept_publication(
 
 // Whether what is printed is right, or the first finding.
 fn check_printed(alloc: Global, printed: &Printed) -> Result<(), CheckEnd>
-    requires few { length printed.now.publication.now.turns.items < 2 ^ 32 - 1 }
     ensures holds { OnOk result (HoldsOf (terms_seen printed.now) (printed_in printed.now)) }
     ensures first { IfErr result
         (λ end. OnFound end (IsFirstIn (terms_seen printed.now) (printed_in printed.now))) }

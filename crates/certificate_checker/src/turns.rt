@@ -1,5 +1,5 @@
 // The printed turns of the aftermarket.
-ghost use Rattle.std.specs.Prelude.{◌↔◌, ◌<◌, ◌^◌, ◌-◌, ◌+◌, IsTrue, IfOk, IfErr, OnOk, length, map};
+ghost use Rattle.std.specs.Prelude.{◌↔◌, ◌<◌, ◌^◌, ◌+◌, IsTrue, IfOk, IfErr, OnOk, length, map};
 ghost use Rattle.market_certificate.specs.Views.{publication_of, turn_of};
 ghost use Rattle.published_parts.specs.Holdings.{demanded, held_after};
 ghost use Rattle.certificate_checker.specs.Findings.{HasTurnFault, HoldsToSeats, HoldsToTheEnd, IsFirstIn, IsTurnFinding, OnFound};
@@ -28,7 +28,6 @@ pub(crate) fn check_turns(
     printed: &Printed,
     floor: &mut Floor,
 ) -> Result<(), CheckEnd>
-    requires few { length printed.now.publication.now.turns.items < 2 ^ 32 - 1 }
     requires before { HoldsToSeats (terms_seen printed.now) (printed_in printed.now) }
     requires floor { AreHeldOn printed.now.terms.now.seats.items (demanded (printed_in printed.now))
         floor.old }

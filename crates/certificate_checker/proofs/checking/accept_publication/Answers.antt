@@ -20,6 +20,7 @@ invariant_of-printed c =
     record {
       can = can_check (market_in c.args.market.now) _ c.in_ok-terms.terms (publication_of c.args.publication)
           c.requires.publication after c.in_ok-terms.ensures.terms c.args.market.now.raise;
+      few = c.requires.turns;
     }
 
 pub returns-in_err-terms-clause-first : goal.returns-in_err-terms-clause-first

@@ -35,7 +35,7 @@ turns-init c = record {
 pub take_turn-requires-clause-turn : goal.take_turn-requires-clause-turn
 take_turn-requires-clause-turn c = record {
   can = c.args.printed.now.can;
-  few = c.requires.few;
+  few = c.args.printed.now.few;
   low = search rules;
   order_is =
       ap (map (λ (student : StudentNo). student.0)) c.deref-in-turns.ensures.value ∙ c.in_ok-order.ensures.value
