@@ -1,7 +1,7 @@
 // Tables as text, and what is told of them. A case stands on a line: a table's text behind its
-// header, ` => `, and what the table says, or its refusal as it prints itself. In the table `|` is a
-// line feed.
-ghost use Rattle.std.specs.Prelude.{◌<◌, ◌-◌, ◌^◌, length};
+// header, ` => `, and what the table says, or its refusal as it prints itself. In the table `|` is
+// a line feed.
+ghost use Rattle.std.specs.Prelude.{◌<◌, length};
 
 use course_catalog::{Catalog, read_catalog};
 use market_units::{Name, SectionNo, StudentNo};
@@ -78,9 +78,18 @@ pub fn long_table(alloc: Global, header: &str, rows: u16, behind: &str) -> Resul
 pub fn told(rt: &impl Abort, alloc: Global, table: Table, text: &[u8]) -> Result<String, Fail> {
     assert!(rt; text.len() < 100_000);
     match table {
-        Table::Catalogue => told_of_catalogue(alloc, text),
-        Table::Roll => told_of_roll(alloc, text),
-        Table::Prices => told_of_prices(alloc, &catalog_in(rt, alloc, THREE_SECTIONS), text),
+        Table::Catalogue => match read_catalog(alloc, text) {
+            Ok(catalog) => said_by_catalogue(alloc, &catalog),
+            Err(refusal) => Ok(format!(in alloc; "{refusal:?}")?),
+        },
+        Table::Roll => match read_roll(alloc, text) {
+            Ok(roll) => said_by_roll(alloc, &roll),
+            Err(refusal) => Ok(format!(in alloc; "{refusal:?}")?),
+        },
+        Table::Prices => match read_prices(alloc, &catalog_in(rt, alloc, THREE_SECTIONS), text) {
+            Ok(prices) => Ok(format!(in alloc; "{:?}", prices.as_slice())?),
+            Err(refusal) => Ok(format!(in alloc; "{refusal:?}")?),
+        },
     }
 }
 
@@ -94,33 +103,6 @@ pub fn catalog_in(rt: &impl Abort, alloc: Global, text: &[u8]) -> Catalog {
 pub fn roll_in(rt: &impl Abort, alloc: Global, text: &[u8]) -> Roll {
     assert!(rt; text.len() < 100_000);
     read_roll(alloc, text).expect(rt, "a roll")
-}
-
-fn told_of_catalogue(alloc: Global, text: &[u8]) -> Result<String, Fail>
-    requires { length text.now < 2 ^ 32 - 1 }
-{
-    match read_catalog(alloc, text) {
-        Ok(catalog) => said_by_catalogue(alloc, &catalog),
-        Err(refusal) => Ok(format!(in alloc; "{refusal:?}")?),
-    }
-}
-
-fn told_of_roll(alloc: Global, text: &[u8]) -> Result<String, Fail>
-    requires { length text.now < 2 ^ 32 - 1 }
-{
-    match read_roll(alloc, text) {
-        Ok(roll) => said_by_roll(alloc, &roll),
-        Err(refusal) => Ok(format!(in alloc; "{refusal:?}")?),
-    }
-}
-
-fn told_of_prices(alloc: Global, catalog: &Catalog, text: &[u8]) -> Result<String, Fail>
-    requires { length text.now < 2 ^ 32 - 1 }
-{
-    match read_prices(alloc, catalog, text) {
-        Ok(prices) => Ok(format!(in alloc; "{:?}", prices.as_slice())?),
-        Err(refusal) => Ok(format!(in alloc; "{refusal:?}")?),
-    }
 }
 
 // What a catalogue says: its version and the seats of all sections; of each section the name, the

@@ -8,9 +8,11 @@ ghost use Rattle.published_parts.specs.Markets.{market_of, names_in};
 use crate::tests::readers::{commands_in, settings_in, tables_in};
 use course_catalog::Catalog;
 use market_maker::make;
+use market_run::MarketDesk;
 use market_settings::Settings;
 use preference_desk::Desk;
 use published_market::are_sessions;
+use published_parts::Market;
 use std::alloc::Global;
 use std::process::Abort;
 use student_roll::Roll;
@@ -23,13 +25,32 @@ pub struct Said {
     pub roll: Roll,
     pub settings: Settings,
     pub desk: Desk,
+    pub ghost names: { names_of desk ≡ names_in (market_of catalog roll settings) },
+    pub ghost in_range: { AreInRange settings },
 }
 
-/// Whether each entry of the desk's journal is of a session from 1 to 64.
-pub fn has_sessions(desk: &Desk) -> bool
+// Whether each entry of the desk's journal is of a session from 1 to 64.
+fn has_sessions(desk: &Desk) -> bool
     ensures { IsTrue result → All (λ entry. IsSession entry.session) (entries_of desk.now) }
 {
     are_sessions(desk.journal())
+}
+
+/// The market and its desk, in whose journal each entry is of a session from 1 to 64.
+pub fn market_desk<'a, R: Abort>(rt: &R, said: &'a Said) -> MarketDesk<'a> {
+    let Said {
+        catalog,
+        roll,
+        settings,
+        desk,
+    } = said;
+    assert!(rt; has_sessions(desk));
+    let market = Market {
+        catalog,
+        roll,
+        settings,
+    };
+    MarketDesk { market, desk }
 }
 
 // Says each command at the desk, in this session.
@@ -51,11 +72,7 @@ pub fn market_said(
     texts: (&[u8], &[u8], &[u8]),
     first: (u16, &[u8]),
     second: (u16, &[u8]),
-) -> Said
-    ensures names { names_of result.desk
-        ≡ names_in (market_of result.catalog result.roll result.settings) }
-    ensures settings { AreInRange result.settings }
-{
+) -> Said {
     let (catalog, roll) = tables_in(rt, alloc, texts.0, texts.1);
     let settings = settings_in(rt, alloc, texts.2);
     let mut desk = Desk::prepare(alloc, &catalog, &roll, 200).expect(rt, "memory");
@@ -71,11 +88,7 @@ pub fn market_said(
 
 /// The made market of two students, two sections and seed 7 that accepts no error, after its
 /// sessions.
-pub fn two_students(rt: &impl Abort, alloc: Global) -> Said
-    ensures names { names_of result.desk
-        ≡ names_in (market_of result.catalog result.roll result.settings) }
-    ensures settings { AreInRange result.settings }
-{
+pub fn two_students(rt: &impl Abort, alloc: Global) -> Said {
     let made = make(alloc, 7, 2, 2, 0).expect(rt, "memory");
     let texts = (
         made.catalog.as_slice(),

@@ -1,16 +1,10 @@
 // Markets that workers run.
-ghost use Rattle.std.specs.Prelude.{◌≡◌, ◌≤◌};
-ghost use Rattle.market_settings.specs.Settings.{AreInRange};
-ghost use Rattle.preference_desk.specs.DeskView.{names_of};
-ghost use Rattle.published_parts.specs.Markets.{market_of, names_in};
-
-use crate::tests::desks::{Said, has_sessions, market_said, two_students};
+use crate::tests::desks::{Said, market_desk, market_said, two_students};
 use crate::tests::summaries::TWO_STUDENTS;
 use market_edge::OpenGate;
-use market_run::{MarketDesk, made_summary, published_text};
+use market_run::{made_summary, published_text};
 use market_units::MAX_WORKERS;
 use published_market::PublishEnd;
-use published_parts::Market;
 use std::alloc::Global;
 use std::process::Abort;
 use std::sync::Wait;
@@ -24,25 +18,9 @@ fn text_by<R: Abort + Threads + Wait + Sync>(
     alloc: Global,
     workers: u16,
     market: &Said,
-) -> Result<Vec<u8>, u64>
-    requires workers { (1 ≤ workers) × (workers ≤ MAX_WORKERS) }
-    requires names { names_of market.now.desk
-        ≡ names_in (market_of market.now.catalog market.now.roll market.now.settings) }
-    requires settings { AreInRange market.now.settings }
-{
-    let Said {
-        catalog,
-        roll,
-        settings,
-        desk,
-    } = market;
-    assert!(rt; has_sessions(desk));
-    let market = Market {
-        catalog,
-        roll,
-        settings,
-    };
-    let heard = MarketDesk { market, desk };
+) -> Result<Vec<u8>, u64> {
+    assert!(rt; 1 <= workers && workers <= MAX_WORKERS);
+    let heard = market_desk(rt, market);
     match published_text(rt, alloc, workers, &heard, &OpenGate) {
         Ok(text) => Ok(text),
         Err(PublishEnd::NoPrices { least }) => Err(least),
@@ -57,31 +35,17 @@ fn four_by<R: Abort + Threads + Wait + Sync>(
     alloc: Global,
     workers: u16,
     settings: &[u8],
-) -> Result<Vec<u8>, u64>
-    requires { (1 ≤ workers) × (workers ≤ MAX_WORKERS) }
-{
+) -> Result<Vec<u8>, u64> {
     let texts = (FOUR_MARKET.term.catalogue, FOUR_MARKET.term.roll, settings);
     let market = market_said(rt, alloc, texts, (2, FOUR_LAST_TWO), (1, FOUR_FIRST_TWO));
     text_by(rt, alloc, workers, &market)
 }
 
 // The summary of what these workers publish of the made market of two students.
-fn two_by<R: Abort + Threads + Wait + Sync>(rt: &R, alloc: Global, workers: u16) -> Vec<u8>
-    requires { (1 ≤ workers) × (workers ≤ MAX_WORKERS) }
-{
-    let Said {
-        catalog,
-        roll,
-        settings,
-        desk,
-    } = &two_students(rt, alloc);
-    assert!(rt; has_sessions(desk));
-    let market = Market {
-        catalog,
-        roll,
-        settings,
-    };
-    let heard = MarketDesk { market, desk };
+fn two_by<R: Abort + Threads + Wait + Sync>(rt: &R, alloc: Global, workers: u16) -> Vec<u8> {
+    assert!(rt; 1 <= workers && workers <= MAX_WORKERS);
+    let market = two_students(rt, alloc);
+    let heard = market_desk(rt, &market);
     made_summary(rt, alloc, workers, &heard, &OpenGate).expect(rt, "prices")
 }
 
