@@ -1,8 +1,7 @@
 // Rows of all students, by workers.
-ghost use Rattle.std.specs.Prelude.{◌≡◌, ◌≤◌, ◌<◌, ℕ, All, IfOk, length, map, slice_index_or};
-ghost use Rattle.std.specs.Vec.{vec_len};
+ghost use Rattle.std.specs.Prelude.{◌≡◌, ◌≤◌, ◌<◌, ℕ, IfOk, length, map, slice_index_or};
 ghost use Rattle.std.specs.Arc.{arc_value};
-ghost use Rattle.task_board.specs.{Kept.AreSettled, Seats.IsFinished, Seats.IsFree};
+ghost use Rattle.task_board.specs.{Kept.AreSettled, Seats.AreBack, Seats.HasBegun, Seats.IsFree};
 ghost use Rattle.fairness_audit.specs.Allocations.{IsAllocation, allocation_of, student_count};
 ghost use Rattle.fairness_audit.specs.{Asked.audit_rules, Rows.row, Rows.rows, Texts.AreRowsAmong};
 ghost use Rattle.fairness_audit.specs.Views.{row_of};
@@ -64,11 +63,8 @@ fn work_and_write<R: Threads + Wait + Sync, G: Gate + Sync>(
 )
     requires bundles { IsAllocation (allocation_of crowd.now bundles.now) }
     requires board { board.base.allocation ≡ allocation_of crowd.now bundles.now }
-    requires count { (1 ≤ vec_len seats) × (vec_len seats ≤ MAX_WORKERS)
-        × (length board.allotments ≡ vec_len seats) }
-    requires numbers { (n : ℕ) (d : _) → n < vec_len seats
-        → (slice_index_or seats.items n d).number ≡ n }
-    requires free { All (λ seat. IsFree audit_rules board seat) seats.items }
+    requires begun { HasBegun audit_rules board seats.items (length seats.items) }
+    requires enough { (1 ≤ length seats.items) × (length seats.items ≤ MAX_WORKERS) }
     requires rows { length rows.old ≡ student_count board.base.allocation }
     requires few { length rows.old ≤ MAX_STUDENTS }
     ensures count { length rows.new ≡ length rows.old }
@@ -91,14 +87,10 @@ fn work_all<R: Threads + Wait + Sync, G: Gate + Sync>(
 )
     requires bundles { IsAllocation (allocation_of crowd.now bundles.now) }
     requires board { board.now.base.allocation ≡ allocation_of crowd.now bundles.now }
-    requires count { (1 ≤ length seats.old) × (length seats.old ≤ MAX_WORKERS) }
-    requires numbers { (n : ℕ) (d : _) → n < length seats.old
-        → (slice_index_or seats.old n d).number ≡ n }
-    requires free { All (λ seat. IsFree audit_rules board.now seat) seats.old }
+    requires begun { HasBegun audit_rules board.now seats.old (length seats.old) }
+    requires enough { (1 ≤ length seats.old) × (length seats.old ≤ MAX_WORKERS) }
     ensures count { length seats.new ≡ length seats.old }
-    ensures numbers { (n : ℕ) (d : _) → n < length seats.old
-        → (slice_index_or seats.new n d).number ≡ n }
-    ensures finished { All (λ seat. IsFinished audit_rules board.now seat) seats.new }
+    ensures back { AreBack audit_rules board.now seats.new }
 {
     let threads = seats.len();
     thread::for_each_mut(

@@ -1,4 +1,4 @@
-use Rattle.std.proofs.Common.{◌≡◌, ◌∙◌, length, ap, arith}
+use Rattle.std.proofs.Common.{rules, ◌≡◌, ◌∙◌, length, ap}
 use Rattle.std.specs.Arc.{arc_value}
 use Rattle.demand_api.specs.declared.crowd.Crowd.{Crowd}
 use Rattle.demand_tests.proofs.BoardRounds.{free_alone, back_alone}
@@ -11,12 +11,16 @@ start-requires-clause-round g c =
 
 pub drawn_by-requires-clause-free : goal.drawn_by-requires-clause-free
 drawn_by-requires-clause-free g c =
-    let count : length c.in_ok-board.seats.items ≡ 1 = omega (arith, c.in_ok-board.ensures.count, c.in_ok-board.seats.ok.0) in
-    free_alone c.in_ok-board.board c.in_ok-board.seats.items c.pop.new.self.items c.in-Some.seat count c.in-Some.ensures.items c.in_ok-board.ensures.free
+    let count : length c.in_ok-board.seats.items ≡ 1 = c.in_ok-board.ensures.begun.count in
+    free_alone c.in_ok-board.board c.in_ok-board.seats.items c.pop.new.self.items c.in-Some.seat count c.in-Some.ensures.items c.in_ok-board.ensures.begun.free
 
-pub close-requires-clause-all : goal.close-requires-clause-all
-close-requires-clause-all g c =
-    let count : length c.in_ok-board.seats.items ≡ 1 = omega (arith, c.in_ok-board.ensures.count, c.in_ok-board.seats.ok.0) in
-    back_alone (length c.in_ok-board.board.allotments) c.in_ok-board.seats.items c.pop.new.self.items c.in_ok-seats.seats.items c.in-Some.seat
-    c.drawn_by.new.seat count c.in-Some.ensures.items c.in_ok-board.ensures.numbers c.in_ok-board.ensures.allotments c.drawn_by.ensures.number
-    c.in_ok-seats.ensures.items
+pub close-requires : goal.close-requires
+close-requires g c =
+    let count : length c.in_ok-board.seats.items ≡ 1 = c.in_ok-board.ensures.begun.count in
+    record {
+      all =
+          back_alone (length c.in_ok-board.board.allotments) c.in_ok-board.seats.items c.pop.new.self.items c.in_ok-seats.seats.items c.in-Some.seat
+          c.drawn_by.new.seat count c.in-Some.ensures.items c.in_ok-board.ensures.begun.numbers c.in_ok-board.ensures.begun.allotments c.drawn_by.ensures.number
+          c.in_ok-seats.ensures.items;
+      finished = search rules;
+    }
