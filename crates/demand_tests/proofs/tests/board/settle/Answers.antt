@@ -18,9 +18,11 @@ pub close-requires : goal.close-requires
 close-requires g c =
     let count : length c.in_ok-board.seats.items ≡ 1 = c.in_ok-board.ensures.begun.count in
     record {
-      all =
-          back_alone (length c.in_ok-board.board.allotments) c.in_ok-board.seats.items c.pop.new.self.items c.in_ok-seats.seats.items c.in-Some.seat
-          c.drawn_by.new.seat count c.in-Some.ensures.items c.in_ok-board.ensures.begun.numbers c.in_ok-board.ensures.begun.allotments c.drawn_by.ensures.number
-          c.in_ok-seats.ensures.items;
-      finished = search rules;
+      back = record {
+        all =
+            back_alone (length c.in_ok-board.board.allotments) c.in_ok-board.seats.items c.pop.new.self.items c.in_ok-seats.seats.items c.in-Some.seat
+            c.drawn_by.new.seat count c.in-Some.ensures.items c.in_ok-board.ensures.begun.numbers c.in_ok-board.ensures.begun.allotments c.drawn_by.ensures.number
+            c.in_ok-seats.ensures.items;
+        finished = search rules;
+      };
     }
