@@ -4,7 +4,6 @@ pub mod HolderSums
 pub mod HoldersLeave
 pub mod Recalling
 pub mod Rounds
-pub mod Seats
 pub mod Working
 pub mod Noting
 pub mod Listing

@@ -1,8 +1,8 @@
 -- What a round of inquiries asks of its board.
-use Rattle.std.specs.Prelude.{ℕ, Bool, false, None, length, slice_index_or}
+use Rattle.std.specs.Prelude.{ℕ, Bool, None, length, slice_index_or}
 use Rattle.bundle_rules.specs.declared.bundle.Bundle.{Bundle}
 use Rattle.bundle_rules.specs.Bundles.{sections_of}
-use Rattle.task_board.specs.Rules.{Rules, IsLasting}
+use Rattle.task_board.specs.Rules.{Rules, all_asked}
 use Rattle.price_board.specs.Terms.{same_sections}
 use Rattle.demand_workers.specs.declared.inquiry.Inquiry.{Inquiry}
 use Rattle.demand_workers.specs.declared.terms.InquiryTerms.{InquiryTerms}
@@ -20,13 +20,4 @@ is_taken terms task bundle =
 
 -- A task for each inquiry. No task is over before it is posted
 abbrev pub inquiry_rules : Rules InquiryTerms Bundle
-inquiry_rules =
-    record {
-      count = λ terms. length terms.inquiries;
-      is_right = is_taken;
-      is_over = λ terms answers task. false;
-      tally = λ terms answers task. 0;
-    }
-
-pub never_over : IsLasting inquiry_rules
-never_over terms answers task other answer each below none over = over
+inquiry_rules = all_asked (λ terms. length terms.inquiries) is_taken

@@ -1,10 +1,10 @@
 // A round of inquiries over one board.
-ghost use Rattle.std.specs.Prelude.{◌≡◌, ◌≤◌, ◌<◌, ◌^◌, ℕ, All, IfOk, length, slice_index_or};
+ghost use Rattle.std.specs.Prelude.{◌≡◌, ◌≤◌, ◌<◌, ◌^◌, IfOk, length, slice_index_or};
 ghost use Rattle.std.specs.Arc.{arc_value};
-ghost use Rattle.std.specs.Vec.{vec_len};
 ghost use Rattle.bundle_rules.specs.Bundles.{sections_of};
 ghost use Rattle.demand_api.specs.Views.{data_of};
-ghost use Rattle.task_board.specs.{Kept.AreSettled, Seats.IsFinished, Seats.IsFree};
+ghost use Rattle.task_board.specs.{Kept.AreSettled, Seats.AreBack, Seats.HasBegun};
+ghost use Rattle.task_board.specs.Seats.{IsFinished, IsFree};
 ghost use Rattle.demand_workers.specs.Asked.{inquiry_rules, no_inquiry};
 ghost use Rattle.demand_workers.specs.{Found.AreFound, Found.terms_of, Inquiring.taken_at};
 ghost use Rattle.demand_workers.specs.Remembered.{AreRemembered};
@@ -86,11 +86,9 @@ fn answer_and_write<R: Threads + Wait + Sync>(
     requires remembered { AreRemembered (data_of (arc_value inquiries.now.crowd))
         remembered.now.prices.items remembered.now.bundles.items }
     requires board { board.base ≡ terms_of inquiries.now }
-    requires count { (1 ≤ vec_len seats) × (vec_len seats ≤ length workspaces.now)
-        × (length workspaces.now ≤ MAX_WORKERS) × (length board.allotments ≡ vec_len seats) }
-    requires numbers { (n : ℕ) (d : _) → n < vec_len seats
-        → (slice_index_or seats.items n d).number ≡ n }
-    requires free { All (λ seat. IsFree inquiry_rules board seat) seats.items }
+    requires begun { HasBegun inquiry_rules board seats.items (length seats.items) }
+    requires enough { (1 ≤ length seats.items) × (length seats.items ≤ length workspaces.now)
+        × (length workspaces.now ≤ MAX_WORKERS) }
     requires found { length found.old ≡ length inquiries.now.list.items }
     requires few { length found.old < 2 ^ 32 }
     ensures count { length found.new ≡ length found.old }
@@ -123,15 +121,11 @@ fn answer_all<R: Threads + Wait + Sync>(
     requires remembered { AreRemembered (data_of (arc_value inquiries.now.crowd))
         remembered.now.prices.items remembered.now.bundles.items }
     requires board { board.now.base ≡ terms_of inquiries.now }
-    requires count { (1 ≤ length seats.old) × (length seats.old ≤ length workspaces.now)
+    requires begun { HasBegun inquiry_rules board.now seats.old (length seats.old) }
+    requires enough { (1 ≤ length seats.old) × (length seats.old ≤ length workspaces.now)
         × (length workspaces.now ≤ MAX_WORKERS) }
-    requires numbers { (n : ℕ) (d : _) → n < length seats.old
-        → (slice_index_or seats.old n d).number ≡ n }
-    requires free { All (λ seat. IsFree inquiry_rules board.now seat) seats.old }
     ensures count { length seats.new ≡ length seats.old }
-    ensures numbers { (n : ℕ) (d : _) → n < length seats.old
-        → (slice_index_or seats.new n d).number ≡ n }
-    ensures finished { All (λ seat. IsFinished inquiry_rules board.now seat) seats.new }
+    ensures back { AreBack inquiry_rules board.now seats.new }
 {
     let threads = seats.len();
     thread::for_each_mut(

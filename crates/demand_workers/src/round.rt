@@ -1,8 +1,8 @@
 // A round of all workers over one board.
-ghost use Rattle.std.specs.Prelude.{◌≡◌, ◌≤◌, ◌<◌, ℕ, All, IfOk, length, slice_index_or};
+ghost use Rattle.std.specs.Prelude.{◌≡◌, ◌≤◌, ◌<◌, All, IfOk, length};
 ghost use Rattle.std.specs.Arc.{arc_value};
-ghost use Rattle.std.specs.Vec.{vec_len};
-ghost use Rattle.price_board.specs.{Openings.IsAskOf, Seats.IsFree, Seats.IsFinished};
+ghost use Rattle.price_board.specs.Openings.{IsAskOf};
+ghost use Rattle.price_board.specs.Seats.{AreBack, HasBegun, IsFree, IsFinished};
 ghost use Rattle.demand_workers.specs.Remembered.{AreRemembered};
 ghost use Rattle.demand_workers.specs.Rounds.{prices_of, AreVersionsFor, IsBoardOf};
 ghost use Rattle.demand_api.specs.Views.{data_of};
@@ -70,12 +70,8 @@ fn work_and_close<R: Threads + Wait + Sync>(
         remembered.now.bundles.items }
     requires versions { AreVersionsFor (data_of crowd.now) versions.now }
     requires board { IsBoardOf (data_of crowd.now) versions.now board }
-    requires count { (vec_len seats ≡ length workspaces.now) × (1 ≤ length workspaces.now)
-        × (length workspaces.now ≤ MAX_WORKERS) }
-    requires allotments { length board.allotments ≡ vec_len seats }
-    requires numbers { (n : ℕ) (d : _) → n < vec_len seats
-        → (slice_index_or seats.items n d).number ≡ n }
-    requires free { All (λ seat. IsFree board seat) seats.items }
+    requires begun { HasBegun board seats.items (length workspaces.now) }
+    requires enough { (1 ≤ length workspaces.now) × (length workspaces.now ≤ MAX_WORKERS) }
     ensures terms { result.terms ≡ board.base }
 {
     work_all(
@@ -122,15 +118,10 @@ fn work_all<R: Threads + Wait + Sync>(
         remembered.now.bundles.items }
     requires versions { AreVersionsFor (data_of crowd.now) versions.now }
     requires board { IsBoardOf (data_of crowd.now) versions.now board.now }
-    requires count { (length seats.old ≡ length workspaces.now) × (1 ≤ length workspaces.now)
-        × (length workspaces.now ≤ MAX_WORKERS) }
-    requires numbers { (n : ℕ) (d : _) → n < length seats.old
-        → (slice_index_or seats.old n d).number ≡ n }
-    requires free { All (λ seat. IsFree board.now seat) seats.old }
+    requires begun { HasBegun board.now seats.old (length workspaces.now) }
+    requires enough { (1 ≤ length workspaces.now) × (length workspaces.now ≤ MAX_WORKERS) }
     ensures count { length seats.new ≡ length seats.old }
-    ensures numbers { (n : ℕ) (d : _) → n < length seats.old
-        → (slice_index_or seats.new n d).number ≡ n }
-    ensures finished { All (λ seat. IsFinished board.now seat) seats.new }
+    ensures back { AreBack board.now seats.new }
 {
     let threads = seats.len();
     thread::for_each_mut(

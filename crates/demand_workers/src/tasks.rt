@@ -33,7 +33,7 @@ impl InquiryTasks {
 }
 
 impl Tasks for InquiryTasks {
-    ghost use Rattle.demand_workers.specs.Asked.{never_over};
+    ghost use Rattle.task_board.specs.Rules.{never_over};
 
     type Terms = InquiryTerms;
 
@@ -59,5 +59,5 @@ impl Tasks for InquiryTasks {
 
     fn note(&mut self, _marks: &[Mark<Bundle>], _task: u32, _bundle: Bundle) {}
 
-    ghost lasting = { never_over };
+    ghost lasting = { never_over inquiry_rules.count inquiry_rules.is_right };
 }

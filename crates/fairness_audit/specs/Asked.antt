@@ -1,6 +1,6 @@
 -- What an audit asks of its board.
-use Rattle.std.specs.Prelude.{ℕ, Bool, false}
-use Rattle.task_board.specs.Rules.{Rules, IsLasting}
+use Rattle.std.specs.Prelude.{ℕ, Bool}
+use Rattle.task_board.specs.Rules.{Rules, all_asked}
 use Rattle.fairness_audit.specs.declared.row.EnvyRow.{EnvyRow}
 use Rattle.fairness_audit.specs.declared.terms.Terms.{Terms}
 use Rattle.fairness_audit.specs.Allocations.{student_count}
@@ -14,13 +14,4 @@ is_row terms student posted = same_row (row_of posted) (row terms.allocation stu
 
 -- A task for each student: its row. No task is over before it is posted
 abbrev pub audit_rules : Rules Terms EnvyRow
-audit_rules =
-    record {
-      count = λ terms. student_count terms.allocation;
-      is_right = is_row;
-      is_over = λ terms answers task. false;
-      tally = λ terms answers task. 0;
-    }
-
-pub never_over : IsLasting audit_rules
-never_over terms answers task other answer each below none over = over
+audit_rules = all_asked (λ terms. student_count terms.allocation) is_row

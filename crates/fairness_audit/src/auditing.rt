@@ -1,7 +1,7 @@
 // Rows of all students, by workers.
-ghost use Rattle.std.specs.Prelude.{◌≡◌, ◌≤◌, ◌<◌, ℕ, All, IfOk, length, map, slice_index_or};
+ghost use Rattle.std.specs.Prelude.{◌≡◌, ◌≤◌, ◌<◌, ℕ, IfOk, length, map, slice_index_or};
 ghost use Rattle.std.specs.Arc.{arc_value};
-ghost use Rattle.task_board.specs.{Kept.AreSettled, Seats.IsFinished, Seats.IsFree};
+ghost use Rattle.task_board.specs.{Kept.AreSettled, Seats.AreBack, Seats.HasBegun, Seats.IsFree};
 ghost use Rattle.fairness_audit.specs.Allocations.{IsAllocation, allocation_of, student_count};
 ghost use Rattle.fairness_audit.specs.{Asked.audit_rules, Rows.row, Rows.rows, Texts.AreRowsAmong};
 ghost use Rattle.fairness_audit.specs.Views.{row_of};
@@ -68,14 +68,10 @@ fn work_all<R: Threads + Wait + Sync, G: Gate + Sync>(
 )
     requires board { board.now.base.allocation
         ≡ allocation_of allocated.now.crowd.now allocated.now.bundles.now }
-    requires count { (1 ≤ length seats.old) × (length seats.old ≤ MAX_WORKERS) }
-    requires numbers { (n : ℕ) (d : _) → n < length seats.old
-        → (slice_index_or seats.old n d).number ≡ n }
-    requires free { All (λ seat. IsFree audit_rules board.now seat) seats.old }
+    requires begun { HasBegun audit_rules board.now seats.old (length seats.old) }
+    requires enough { (1 ≤ length seats.old) × (length seats.old ≤ MAX_WORKERS) }
     ensures count { length seats.new ≡ length seats.old }
-    ensures numbers { (n : ℕ) (d : _) → n < length seats.old
-        → (slice_index_or seats.new n d).number ≡ n }
-    ensures finished { All (λ seat. IsFinished audit_rules board.now seat) seats.new }
+    ensures back { AreBack audit_rules board.now seats.new }
 {
     let threads = seats.len();
     thread::for_each_mut(

@@ -36,7 +36,7 @@ impl AuditTasks {
 }
 
 impl Tasks for AuditTasks {
-    ghost use Rattle.fairness_audit.specs.Asked.{never_over};
+    ghost use Rattle.task_board.specs.Rules.{never_over};
 
     type Terms = Terms;
 
@@ -62,5 +62,5 @@ impl Tasks for AuditTasks {
 
     fn note(&mut self, _marks: &[Mark<EnvyRow>], _task: u32, _row: EnvyRow) {}
 
-    ghost lasting = { never_over };
+    ghost lasting = { never_over audit_rules.count audit_rules.is_right };
 }

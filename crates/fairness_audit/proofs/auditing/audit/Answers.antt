@@ -1,17 +1,17 @@
-use Rattle.std.proofs.Common.{◌≡◌, ◌≤◌, ◌+◌, ◌∙◌, ℕ, All, length, map, ap, sym, subst, arith, vec_len}
+use Rattle.std.proofs.Common.{◌≡◌, ◌≤◌, ◌+◌, ◌∙◌, ℕ, length, map, ap, sym, subst, arith, vec_len}
 use Rattle.std.specs.Arc.{arc_value}
 use Rattle.std.specs.List.{range_with_len}
 use Rattle.demand_api.specs.declared.crowd.Crowd.{Crowd}
 use Rattle.demand_api.proofs.Parts.{menus_few, students_length}
 use Rattle.demand_api.proofs.Takers.{lent_back}
-use Rattle.task_board.specs.Seats.{IsFinished}
+use Rattle.task_board.specs.Seats.{AreBack}
 use Rattle.fairness_audit.specs.declared.terms.Terms.{Terms}
 use Rattle.fairness_audit.specs.Allocations.{Allocation, allocation_of, student_count}
 use Rattle.fairness_audit.specs.Asked.{audit_rules}
 use Rattle.fairness_audit.specs.Rows.{row, rows}
 use Rattle.fairness_audit.specs.Texts.{AreRowsAmong}
 use Rattle.fairness_audit.specs.Views.{row_of}
-use Rattle.fairness_audit.proofs.Listing.{every_number, listed}
+use Rattle.fairness_audit.proofs.Listing.{listed}
 use Rattle.fairness_audit.proofs.Naming.{rows_among}
 use Rattle.fairness_audit.proofs.auditing.audit.Goals as goal
 
@@ -19,18 +19,12 @@ use Rattle.fairness_audit.proofs.auditing.audit.Goals as goal
 counted : (n : ℕ) (crowd seen : Crowd) → n ≡ vec_len seen.menus → seen ≡ crowd → n ≡ length crowd.menus.items
 counted n crowd seen is same = is ∙ ap (λ (x : Crowd). vec_len x.menus) same ∙ crowd.menus.ok.0
 
-pub close-answers-requires-clause-all : goal.close-answers-requires-clause-all
-close-answers-requires-clause-all g c =
-    every_number _ c.in_ok-board.seats.len c.as_mut_slice.result.now c.work_all.new.seats c.in_ok-board.seats.items
-    (c.as_mut_slice.ensures.len ∙ c.in_ok-board.ensures.count ∙ sym c.in_ok-board.ensures.allotments) (sym c.as_mut_slice.ensures.len)
-    c.work_all.ensures.count c.work_all.ensures.numbers
-
-pub close-answers-requires-clause-finished : goal.close-answers-requires-clause-finished
-close-answers-requires-clause-finished g c =
-    subst (All (λ seat. IsFinished audit_rules c.in_ok-board.board seat))
+pub close-answers-requires-clause-back : goal.close-answers-requires-clause-back
+close-answers-requires-clause-back g c =
+    subst (AreBack audit_rules c.in_ok-board.board)
     (sym
     (lent_back c.in_ok-board.seats.len c.work_all.new.seats c.in_ok-board.seats.items (sym (c.work_all.ensures.count ∙ c.as_mut_slice.ensures.len))))
-    c.work_all.ensures.finished
+    c.work_all.ensures.back
 
 pub write_rows-requires-clause-count : goal.write_rows-requires-clause-count
 write_rows-requires-clause-count g c =
