@@ -1,5 +1,5 @@
 -- What is remembered, at other prices.
-use Rattle.std.proofs.Common.{ℕ, suc, Bool, ◌≡◌, ◌<◌, ◌≤◌, ◌==◌, ◌∙◌, ◌++◌, List, [], ◌∷◌, Vec, Global, All, length, take, drop, slice_index_or, refl, ap, sym, subst, arith, inl, inr}
+use Rattle.std.proofs.Common.{ℕ, suc, Bool, ◌≡◌, ◌<◌, ◌≤◌, ◌==◌, ◌∙◌, List, [], ◌∷◌, All, length, slice_index_or, refl, ap, sym, subst, arith, inl, inr}
 use Rattle.std.specs.Prelude.{nat_lt}
 use Rattle.std.proofs.lemmas.Bool.{cases_Bool}
 use Rattle.std.proofs.lemmas.Bool.Decides.{nat_tests}
@@ -20,9 +20,7 @@ use Rattle.demand_api.specs.Views.{data_of}
 use Rattle.demand_api.proofs.Halving.{price_at}
 use Rattle.demand_api.proofs.Keeping.{best_stays}
 use Rattle.demand_api.proofs.Parts.{menus_within, top_high}
-use Rattle.demand_api.proofs.Takers.{demand_at, found_demand, lent_back, sections_low}
-use Rattle.demand_workers.specs.Remembered.{AreRemembered, AreTaken}
-use Rattle.demand_workers.specs.Rounds.{prices_of, AreVersionsFor}
+use Rattle.demand_api.proofs.Takers.{demand_at, found_demand, sections_low}
 
 -- a rated section is at one of the places
 pub rated_no_cheaper : (places : List Rated) (before after : ℕ → ℕ) → All (λ (rated : Rated). before rated.section.0 ≤ after rated.section.0) places → (s : ℕ)
@@ -79,12 +77,8 @@ places_low crowd n i menu size low is =
     let P : ℕ → Type 0 = λ m. All (λ (rated : Rated). rated.section.0 < m) menu.places in
     subst P (sym size) within
 
--- the same of the one version of a round
-pub remembered_once : (crowd asked : CrowdData) (prices : List Tokens) (version : Vec Tokens Global) (versions : List (List Tokens)) (len : ℕ)
-    (new old : List Bundle)
-    → len ≡ length new → asked ≡ crowd → versions ≡ prices_of (version ∷ []) → version.items ≡ prices
-    → AreTaken asked (slice_index_or versions 0 []) new → AreTaken crowd prices (take len (new ++ drop (length new) old))
-remembered_once crowd asked prices version versions len new old whole same listed copied taken =
-    let read : slice_index_or versions 0 [] ≡ prices = ap (λ l. slice_index_or l 0 []) listed ∙ copied in
-    subst (λ (bundles : List Bundle). AreTaken crowd prices bundles) (sym (lent_back len new old whole))
-    (subst (λ (p : List Tokens). AreTaken crowd p new) read (subst (λ (c : CrowdData). AreTaken c (slice_index_or versions 0 []) new) same taken))
+-- the sections of a student's menu are below the number of sections
+pub on_menu : (crowd : Crowd) (i n : ℕ) (menu : MenuData) (places : List Rated) → i < length crowd.menus.items → menu ≡ slice_index_or crowd.menus.items i menu
+    → places ≡ menu.places → n ≡ crowd.sections → All (λ (rated : Rated). rated.section.0 < n) places
+on_menu crowd i n menu places low there is wide =
+    subst (All (λ (rated : Rated). rated.section.0 < n)) (sym is) (places_low crowd n i menu wide low there)

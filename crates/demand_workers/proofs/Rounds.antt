@@ -1,7 +1,6 @@
 -- A round and the seats of its board.
-use Rattle.std.proofs.Common.{ℕ, ◌≡◌, ◌<◌, ◌≤◌, ◌∙◌, List, [], Vec, Global, All, length, slice_index_or, ap, sym, subst, arith}
+use Rattle.std.proofs.Common.{ℕ, zero, suc, ◌≡◌, ◌<◌, ◌≤◌, ◌∙◌, List, [], ◌∷◌, Vec, Global, All, length, slice_index_or, refl, ap, sym, subst, arith}
 use Rattle.std.proofs.lemmas.List.{get_or-map, length-map}
-use Rattle.std.proofs.lemmas.List.Elements.{All-map}
 use Rattle.market_units.specs.declared.units.Tokens.{Tokens}
 use Rattle.demand_api.specs.declared.crowd.Crowd.{Crowd}
 use Rattle.demand_api.specs.Crowds.{CrowdData, top}
@@ -12,29 +11,28 @@ use Rattle.price_board.specs.declared.round.Ask.{Ask}
 use Rattle.price_board.specs.Openings.{IsAskOf, IsRound}
 use Rattle.demand_workers.specs.Rounds.{prices_of, AreVersionsFor}
 
--- versions for a crowd, and as many asks, are a round of it
-pub versions_are_round : (crowd : Crowd) (versions copies : List (Vec Tokens Global)) (asks : List Ask)
-    → AreVersionsFor (data_of crowd) versions
-    → 1 ≤ length versions → length versions ≤ 16 → length asks ≡ length versions → All (IsAskOf crowd.sections) asks → prices_of copies ≡ prices_of versions
-    → IsRound (record { crowd = data_of crowd; versions = prices_of copies; asks = asks })
-versions_are_round crowd versions copies asks are some few many among same =
-    let count : length (prices_of copies) ≡ length versions = ap length same ∙ length-map versions (λ (version : Vec Tokens Global). version.items) in
+-- prices for a crowd, and what is asked at them, are a round of it
+pub one_is_round : (crowd : Crowd) (prices : List Tokens) (ask : Ask) → ArePricesFor (data_of crowd) prices → IsAskOf crowd.sections ask
+    → IsRound (record { crowd = data_of crowd; versions = prices ∷ []; asks = ask ∷ [] })
+one_is_round crowd prices ask are its =
     let most : top (data_of crowd) ≤ 1000001 = top_high crowd in
     record {
-      some = (let goal : 1 ≤ length (prices_of copies) = omega arith in goal);
-      few = (let goal : length (prices_of copies) ≤ 16 = omega arith in goal);
-      prices = subst (All (AreSectionPrices crowd.sections)) (sym same)
-          (All-map (AreSectionPrices crowd.sections) (λ (version : Vec Tokens Global). version.items) versions (λ k d low. record {
-            same = (are k d low).same;
+      some = (let goal : 1 ≤ 1 = omega arith in goal);
+      few = (let goal : 1 ≤ 16 = omega arith in goal);
+      prices = only (AreSectionPrices crowd.sections) prices
+          (record {
+            same = are.same;
             high =
-                λ i e below. (let h : (slice_index_or (slice_index_or versions k d).items i e).0
-                ≤ top (data_of crowd) = (are k d low).high i e below in let goal :
-                (slice_index_or (slice_index_or versions k d).items i e).0
-                ≤ 1000001 = omega arith in goal);
-          }));
-      asks = many ∙ sym count;
-      sections = among;
+                λ i e below. (let h : (slice_index_or prices i e).0 ≤ top (data_of crowd) = are.high i e below in
+                let goal : (slice_index_or prices i e).0 ≤ 1000001 = omega arith in goal);
+          });
+      asks = refl;
+      sections = only (IsAskOf crowd.sections) ask its;
     }
+  where
+    only : {A : Type 0} (P : A → Type 0) (x : A) → P x → All P (x ∷ [])
+    only P x is zero d low = is
+    only P x is (suc k) d low = absurd (omega (arith, low))
 
 -- copies of versions are versions
 pub copies_priced : (crowd : CrowdData) (versions copies : List (Vec Tokens Global)) → prices_of copies ≡ prices_of versions → AreVersionsFor crowd versions

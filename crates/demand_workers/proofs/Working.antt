@@ -1,6 +1,5 @@
 -- What a worker finds for a task.
-use Rattle.std.proofs.Common.{ℕ, ◌≡◌, ◌<◌, ◌∙◌, List, [], Vec, Global, length, slice_index_or, ap, sym}
-use Rattle.std.proofs.lemmas.List.{get_or-map, length-map}
+use Rattle.std.proofs.Common.{ℕ, ◌≡◌, ◌<◌, ◌∙◌, List, [], ◌∷◌, length, slice_index_or, ap, sym, arith}
 use Rattle.market_units.specs.declared.units.Tokens.{Tokens}
 use Rattle.bundle_rules.specs.Demand.{price_in}
 use Rattle.demand_api.specs.declared.crowd.Crowd.{Crowd}
@@ -11,23 +10,22 @@ use Rattle.price_board.specs.Seats.{RoundBoard}
 use Rattle.price_board.specs.Terms.{version_count, student_count, prices_of, demand_of}
 use Rattle.demand_workers.specs.Rounds.{IsBoardOf}
 
--- as many versions as the board has
-pub versions_there : (crowd : CrowdData) (versions : List (Vec Tokens Global)) (board : RoundBoard) → IsBoardOf crowd versions board
-    → version_count board.base ≡ length versions
-versions_there crowd versions board is = ap length is.its_versions ∙ length-map versions (λ (version : Vec Tokens Global). version.items)
+-- the board has one version
+pub one_version : (crowd : CrowdData) (prices : List Tokens) (board : RoundBoard) → IsBoardOf crowd prices board → version_count board.base ≡ 1
+one_version crowd prices board is = ap length is.its_prices
 
--- as many students
-pub students_there : (crowd : Crowd) (versions : List (Vec Tokens Global)) (board : RoundBoard)
-    → IsBoardOf (data_of crowd) versions board → student_count board.base ≡ length crowd.menus.items
-students_there crowd versions board is = ap (λ (c : CrowdData). length c.students) is.its_crowd ∙ students_length crowd
+-- as many students as the crowd
+pub students_there : (crowd : Crowd) (prices : List Tokens) (board : RoundBoard)
+    → IsBoardOf (data_of crowd) prices board → student_count board.base ≡ length crowd.menus.items
+students_there crowd prices board is = ap (λ (c : CrowdData). length c.students) is.its_crowd ∙ students_length crowd
 
--- what the student takes at the version's prices is what is to be posted
-pub right_bundle : (crowd : CrowdData) (versions : List (Vec Tokens Global)) (board : RoundBoard) (v s : ℕ) (version : Vec Tokens Global)
-    (bundle : List ℕ)
-    → IsBoardOf crowd versions board → v < length versions
-    → version ≡ slice_index_or versions v version → bundle ≡ crowd_demand crowd (price_in version.items) s → bundle ≡ demand_of board.base v s
-right_bundle crowd versions board v s version bundle is low here told =
-    let listed : slice_index_or board.base.versions v [] ≡ version.items =
-    ap (λ l. slice_index_or l v []) is.its_versions ∙ get_or-map (λ (w : Vec Tokens Global). w.items) versions v version [] low
-    ∙ ap (λ (w : Vec Tokens Global). w.items) (sym here) in
+-- what the student takes at the prices is what is to be posted
+pub right_bundle : (crowd : CrowdData) (prices : List Tokens) (board : RoundBoard) (v s : ℕ) (bundle : List ℕ)
+    → IsBoardOf crowd prices board → v < version_count board.base → bundle ≡ crowd_demand crowd (price_in prices) s → bundle ≡ demand_of board.base v s
+right_bundle crowd prices board v s bundle is low told =
+    let n : ℕ = version_count board.base in
+    let count : n ≡ 1 = one_version crowd prices board is in
+    let first : v ≡ 0 = omega (arith, count, low) in
+    let listed : slice_index_or board.base.versions v [] ≡ prices =
+    ap (λ l. slice_index_or l v []) is.its_prices ∙ ap (λ k. slice_index_or (prices ∷ []) k []) first in
     told ∙ ap (λ p. crowd_demand crowd (price_in p) s) (sym listed) ∙ ap (λ c. crowd_demand c (prices_of board.base v) s) (sym is.its_crowd)

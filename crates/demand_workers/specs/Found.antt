@@ -3,18 +3,18 @@ use Rattle.std.specs.Prelude.{ℕ, ◌≡◌, ◌<◌, List, length, slice_index
 use Rattle.std.specs.Arc.{arc_value}
 use Rattle.bundle_rules.specs.declared.bundle.Bundle.{Bundle}
 use Rattle.bundle_rules.specs.Bundles.{sections_of}
-use Rattle.demand_api.specs.Views.{data_of}
 use Rattle.demand_workers.specs.declared.inquiry.Inquiries.{Inquiries}
 use Rattle.demand_workers.specs.declared.terms.InquiryTerms.{InquiryTerms}
 use Rattle.demand_workers.specs.Asked.{no_inquiry}
 use Rattle.demand_workers.specs.Inquiring.{taken_at}
 use Rattle.demand_workers.specs.Rounds.{prices_of}
+use Rattle.demand_workers.specs.Views.{crowd_of}
 
 -- inquiries as plain data
 abbrev pub terms_of : Inquiries → InquiryTerms
 terms_of inquiries =
     record {
-      crowd = data_of (arc_value inquiries.crowd);
+      crowd = crowd_of (arc_value inquiries.remembered);
       versions = prices_of inquiries.versions.items;
       inquiries = inquiries.list.items;
     }

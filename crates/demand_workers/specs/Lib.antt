@@ -1,9 +1,12 @@
+pub mod Answering
 pub mod Asked
 pub mod Found
 pub mod Inquiring
 pub mod Leaving
+pub mod Notes
 pub mod Remembered
 pub mod Rounds
-pub mod Notes
+pub mod Surveyed
 pub mod Surveys
+pub mod Views
 pub mod Walks

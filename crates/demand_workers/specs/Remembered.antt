@@ -13,13 +13,6 @@ AreTaken crowd prices bundles =
     (student : ℕ) (d : Bundle) → student < length bundles
     → sections_of (slice_index_or bundles student d) ≡ demand_of crowd (price_in prices) student
 
--- bundles of the first students that they take at these prices, and if there is one, a price for
--- each section
-pub record AreRemembered (crowd : CrowdData) (prices : List Tokens)
-    (bundles : List Bundle) : Type 0 where
-  pub sized : 0 < length bundles → length prices ≡ crowd.sections
-  pub taken : AreTaken crowd prices bundles
-
 -- no section at these places became cheaper
 abbrev pub NoneIsCheaper : List Rated → List Tokens → List Tokens → Type 0
 NoneIsCheaper places before after =

@@ -1,5 +1,5 @@
 -- What the workers of a round are given.
-use Rattle.std.specs.Prelude.{◌≡◌, List, All, map}
+use Rattle.std.specs.Prelude.{◌≡◌, List, [], ◌∷◌, All, map}
 use Rattle.std.proofs.Common.{Vec, Global}
 use Rattle.market_units.specs.declared.units.Tokens.{Tokens}
 use Rattle.demand_api.specs.Crowds.{CrowdData}
@@ -15,8 +15,7 @@ abbrev pub AreVersionsFor : CrowdData → List (Vec Tokens Global) → Type 0
 AreVersionsFor crowd versions =
     All (λ (version : Vec Tokens Global). ArePricesFor crowd version.items) versions
 
--- the board's tasks are what each student of the crowd takes at each version
-pub record IsBoardOf (crowd : CrowdData) (versions : List (Vec Tokens Global))
-    (board : RoundBoard) : Type 0 where
+-- the board's tasks are what each student of the crowd takes at these prices
+pub record IsBoardOf (crowd : CrowdData) (prices : List Tokens) (board : RoundBoard) : Type 0 where
   pub its_crowd : board.base.crowd ≡ crowd
-  pub its_versions : board.base.versions ≡ prices_of versions
+  pub its_prices : board.base.versions ≡ prices ∷ []

@@ -2,17 +2,15 @@
 ghost use Rattle.std.specs.Prelude.{◌≡◌, ◌≤◌, ◌<◌, ◌^◌, IfOk, length, slice_index_or};
 ghost use Rattle.std.specs.Arc.{arc_value};
 ghost use Rattle.bundle_rules.specs.Bundles.{sections_of};
-ghost use Rattle.demand_api.specs.Views.{data_of};
 ghost use Rattle.task_board.specs.{Kept.AreSettled, Seats.AreBack, Seats.HasBegun};
 ghost use Rattle.task_board.specs.Seats.{IsFinished, IsFree};
 ghost use Rattle.demand_workers.specs.Asked.{inquiry_rules, no_inquiry};
 ghost use Rattle.demand_workers.specs.{Found.AreFound, Found.terms_of, Inquiring.taken_at};
-ghost use Rattle.demand_workers.specs.Remembered.{AreRemembered};
 
 use crate::asker::answer_drawn;
+use crate::found::Found;
 use crate::inquiry::Inquiries;
 use crate::pool::Pool;
-use crate::remembered::Remembered;
 use crate::tasks::InquiryTasks;
 use bundle_rules::Bundle;
 use demand_oracle::Workspace;
@@ -27,37 +25,34 @@ use task_board::{Answers, Board, BoardSeat};
 // Fewer inquiries are not worth the start of a thread, unless each student is asked.
 const WORTHWHILE: usize = 64;
 
-/// What the students of these inquiries take, in their order, found by the workers of a pool, or by
-/// its first alone, in the caller's thread, where the inquiries are few. All memory is taken before
-/// the first worker starts, and the only error is that it was not given.
+/// What the students of these inquiries take, found by the workers of a pool, or by its first
+/// alone, in the caller's thread, where the inquiries are few. All memory is taken before the first
+/// worker starts, and the only error is that it was not given.
 pub(crate) fn ask<R: Threads + Wait + Sync>(
     rt: &R,
     alloc: Global,
     pool: &Pool,
     gate: &(dyn Gate + Sync),
-    remembered: &Remembered,
-    inquiries: &Arc<Inquiries>,
-) -> Result<Vec<Bundle>, NoMemory>
-    requires remembered { AreRemembered (data_of (arc_value (arc_value inquiries.now).crowd))
-        remembered.now.prices.items remembered.now.bundles.items }
-    ensures { IfOk result (λ found. AreFound (terms_of (arc_value inquiries.now)) found.items) }
+    inquiries: Inquiries,
+) -> Result<Found, NoMemory>
+    ensures { IfOk result (λ found. arc_value found.inquiries ≡ inquiries) }
 {
+    let inquiries = Arc::new(alloc, inquiries)?;
     let asked = inquiries.list.len();
-    let workers = workers_for(asked, inquiries.crowd.menus.len(), pool.workers);
-    let mut found = vec![in alloc; Bundle::empty(); asked]?;
-    let tasks = InquiryTasks::of(Arc::try_clone(inquiries)?)?;
+    let workers = workers_for(asked, inquiries.remembered.bundles.len(), pool.workers);
+    let mut bundles = vec![in alloc; Bundle::empty(); asked]?;
+    let tasks = InquiryTasks::of(Arc::try_clone(&inquiries)?)?;
     let (board, seats) = Board::start(alloc, tasks, workers)?;
     answer_and_write(
         rt,
         board,
         seats,
         pool.workspaces(),
-        remembered,
-        inquiries,
-        &mut found,
+        &inquiries,
+        &mut bundles,
         gate,
     );
-    Ok(found)
+    Ok(Found { inquiries, bundles })
 }
 
 // How many of so many workers so many inquiries are worth, in a crowd of so many students.
@@ -78,28 +73,23 @@ fn answer_and_write<R: Threads + Wait + Sync>(
     board: Board<InquiryTasks>,
     mut seats: Vec<BoardSeat<InquiryTasks>>,
     workspaces: &[Mutex<Workspace>],
-    remembered: &Remembered,
     inquiries: &Inquiries,
     found: &mut [Bundle],
     gate: &(dyn Gate + Sync),
 )
-    requires remembered { AreRemembered (data_of (arc_value inquiries.now.crowd))
-        remembered.now.prices.items remembered.now.bundles.items }
     requires board { board.base ≡ terms_of inquiries.now }
     requires begun { HasBegun inquiry_rules board seats.items (length seats.items) }
     requires enough { (1 ≤ length seats.items) × (length seats.items ≤ length workspaces.now)
         × (length workspaces.now ≤ MAX_WORKERS) }
     requires found { length found.old ≡ length inquiries.now.list.items }
-    requires few { length found.old < 2 ^ 32 }
-    ensures count { length found.new ≡ length found.old }
-    ensures found { AreFound (terms_of inquiries.now) found.new }
+    requires few { length inquiries.now.list.items < 2 ^ 32 }
+    ensures { AreFound (terms_of inquiries.now) found.new }
 {
     answer_all(
         rt,
         &board,
         seats.as_mut_slice(),
         workspaces,
-        remembered,
         inquiries,
         gate,
     );
@@ -114,12 +104,9 @@ fn answer_all<R: Threads + Wait + Sync>(
     board: &Board<InquiryTasks>,
     seats: &mut [BoardSeat<InquiryTasks>],
     workspaces: &[Mutex<Workspace>],
-    remembered: &Remembered,
     inquiries: &Inquiries,
     gate: &(dyn Gate + Sync),
 )
-    requires remembered { AreRemembered (data_of (arc_value inquiries.now.crowd))
-        remembered.now.prices.items remembered.now.bundles.items }
     requires board { board.now.base ≡ terms_of inquiries.now }
     requires begun { HasBegun inquiry_rules board.now seats.old (length seats.old) }
     requires enough { (1 ≤ length seats.old) × (length seats.old ≤ length workspaces.now)
@@ -135,12 +122,10 @@ fn answer_all<R: Threads + Wait + Sync>(
         &|n, seat|
             requires { (n < length workspaces.now) × (seat.now.number < MAX_WORKERS)
                 × IsFree inquiry_rules board.now seat.now
-                × AreRemembered (data_of (arc_value inquiries.now.crowd))
-                remembered.now.prices.items remembered.now.bundles.items
                 × (board.now.base ≡ terms_of inquiries.now) }
             ensures { IsFinished inquiry_rules board.entry.now seat.exit.now
                 × (seat.exit.now.number ≡ seat.entry.now.number) }
-        { answer_drawn(rt, board, seat, &workspaces[n], remembered, inquiries, gate) },
+        { answer_drawn(rt, board, seat, &workspaces[n], inquiries, gate) },
     );
 }
 
@@ -148,9 +133,8 @@ fn answer_all<R: Threads + Wait + Sync>(
 fn write_found(answers: &Answers<InquiryTasks>, found: &mut [Bundle])
     requires settled { AreSettled inquiry_rules answers.now.terms answers.now.marks }
     requires count { length found.old ≡ length answers.now.terms.inquiries }
-    requires few { length found.old < 2 ^ 32 }
-    ensures count { length found.new ≡ length found.old }
-    ensures found { AreFound answers.now.terms found.new }
+    requires few { length answers.now.terms.inquiries < 2 ^ 32 }
+    ensures { AreFound answers.now.terms found.new }
 {
     'inquiries: for place in 0..found.len() {
         found[place] = posted(answers, place as u32);

@@ -1,16 +1,16 @@
 // Walks to least prices, of which something is known before they are gone.
 ghost use Rattle.std.specs.Prelude.{◌≡◌, ◌<◌, ℕ, All, IfOk, [], ◌∷◌, length, slice_index_or};
+ghost use Rattle.std.specs.Arc.{arc_value};
 ghost use Rattle.bundle_rules.specs.Bundles.{sections_of};
-ghost use Rattle.demand_api.specs.{Asking.ArePricesFor, Views.data_of};
 ghost use Rattle.demand_workers.specs.{Asked.no_inquiry, Inquiring.IsInquiry, Inquiring.taken_at};
-ghost use Rattle.demand_workers.specs.{Notes.IsTold, Remembered.AreRemembered, Walks.IsForeseen};
+ghost use Rattle.demand_workers.specs.{Notes.IsTold, Views.crowd_of, Walks.IsForeseen};
 
 use crate::inquiry::Inquiry;
 use crate::leaving::{Holder, Note, holder_of, holders_of};
+use crate::question::Question;
 use crate::remembered::Remembered;
 use crate::trial::{ROOM, raised_prices};
 use bundle_rules::Bundle;
-use demand_api::Crowd;
 use market_units::{MAX_PRICE, NoMemory, SectionNo, StudentNo, Tokens};
 use std::alloc::Global;
 use std::collections::BinaryHeap;
@@ -28,14 +28,14 @@ pub(crate) struct Foreseen {
 
 /// What was answered on the walk at this place, if it is one of the section, or nothing.
 pub(crate) fn answers_at<'w>(
-    _crowd: &Crowd,
-    _prices: &[Tokens],
+    _remembered: &Remembered,
     walks: &'w [Foreseen],
     place: usize,
     section: SectionNo,
 ) -> &'w [Note]
-    requires { All (IsForeseen (data_of _crowd.now) _prices.now) walks.now }
-    ensures { All (IsTold (data_of _crowd.now) _prices.now section.0) result.now }
+    requires { All (IsForeseen _remembered.now) walks.now }
+    ensures { All (IsTold (crowd_of _remembered.now) _remembered.now.prices.items section.0)
+        result.now }
 {
     match walks.get(place) {
         Some(walk) if walk.section == section => &walk.answered,
@@ -48,21 +48,15 @@ pub(crate) fn answers_at<'w>(
 pub(crate) fn walks_of(
     alloc: Global,
     remembered: &Remembered,
-    crowd: &Crowd,
     pairs: &[(SectionNo, u32)],
 ) -> Result<Vec<Foreseen>, NoMemory>
-    requires remembered { AreRemembered (data_of crowd.now) remembered.now.prices.items
-        remembered.now.bundles.items }
-    requires all { length remembered.now.bundles.items ≡ length crowd.now.menus.items }
-    requires prices { ArePricesFor (data_of crowd.now) remembered.now.prices.items }
-    requires sections { All (λ pair. pair.0.0 < crowd.now.sections) pairs.now }
+    requires { All (λ pair. pair.0.0 < (arc_value remembered.now.crowd).sections) pairs.now }
     ensures { IfOk result
-        (λ walks. All (IsForeseen (data_of crowd.now) remembered.now.prices.items)
-        walks.items) }
+        (λ walks. All (IsForeseen remembered.now) walks.items) }
 {
     let mut walks = Vec::with_capacity(alloc, pairs.len())?;
     for (section, limit) in pairs {
-        let holders = holders_of(alloc, remembered, crowd, *section)?;
+        let holders = holders_of(alloc, remembered, *section)?;
         walks.push(Foreseen {
             section: *section,
             limit: *limit,
@@ -78,20 +72,19 @@ pub(crate) fn walks_of(
 /// was not given.
 pub(crate) fn next_of_all(
     alloc: Global,
-    crowd: &Crowd,
-    _prices: &[Tokens],
+    remembered: &Remembered,
     walks: &mut [Foreseen],
 ) -> Result<Vec<Inquiry>, NoMemory>
-    requires walks { All (IsForeseen (data_of crowd.now) _prices.now) walks.old }
+    requires walks { All (IsForeseen remembered.now) walks.old }
     ensures count { IfOk result (λ inquiries. length walks.new ≡ length walks.old) }
     ensures walks { IfOk result
-        (λ inquiries. All (IsForeseen (data_of crowd.now) _prices.now) walks.new) }
+        (λ inquiries. All (IsForeseen remembered.now) walks.new) }
     ensures inquiries { IfOk result
-        (λ inquiries. All (IsInquiry (data_of crowd.now) 1) inquiries.items) }
+        (λ inquiries. All (IsInquiry (crowd_of remembered.now) 1) inquiries.items) }
 {
     let mut inquiries = Vec::new(alloc);
     for place in 0..walks.len() {
-        add_next(crowd, _prices, &mut walks[place], &mut inquiries)?;
+        add_next(remembered, &mut walks[place], &mut inquiries)?;
     }
     Ok(inquiries)
 }
@@ -100,16 +93,15 @@ pub(crate) fn next_of_all(
 // too many, what it takes at the price from which it does not keep what it holds. None of them can
 // be left out: while one of them stays, a later one would have to leave in its place.
 fn add_next(
-    _crowd: &Crowd,
-    _prices: &[Tokens],
+    _remembered: &Remembered,
     walk: &mut Foreseen,
     inquiries: &mut Vec<Inquiry>,
 ) -> Result<(), NoMemory>
-    requires walk { IsForeseen (data_of _crowd.now) _prices.now walk.old }
-    requires inquiries { All (IsInquiry (data_of _crowd.now) 1) inquiries.old.items }
-    ensures walk { IfOk result (λ done. IsForeseen (data_of _crowd.now) _prices.now walk.new) }
+    requires walk { IsForeseen _remembered.now walk.old }
+    requires inquiries { All (IsInquiry (crowd_of _remembered.now) 1) inquiries.old.items }
+    ensures walk { IfOk result (λ done. IsForeseen _remembered.now walk.new) }
     ensures inquiries { IfOk result
-        (λ done. All (IsInquiry (data_of _crowd.now) 1) inquiries.new.items) }
+        (λ done. All (IsInquiry (crowd_of _remembered.now) 1) inquiries.new.items) }
 {
     walk.waiting = walk.holders.len().saturating_sub(walk.limit as usize);
     for _ in 0..walk.waiting {
@@ -128,22 +120,20 @@ fn add_next(
 /// Gives the answers to their walks, those of the first walk first. The only error is that memory
 /// was not given.
 pub(crate) fn take_answers(
-    crowd: &Crowd,
-    prices: &[Tokens],
+    remembered: &Remembered,
     walks: &mut [Foreseen],
     inquiries: &[Inquiry],
     bundles: &[Bundle],
 ) -> Result<(), NoMemory>
-    requires prices { ArePricesFor (data_of crowd.now) prices.now }
-    requires walks { All (IsForeseen (data_of crowd.now) prices.now) walks.old }
-    requires inquiries { All (IsInquiry (data_of crowd.now) 1) inquiries.now }
+    requires walks { All (IsForeseen remembered.now) walks.old }
+    requires inquiries { All (IsInquiry (crowd_of remembered.now) 1) inquiries.now }
     requires each { length bundles.now ≡ length inquiries.now }
     requires found { (k : ℕ) (d : Bundle) → k < length bundles.now
         → sections_of (slice_index_or bundles.now k d)
-        ≡ taken_at (data_of crowd.now) (prices.now ∷ [])
+        ≡ taken_at (crowd_of remembered.now) (remembered.now.prices.items ∷ [])
         (slice_index_or inquiries.now k no_inquiry) }
     ensures count { IfOk result (λ done. length walks.new ≡ length walks.old) }
-    ensures walks { IfOk result (λ done. All (IsForeseen (data_of crowd.now) prices.now) walks.new) }
+    ensures walks { IfOk result (λ done. All (IsForeseen remembered.now) walks.new) }
 {
     let mut next = 0;
     for place in 0..walks.len() {
@@ -152,8 +142,7 @@ pub(crate) fn take_answers(
                 return Ok(());
             }
             take_answer(
-                crowd,
-                prices,
+                remembered,
                 &mut walks[place],
                 inquiries[next],
                 bundles[next],
@@ -167,17 +156,16 @@ pub(crate) fn take_answers(
 // Gives a walk an answer: who still takes the section holds it up to another price. An inquiry that
 // is not the walk's tells it nothing.
 fn take_answer(
-    crowd: &Crowd,
-    prices: &[Tokens],
+    remembered: &Remembered,
     walk: &mut Foreseen,
     inquiry: Inquiry,
     bundle: Bundle,
 ) -> Result<(), NoMemory>
-    requires prices { ArePricesFor (data_of crowd.now) prices.now }
-    requires walk { IsForeseen (data_of crowd.now) prices.now walk.old }
-    requires inquiry { IsInquiry (data_of crowd.now) 1 inquiry }
-    requires found { sections_of bundle ≡ taken_at (data_of crowd.now) (prices.now ∷ []) inquiry }
-    ensures { IfOk result (λ done. IsForeseen (data_of crowd.now) prices.now walk.new) }
+    requires walk { IsForeseen remembered.now walk.old }
+    requires inquiry { IsInquiry (crowd_of remembered.now) 1 inquiry }
+    requires found { sections_of bundle
+        ≡ taken_at (crowd_of remembered.now) (remembered.now.prices.items ∷ []) inquiry }
+    ensures { IfOk result (λ done. IsForeseen remembered.now walk.new) }
 {
     let Some(raised) = inquiry.raised else {
         return Ok(());
@@ -195,8 +183,13 @@ fn take_answer(
         return Ok(());
     }
     let mut room = [Tokens(0); ROOM];
-    let trial = raised_prices(&mut room, prices, section, raised.1);
-    let holder = holder_of(crowd, trial, section, inquiry.student, &bundle);
+    let trial = raised_prices(&mut room, &remembered.prices, section, raised.1);
+    let question = Question {
+        remembered,
+        prices: trial,
+        student: inquiry.student,
+    };
+    let holder = holder_of(&question, section, &bundle);
     walk.holders.push(holder)?;
     Ok(())
 }

@@ -1,10 +1,9 @@
-// What is asked of single students.
+// What is asked of single students, and what was found.
 ghost use Rattle.std.specs.Prelude.{All, length};
 ghost use Rattle.std.specs.Arc.{arc_value};
-ghost use Rattle.demand_api.specs.Views.{data_of};
-ghost use Rattle.demand_workers.specs.{Inquiring.IsInquiry, Rounds.AreVersionsFor};
+ghost use Rattle.demand_workers.specs.{Inquiring.IsInquiry, Rounds.AreVersionsFor, Views.crowd_of};
 
-use demand_api::Crowd;
+use crate::remembered::Remembered;
 use market_units::{SectionNo, StudentNo, Tokens};
 use std::sync::Arc;
 
@@ -18,12 +17,12 @@ pub struct Inquiry {
     pub raised: Option<(SectionNo, Tokens)>,
 }
 
-/// Inquiries of the students of a crowd, at some versions.
+/// Inquiries of the students of a crowd of which something is remembered, at some versions.
 #[derive(Drop)]
 pub struct Inquiries {
-    pub crowd: Arc<Crowd>,
+    pub remembered: Arc<Remembered>,
     pub versions: Vec<Vec<Tokens>>,
     pub list: Vec<Inquiry>,
-    pub ghost priced: { AreVersionsFor (data_of (arc_value crowd)) versions.items },
-    pub ghost asked: { All (IsInquiry (data_of (arc_value crowd)) (length versions.items)) list.items },
+    pub ghost priced: { AreVersionsFor (crowd_of (arc_value remembered)) versions.items },
+    pub ghost asked: { All (IsInquiry (crowd_of (arc_value remembered)) (length versions.items)) list.items },
 }

@@ -1,27 +1,32 @@
 // Demands of a crowd that workers find.
-ghost use Rattle.std.specs.Prelude.{◌≡◌, ◌<◌, ◌≤◌, [], ◌∷◌, All, IfOk, length, slice_index_or};
+ghost use Rattle.std.specs.Prelude.{◌≡◌, ◌<◌, [], ◌∷◌, IfOk, IfSome, length};
 ghost use Rattle.std.specs.Arc.{arc_value};
-ghost use Rattle.bundle_rules.specs.Demand.{price_in};
-ghost use Rattle.demand_api.specs.{Asking.ArePricesFor, Crowds.counts, Prices.AreLeastPrices};
-ghost use Rattle.demand_api.specs.Views.{data_of};
-ghost use Rattle.demand_workers.specs.Found.{AreFound, terms_of};
-ghost use Rattle.demand_workers.specs.Remembered.{AreRemembered, AreTaken};
-ghost use Rattle.demand_workers.specs.{Rounds.AreVersionsFor, Rounds.prices_of, Surveys.IsSurvey};
+ghost use Rattle.demand_api.specs.{Asking.ArePricesFor, Prices.AreLeastPrices, Views.data_of};
+ghost use Rattle.price_board.specs.{Openings.IsAskOf, declared.terms.Terms.Terms};
+ghost use Rattle.demand_workers.specs.Rounds.{AreVersionsFor, prices_of};
+ghost use Rattle.demand_workers.specs.Remembered.{AreTaken};
+ghost use Rattle.demand_workers.specs.Views.{crowd_of, price_before};
+ghost use Rattle.std.proofs.Props.{props};
+ghost use Rattle.std.specs.Coded.{codes};
+ghost use Rattle.bundle_rules.specs.contracts.menu.Rated as rated;
 
 use crate::Pool;
 use crate::answering::read_all;
 use crate::asking::ask;
 use crate::foreseen::answers_at;
 use crate::inquiry::Inquiries;
-use crate::remembered::Remembered;
-use crate::round::{ask_workers, copies_of};
-use crate::taking::{count_all, read_listed};
-use crate::unsettled::{bundles_at, unsettled};
+use crate::leaving::Walk;
+use crate::remembered::{Remembered, are_same};
+use crate::round::{copies_of, work_and_close};
+use crate::survey::Survey;
+use crate::taking::read_listed;
+use crate::unsettled::unsettled;
+use crate::worker::Lent;
 use bundle_rules::Bundle;
 use demand_api::{Crowd, Demands};
 use market_edge::{AnyGate, Gate};
-use market_units::{NoMemory, SectionNo, StudentNo, Tokens};
-use price_board::Ask;
+use market_units::{NoMemory, SectionNo, SectionSet, StudentNo, Tokens};
+use price_board::{Answers, Ask, Board, Round};
 use std::alloc::Global;
 use std::sync::{Arc, Wait};
 use std::thread::Threads;
@@ -30,17 +35,18 @@ use std::thread::Threads;
 /// student takes at some prices is remembered. Whom that does not settle at the versions of a call
 /// is asked in one round: an inquiry for each student and version, which workers draw from a board,
 /// each in a thread of its own where one can be started, or the first worker alone, in the caller's
-/// thread, where the inquiries are few. Where nothing is remembered, each student is a task of a
-/// price board. Workers pass the gate before their first draw and after each post. Students on the
-/// walks to least prices are asked in such rounds too. Its one form is `PooledDemands<AnyGate>`, which `make` gives.
+/// thread, where the inquiries are few. Where nothing is remembered, and in `exceeds`, each student
+/// is a task of a price board. Workers pass the gate before their first draw and after each post.
+/// Students on the walks to least prices are asked in such rounds too. Its one form is
+/// `PooledDemands<AnyGate>`, which `make` gives.
 #[derive(Drop)]
 pub struct PooledDemands<G> {
     pub(crate) crowd: Arc<Crowd>,
     pub(crate) pool: Pool,
     pub(crate) gate: G,
     asked: u64,
-    pub(crate) remembered: Remembered,
-    ghost right: { AreRemembered (data_of (arc_value crowd)) remembered.prices.items remembered.bundles.items },
+    remembered: Option<Arc<Remembered>>,
+    ghost same: { IfSome remembered (λ memory. crowd_of (arc_value memory) ≡ data_of (arc_value crowd)) } by { Prim.hlevel (props, codes, rated.the_row.coded) },
 }
 
 impl<'g> PooledDemands<AnyGate<'g>> {
@@ -55,14 +61,69 @@ impl<'g> PooledDemands<AnyGate<'g>> {
             ≡ data_of (arc_value crowd) }
         ensures asked { ⟦<PooledDemands<AnyGate<'g>> as Demands>⟧.asked result ≡ 0 }
     {
-        let remembered = Remembered::nothing(pool.alloc);
         PooledDemands {
             crowd,
             pool,
             gate,
             asked: 0,
-            remembered,
+            remembered: None,
         }
+    }
+
+    // What all workers find on a board where each student is a task, at these prices alone. All
+    // memory is taken before the first worker starts.
+    fn ask_board<R: Threads + Wait + Sync>(
+        &self,
+        rt: &R,
+        alloc: Global,
+        prices: &[Tokens],
+        ask: Ask,
+    ) -> Result<Answers, NoMemory>
+        requires prices { ArePricesFor (data_of (arc_value self.now.crowd)) prices.now }
+        requires section { IsAskOf (arc_value self.now.crowd).sections ask }
+        ensures { IfOk result
+            (λ answers. answers.terms
+            ≡ record {
+              crowd = data_of (arc_value self.now.crowd);
+              versions = prices.now ∷ [];
+              asks = ask ∷ [];
+            }) }
+    {
+        let version = prices.to_vec(alloc)?;
+        let mut versions = Vec::with_capacity(alloc, 1)?;
+        versions.push(version)?;
+        let asks = vec![in alloc; ask; 1]?;
+        let round = Round { versions, asks };
+        let crowd = Arc::try_clone(&self.crowd)?;
+        let (board, seats) = Board::start(alloc, crowd, round, self.pool.workers)?;
+        let lent = Lent {
+            crowd: &self.crowd,
+            prices,
+            allowed: &SectionSet::full(self.crowd.sections),
+            remembered: &self.remembered,
+        };
+        Ok(work_and_close(rt, board, seats, self.pool.workspaces(), &lent, self.gate))
+    }
+
+    // What each student takes at these prices, as it will be remembered.
+    fn memory_at<R: Threads + Wait + Sync>(
+        &self,
+        rt: &R,
+        alloc: Global,
+        prices: &[Tokens],
+    ) -> Result<Remembered, NoMemory>
+        requires { ArePricesFor (data_of (arc_value self.now.crowd)) prices.now }
+        ensures crowd { IfOk result (λ memory. crowd_of memory ≡ data_of (arc_value self.now.crowd)) }
+        ensures prices { IfOk result (λ memory. memory.prices.items ≡ prices.now) }
+    {
+        let copy = prices.to_vec(alloc)?;
+        let bundles = self.all_bundles(rt, alloc, prices)?;
+        Ok(Remembered {
+            crowd: Arc::try_clone(&self.crowd)?,
+            allowed: SectionSet::full(self.crowd.sections),
+            prices: copy,
+            bundles,
+        })
     }
 
     // What each student takes at these prices.
@@ -72,105 +133,65 @@ impl<'g> PooledDemands<AnyGate<'g>> {
         alloc: Global,
         prices: &[Tokens],
     ) -> Result<Vec<Bundle>, NoMemory>
-        requires prices { ArePricesFor (data_of (arc_value self.now.crowd)) prices.now }
+        requires { ArePricesFor (data_of (arc_value self.now.crowd)) prices.now }
         ensures len { IfOk result
             (λ bundles. length bundles.items ≡ length (arc_value self.now.crowd).menus.items) }
         ensures taken { IfOk result
             (λ bundles. AreTaken (data_of (arc_value self.now.crowd)) prices.now bundles.items) }
     {
-        if self.remembered.bundles.len() != self.crowd.menus.len() {
-            return self.board_bundles(rt, alloc, prices);
+        if let Some(remembered) = &self.remembered {
+            return self.bundles_near(rt, alloc, remembered, prices);
         }
-        let version = prices.to_vec(alloc)?;
-        let inquiries = self.survey(alloc, &[version])?;
-        let found = ask(
-            rt,
-            alloc,
-            &self.pool,
-            self.gate,
-            &self.remembered,
-            &inquiries,
-        )?;
-        bundles_at(alloc, &self.remembered, &inquiries, &found, 0)
-    }
-
-    // The inquiries at these versions of those whom what is remembered does not settle.
-    fn survey(&self, alloc: Global, versions: &[Vec<Tokens>]) -> Result<Arc<Inquiries>, NoMemory>
-        requires all { length self.now.remembered.bundles.items
-            ≡ length (arc_value self.now.crowd).menus.items }
-        requires versions { AreVersionsFor (data_of (arc_value self.now.crowd)) versions.now }
-        ensures crowd { IfOk result
-            (λ inquiries. arc_value (arc_value inquiries).crowd ≡ arc_value self.now.crowd) }
-        ensures versions { IfOk result
-            (λ inquiries. prices_of (arc_value inquiries).versions.items
-            ≡ prices_of versions.now) }
-        ensures survey { IfOk result
-            (λ inquiries. IsSurvey (data_of (arc_value self.now.crowd))
-            self.now.remembered.bundles.items (prices_of versions.now) (length versions.now)
-            (arc_value inquiries).list.items) }
-    {
-        let list = unsettled(alloc, &self.remembered, &self.crowd, versions)?;
-        let inquiries = Inquiries {
-            crowd: Arc::try_clone(&self.crowd)?,
-            versions: copies_of(alloc, versions)?,
-            list,
-        };
-        let shared = Arc::new(alloc, inquiries)?;
-        Ok(shared)
-    }
-
-    // The same, where all workers draw the students from a board.
-    fn board_bundles<R: Threads + Wait + Sync>(
-        &self,
-        rt: &R,
-        alloc: Global,
-        prices: &[Tokens],
-    ) -> Result<Vec<Bundle>, NoMemory>
-        requires prices { ArePricesFor (data_of (arc_value self.now.crowd)) prices.now }
-        ensures len { IfOk result
-            (λ bundles. length bundles.items ≡ length (arc_value self.now.crowd).menus.items) }
-        ensures taken { IfOk result
-            (λ bundles. AreTaken (data_of (arc_value self.now.crowd)) prices.now bundles.items) }
-    {
         let mut bundles = vec![in alloc; Bundle::empty(); self.crowd.menus.len()]?;
-        let version = prices.to_vec(alloc)?;
-        let asks = vec![in alloc; Ask::Counts; 1]?;
-        let answers = ask_workers(
-            rt,
-            alloc,
-            &self.crowd,
-            &[version],
-            asks,
-            self.pool.workspaces(),
-            &self.remembered,
-            self.gate,
-        )?;
+        let answers = self.ask_board(rt, alloc, prices, Ask::Counts)?;
         read_all(&answers, 0, &mut bundles);
         Ok(bundles)
     }
 
-    // What each student takes at these prices, as it is remembered.
-    fn memory_at<R: Threads + Wait + Sync>(
+    // What each student takes at these prices: remembered, or asked.
+    fn bundles_near<R: Threads + Wait + Sync>(
         &self,
         rt: &R,
         alloc: Global,
+        remembered: &Arc<Remembered>,
         prices: &[Tokens],
-    ) -> Result<Remembered, NoMemory>
-        requires prices { ArePricesFor (data_of (arc_value self.now.crowd)) prices.now }
-        ensures prices { IfOk result (λ memory. memory.prices.items ≡ prices.now) }
-        ensures all { IfOk result
-            (λ memory. length memory.bundles.items
-            ≡ length (arc_value self.now.crowd).menus.items) }
-        ensures right { IfOk result
-            (λ memory. AreRemembered (data_of (arc_value self.now.crowd)) memory.prices.items
-            memory.bundles.items) }
+    ) -> Result<Vec<Bundle>, NoMemory>
+        requires { ArePricesFor (crowd_of (arc_value remembered.now)) prices.now }
+        ensures len { IfOk result
+            (λ bundles. length bundles.items
+            ≡ length (crowd_of (arc_value remembered.now)).students) }
+        ensures taken { IfOk result
+            (λ bundles. AreTaken (crowd_of (arc_value remembered.now)) prices.now bundles.items) }
     {
-        let copy = prices.to_vec(alloc)?;
-        let bundles = self.all_bundles(rt, alloc, prices)?;
-        Ok(Remembered {
-            prices: copy,
-            bundles,
-        })
+        let version = prices.to_vec(alloc)?;
+        let survey = self.survey(rt, alloc, remembered, &[version])?;
+        survey.bundles_at(alloc, 0)
+    }
+
+    // What is found at these versions for those whom what is remembered does not settle.
+    fn survey<R: Threads + Wait + Sync>(
+        &self,
+        rt: &R,
+        alloc: Global,
+        remembered: &Arc<Remembered>,
+        versions: &[Vec<Tokens>],
+    ) -> Result<Survey, NoMemory>
+        requires { AreVersionsFor (crowd_of (arc_value remembered.now)) versions.now }
+        ensures remembered { IfOk result
+            (λ survey. arc_value (arc_value survey.found.inquiries).remembered
+            ≡ arc_value remembered.now) }
+        ensures versions { IfOk result
+            (λ survey. prices_of (arc_value survey.found.inquiries).versions.items
+            ≡ prices_of versions.now) }
+    {
+        let list = unsettled(alloc, remembered, versions)?;
+        let inquiries = Inquiries {
+            remembered: Arc::try_clone(remembered)?,
+            versions: copies_of(alloc, versions)?,
+            list,
+        };
+        let found = ask(rt, alloc, &self.pool, self.gate, inquiries)?;
+        Ok(Survey { found })
     }
 
     // Remembers what each student takes at these prices.
@@ -179,102 +200,62 @@ impl<'g> PooledDemands<AnyGate<'g>> {
         rt: &R,
         alloc: Global,
         prices: &[Tokens],
-    ) -> Result<(), NoMemory>
-        requires prices { ArePricesFor (data_of (arc_value self.old.crowd)) prices.now }
-        ensures crowd { self.new.crowd ≡ self.old.crowd }
-        ensures asked { self.new.asked ≡ self.old.asked }
-        ensures prices { IfOk result (λ done. self.new.remembered.prices.items ≡ prices.now) }
-        ensures all { IfOk result
-            (λ done. length self.new.remembered.bundles.items
-            ≡ length (arc_value self.old.crowd).menus.items) }
+    ) -> Result<Arc<Remembered>, NoMemory>
+        requires { ArePricesFor (data_of (arc_value self.old.crowd)) prices.now }
+        ensures kept { (self.new.crowd ≡ self.old.crowd) × (self.new.asked ≡ self.old.asked) }
+        ensures crowd { IfOk result
+            (λ memory. crowd_of (arc_value memory) ≡ data_of (arc_value self.old.crowd)) }
+        ensures prices { IfOk result (λ memory. (arc_value memory).prices.items ≡ prices.now) }
     {
-        if self.remembered.is_of(self.crowd.menus.len(), prices) {
-            return Ok(());
+        if let Some(remembered) = &self.remembered {
+            if are_same(&remembered.prices, prices) {
+                return Ok(Arc::try_clone(remembered)?);
+            }
         }
-        self.remembered = self.memory_at(rt, alloc, prices)?;
-        Ok(())
+        let memory = Arc::new(alloc, self.memory_at(rt, alloc, prices)?)?;
+        self.remembered = Some(Arc::try_clone(&memory)?);
+        Ok(memory)
     }
 
-    // The least price of one section at which at most so many take it, the other prices as
-    // remembered. What is taken there is remembered: whoever raises the price asks for it next.
-    fn least_alone<R: Threads + Wait + Sync>(
-        &mut self,
-        rt: &R,
-        alloc: Global,
-        section: SectionNo,
-        limit: u32,
-    ) -> Result<Vec<Tokens>, NoMemory>
-        requires all { length self.old.remembered.bundles.items
-            ≡ length (arc_value self.old.crowd).menus.items }
-        requires prices { ArePricesFor (data_of (arc_value self.old.crowd))
-            self.old.remembered.prices.items }
-        requires section { section.0 < (arc_value self.old.crowd).sections }
-        ensures crowd { self.new.crowd ≡ self.old.crowd }
-        ensures asked { self.new.asked ≡ self.old.asked }
-        ensures least { IfOk result
-            (λ found. AreLeastPrices (data_of (arc_value self.old.crowd))
-            (price_in self.old.remembered.prices.items) ((section, limit) ∷ []) found.items) }
-    {
-        let walks = self.foresee(rt, alloc, &[(section, limit)])?;
-        let answered = answers_at(&self.crowd, &self.remembered.prices, &walks, 0, section);
-        let walk = self.least_price(rt, alloc, answered, section, limit)?;
-        let memory = self.raised_memory(rt, alloc, section, &walk)?;
-        let found = vec![in alloc; walk.least; 1]?;
-        self.remembered = memory;
-        Ok(found)
-    }
-
-    // Remembers what each student takes at these prices, where nothing is remembered: of several
-    // versions that lie about one, that one may serve for the others.
+    // What is remembered, or, where nothing is, what each student takes at these prices, which is
+    // remembered then: of several versions that lie about one, that one may serve for the others.
     fn recall_first<R: Threads + Wait + Sync>(
         &mut self,
         rt: &R,
         alloc: Global,
         prices: &[Tokens],
-    ) -> Result<(), NoMemory>
-        requires prices { ArePricesFor (data_of (arc_value self.old.crowd)) prices.now }
-        ensures crowd { self.new.crowd ≡ self.old.crowd }
-        ensures asked { self.new.asked ≡ self.old.asked }
-        ensures all { IfOk result
-            (λ done. length self.new.remembered.bundles.items
-            ≡ length (arc_value self.old.crowd).menus.items) }
+    ) -> Result<Arc<Remembered>, NoMemory>
+        requires { ArePricesFor (data_of (arc_value self.old.crowd)) prices.now }
+        ensures kept { (self.new.crowd ≡ self.old.crowd) × (self.new.asked ≡ self.old.asked) }
+        ensures crowd { IfOk result
+            (λ memory. crowd_of (arc_value memory) ≡ data_of (arc_value self.old.crowd)) }
     {
-        if self.remembered.bundles.len() == self.crowd.menus.len() {
-            return Ok(());
+        if let Some(remembered) = &self.remembered {
+            return Ok(Arc::try_clone(remembered)?);
         }
         self.recall(rt, alloc, prices)
     }
 
-    // How many students take each section at a version of a survey.
-    fn counted(
+    // The walk to the least price of one section at which at most so many students take it, the
+    // other prices as remembered.
+    fn walk_alone<R: Threads + Wait + Sync>(
         &self,
+        rt: &R,
         alloc: Global,
-        inquiries: &Inquiries,
-        found: &[Bundle],
-        version: usize,
-    ) -> Result<Vec<u32>, NoMemory>
-        requires all { length self.now.remembered.bundles.items
-            ≡ length (arc_value self.now.crowd).menus.items }
-        requires crowd { arc_value inquiries.now.crowd ≡ arc_value self.now.crowd }
-        requires survey { IsSurvey (data_of (arc_value self.now.crowd))
-            self.now.remembered.bundles.items (prices_of inquiries.now.versions.items)
-            (length inquiries.now.versions.items) inquiries.now.list.items }
-        requires found { AreFound (terms_of inquiries.now) found.now }
-        requires version { version < length inquiries.now.versions.items }
-        ensures { IfOk result
-            (λ counted. counted.items
-            ≡ counts (data_of (arc_value self.now.crowd))
-            (price_in (slice_index_or (prices_of inquiries.now.versions.items) version []))) }
+        remembered: &Arc<Remembered>,
+        section: SectionNo,
+        limit: u32,
+    ) -> Result<Walk, NoMemory>
+        requires { section.0 < (arc_value (arc_value remembered.now).crowd).sections }
+        ensures remembered { IfOk result
+            (λ walk. arc_value walk.remembered ≡ arc_value remembered.now) }
+        ensures least { IfOk result
+            (λ walk. AreLeastPrices (crowd_of (arc_value remembered.now))
+            (price_before (arc_value remembered.now)) ((section, limit) ∷ []) (walk.least ∷ [])) }
     {
-        let mut counted = vec![in alloc; 0; usize::from(self.crowd.sections)]?;
-        let bundles = bundles_at(alloc, &self.remembered, inquiries, found, version)?;
-        count_all(
-            &self.crowd,
-            &inquiries.versions[version],
-            &bundles,
-            &mut counted,
-        );
-        Ok(counted)
+        let walks = self.foresee(rt, alloc, remembered, &[(section, limit)])?;
+        let answered = answers_at(remembered, &walks, 0, section);
+        self.least_price(rt, alloc, remembered, answered, section, limit)
     }
 }
 
@@ -302,19 +283,10 @@ impl Demands for PooledDemands<AnyGate<'_>> {
         let mut found = Vec::with_capacity(alloc, batch.len())?;
         // What is remembered once stays as it is here: a search counts its neighbours and then asks
         // again near the vector where it stands.
-        self.recall_first(rt, alloc, &batch[0])?;
-        let inquiries = self.survey(alloc, batch)?;
-        let bundles = ask(
-            rt,
-            alloc,
-            &self.pool,
-            self.gate,
-            &self.remembered,
-            &inquiries,
-        )?;
-        let asked: &Inquiries = &inquiries;
+        let remembered = self.recall_first(rt, alloc, &batch[0])?;
+        let survey = self.survey(rt, alloc, &remembered, batch)?;
         for version in 0..batch.len() {
-            let counts = self.counted(alloc, asked, &bundles, version)?;
+            let counts = survey.counts_at(alloc, version)?;
             found.push(counts)?;
         }
         Ok(found)
@@ -329,8 +301,8 @@ impl Demands for PooledDemands<AnyGate<'_>> {
     ) -> Result<Vec<Bundle>, NoMemory> {
         self.asked = self.asked.saturating_add(1);
         let mut bundles = vec![in alloc; Bundle::empty(); students.len()]?;
-        self.recall(rt, alloc, prices)?;
-        read_listed(&self.crowd, &self.remembered, students, &mut bundles);
+        let remembered = self.recall(rt, alloc, prices)?;
+        read_listed(&remembered, students, &mut bundles);
         Ok(bundles)
     }
 
@@ -343,18 +315,7 @@ impl Demands for PooledDemands<AnyGate<'_>> {
         limit: u32,
     ) -> Result<bool, NoMemory> {
         self.asked = self.asked.saturating_add(1);
-        let version = prices.to_vec(alloc)?;
-        let asks = vec![in alloc; Ask::Exceeds { section, limit }; 1]?;
-        let answers = ask_workers(
-            rt,
-            alloc,
-            &self.crowd,
-            &[version],
-            asks,
-            self.pool.workspaces(),
-            &self.remembered,
-            self.gate,
-        )?;
+        let answers = self.ask_board(rt, alloc, prices, Ask::Exceeds { section, limit })?;
         match answers.exceeds(0) {
             Some(more) => Ok(more),
             None => unreachable!(),
@@ -368,10 +329,15 @@ impl Demands for PooledDemands<AnyGate<'_>> {
         prices: &[Tokens],
         pairs: &[(SectionNo, u32)],
     ) -> Result<Vec<Tokens>, NoMemory> {
-        self.recall(rt, alloc, prices)?;
-        if let [(section, limit)] = pairs {
-            return self.least_alone(rt, alloc, *section, *limit);
-        }
-        self.least_for_each(rt, alloc, pairs)
+        let remembered = self.recall(rt, alloc, prices)?;
+        let [(section, limit)] = pairs else {
+            return self.least_for_each(rt, alloc, &remembered, pairs);
+        };
+        // What is taken at the least price is remembered: whoever raises the price asks for it next.
+        let walk = self.walk_alone(rt, alloc, &remembered, *section, *limit)?;
+        let memory = self.raised_memory(rt, alloc, &walk)?;
+        let found = vec![in alloc; walk.least; 1]?;
+        self.remembered = Some(Arc::new(alloc, memory)?);
+        Ok(found)
     }
 }

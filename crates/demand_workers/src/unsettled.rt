@@ -1,15 +1,15 @@
 // Students whom what is remembered does not settle.
-ghost use Rattle.std.specs.Prelude.{◌≡◌, ◌<◌, ◌+◌, ℕ, [], All, IfOk, length, slice_index_or};
-ghost use Rattle.std.specs.Arc.{arc_value};
+ghost use Rattle.std.specs.Prelude.{◌≡◌, ◌<◌, ◌+◌, ℕ, All, IfOk, length, slice_index_or};
 ghost use Rattle.bundle_rules.specs.{Bundles.sections_of, Demand.price_in};
 ghost use Rattle.demand_api.specs.{Crowds.demand_of, Views.data_of};
-ghost use Rattle.demand_workers.specs.{Asked.no_inquiry, Found.AreFound, Found.terms_of};
-ghost use Rattle.demand_workers.specs.Remembered.{AreRemembered, AreTaken};
+ghost use Rattle.demand_workers.specs.{Asked.no_inquiry, Remembered.AreTaken};
 ghost use Rattle.demand_workers.specs.Rounds.{AreVersionsFor, prices_of};
 ghost use Rattle.demand_workers.specs.Surveys.{AreOthersKept, IsSurvey};
+ghost use Rattle.demand_workers.specs.Views.{crowd_of};
 
 use crate::cheaper::Cheaper;
-use crate::inquiry::{Inquiries, Inquiry};
+use crate::inquiry::Inquiry;
+use crate::question::Question;
 use crate::remembered::Remembered;
 use bundle_rules::Bundle;
 use demand_api::Crowd;
@@ -17,25 +17,20 @@ use market_units::{NoMemory, StudentNo, Tokens};
 use std::alloc::Global;
 
 /// An inquiry for each student at each of these versions at which what is remembered does not
-/// settle what it takes. What each student takes at some prices is remembered. The only error is
-/// that memory was not given.
+/// settle what it takes. The only error is that memory was not given.
 pub(crate) fn unsettled(
     alloc: Global,
     remembered: &Remembered,
-    crowd: &Crowd,
     versions: &[Vec<Tokens>],
 ) -> Result<Vec<Inquiry>, NoMemory>
-    requires remembered { AreRemembered (data_of crowd.now) remembered.now.prices.items
-        remembered.now.bundles.items }
-    requires all { length remembered.now.bundles.items ≡ length crowd.now.menus.items }
-    requires versions { AreVersionsFor (data_of crowd.now) versions.now }
+    requires { AreVersionsFor (crowd_of remembered.now) versions.now }
     ensures { IfOk result
-        (λ inquiries. IsSurvey (data_of crowd.now) remembered.now.bundles.items
+        (λ inquiries. IsSurvey (crowd_of remembered.now) remembered.now.bundles.items
         (prices_of versions.now) (length versions.now) inquiries.items) }
 {
     let mut inquiries = Vec::new(alloc);
     for version in 0..versions.len() {
-        add_unsettled(remembered, crowd, versions, version, &mut inquiries)?;
+        add_unsettled(remembered, versions, version, &mut inquiries)?;
     }
     Ok(inquiries)
 }
@@ -43,69 +38,37 @@ pub(crate) fn unsettled(
 // Adds those of one version.
 fn add_unsettled(
     remembered: &Remembered,
-    crowd: &Crowd,
     versions: &[Vec<Tokens>],
     version: usize,
     inquiries: &mut Vec<Inquiry>,
 ) -> Result<(), NoMemory>
-    requires remembered { AreRemembered (data_of crowd.now) remembered.now.prices.items
-        remembered.now.bundles.items }
-    requires all { length remembered.now.bundles.items ≡ length crowd.now.menus.items }
-    requires versions { AreVersionsFor (data_of crowd.now) versions.now }
+    requires versions { AreVersionsFor (crowd_of remembered.now) versions.now }
     requires version { version < length versions.now }
-    requires survey { IsSurvey (data_of crowd.now) remembered.now.bundles.items
+    requires survey { IsSurvey (crowd_of remembered.now) remembered.now.bundles.items
         (prices_of versions.now) version inquiries.old.items }
     ensures { IfOk result
-        (λ done. IsSurvey (data_of crowd.now) remembered.now.bundles.items
+        (λ done. IsSurvey (crowd_of remembered.now) remembered.now.bundles.items
         (prices_of versions.now) (version + 1) inquiries.new.items) }
 {
     let prices: &[Tokens] = &versions[version];
     let cheaper = Cheaper::between(&remembered.prices, prices);
-    for place in 0..crowd.menus.len() {
-        if remembered.stays(crowd, prices, cheaper, place) {
+    for place in 0..remembered.bundles.len() {
+        let student = StudentNo(place as u16);
+        let question = Question {
+            remembered,
+            prices,
+            student,
+        };
+        if question.stays(cheaper) {
             continue;
         }
         inquiries.push(Inquiry {
-            student: StudentNo(place as u16),
+            student,
             version,
             raised: None,
         })?;
     }
     Ok(())
-}
-
-/// What each student takes at a version: what was found for it there, or what is remembered. The
-/// only error is that memory was not given.
-pub(crate) fn bundles_at(
-    alloc: Global,
-    remembered: &Remembered,
-    inquiries: &Inquiries,
-    found: &[Bundle],
-    version: usize,
-) -> Result<Vec<Bundle>, NoMemory>
-    requires all { length remembered.now.bundles.items
-        ≡ length (arc_value inquiries.now.crowd).menus.items }
-    requires survey { IsSurvey (data_of (arc_value inquiries.now.crowd))
-        remembered.now.bundles.items (prices_of inquiries.now.versions.items)
-        (length inquiries.now.versions.items) inquiries.now.list.items }
-    requires found { AreFound (terms_of inquiries.now) found.now }
-    requires version { version < length inquiries.now.versions.items }
-    ensures len { IfOk result
-        (λ bundles. length bundles.items ≡ length (arc_value inquiries.now.crowd).menus.items) }
-    ensures taken { IfOk result
-        (λ bundles. AreTaken (data_of (arc_value inquiries.now.crowd))
-        (slice_index_or (prices_of inquiries.now.versions.items) version []) bundles.items) }
-{
-    let mut bundles = remembered.bundles.as_slice().to_vec(alloc)?;
-    write_found(
-        &inquiries.crowd,
-        &inquiries.versions[version],
-        &inquiries.list,
-        found,
-        version,
-        &mut bundles,
-    );
-    Ok(bundles)
 }
 
 /// Writes what was found at a version for those who were asked there. The others take at its prices

@@ -1,6 +1,6 @@
 use Rattle.std.proofs.Common.{rules, List, All, heap_items, sym, subst}
 use Rattle.std.proofs.lemmas.List.Elements.{All-push}
-use Rattle.demand_api.specs.Views.{data_of}
+use Rattle.demand_workers.specs.Views.{crowd_of}
 use Rattle.demand_workers.specs.declared.inquiry.Inquiry.{Inquiry}
 use Rattle.demand_workers.specs.Inquiring.{IsInquiry}
 use Rattle.demand_workers.specs.Leaving.{leaves}
@@ -10,7 +10,7 @@ use Rattle.demand_workers.proofs.foreseen.add_next.Goals as goal
 
 pub loop-preserved : goal.loop-preserved
 loop-preserved c =
-    let crowd = data_of c.args._crowd.now in
+    let crowd = crowd_of c.args._remembered.now in
     let first =
     first_listed crowd (heap_items c.loop.walk.holders) (heap_items c.pop.new.self) c.in-Some.first c.in-Some.ensures.permutation
     c.loop.invariant.walk.listed in

@@ -1,7 +1,6 @@
 use Rattle.std.proofs.Common.{All}
-use Rattle.demand_api.specs.Views.{data_of}
 use Rattle.demand_workers.specs.Walks.{IsForeseen}
 use Rattle.demand_workers.proofs.foreseen.walks_of.Given as goal
 
 abbrev pub invariant-loop-section : goal.invariant-loop-section
-invariant-loop-section l = All (IsForeseen (data_of l.crowd) l.remembered.prices.items) l.walks.items
+invariant-loop-section l = All (IsForeseen l.remembered) l.walks.items

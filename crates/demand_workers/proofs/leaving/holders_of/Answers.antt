@@ -1,28 +1,25 @@
 use Rattle.std.proofs.Common.{rules, ◌≡◌, ◌<◌, ◌≤◌, ◌∙◌, ℕ, false, length, heap_items, ap, sym, arith}
+use Rattle.std.specs.Arc.{arc_value}
 use Rattle.bundle_rules.specs.Bundles.{sections_of}
-use Rattle.bundle_rules.specs.Demand.{price_in}
 use Rattle.market_units.specs.Members.{has}
 use Rattle.demand_api.specs.Crowds.{demand_of}
 use Rattle.demand_api.proofs.Parts.{menus_few, students_length}
-use Rattle.demand_api.specs.Views.{data_of}
+use Rattle.demand_workers.specs.Views.{crowd_of, price_before}
 use Rattle.demand_workers.proofs.HoldersLeave.{first_skip, first_more, first_all, keeps_now}
 use Rattle.demand_workers.proofs.leaving.holders_of.Goals as goal
 
 pub loop-place-preserved-then-not-has : goal.loop-place-preserved-then-not-has
 loop-place-preserved-then-not-has c =
+    let remembered = c.args.remembered.now in
     let place : ℕ = c.loop-place.place in
-    let within : place < length c.args.crowd.now.menus.items = search rules in
-    let all : length c.args.remembered.now.bundles.items ≡ length c.args.crowd.now.menus.items = c.requires.all in
-    let was : sections_of c.index.result.now ≡ demand_of (data_of c.args.crowd.now) (price_in c.args.remembered.now.prices.items) c.loop-place.place =
-    ap sections_of c.index.ensures
-    ∙ c.requires.remembered.taken c.loop-place.place c.index.result.now
-    (let goal : place < length c.args.remembered.now.bundles.items = omega arith in goal) in
+    let within : place < length remembered.bundles.items = search rules in
+    let was : sections_of c.index.result.now ≡ demand_of (crowd_of remembered) (price_before remembered) c.loop-place.place =
+    ap sections_of c.index.ensures ∙ remembered.taken c.loop-place.place c.index.result.now within in
     let lacks : c.has.result ≡ false = search rules in
     record {
       heap = c.loop-place.invariant.heap;
       first =
-          first_skip (data_of c.args.crowd.now) (price_in c.args.remembered.now.prices.items) c.args.section.0 c.loop-place.place
-          (heap_items c.loop-place.holders)
+          first_skip (crowd_of remembered) (price_before remembered) c.args.section.0 c.loop-place.place (heap_items c.loop-place.holders)
           (ap (λ b. has b c.args.section.0) (sym was) ∙ sym c.has.ensures ∙ lacks) c.loop-place.invariant.first;
     }
 
@@ -30,22 +27,28 @@ pub loop-place-preserved : goal.loop-place-preserved
 loop-place-preserved c = record {
   heap = c.in_ok-push.ensures.heap_order c.loop-place.invariant.heap;
   first =
-      first_more (data_of c.args.crowd.now) (price_in c.args.remembered.now.prices.items) c.args.section.0 c.loop-place.place (heap_items c.loop-place.holders)
+      first_more (crowd_of c.args.remembered.now) (price_before c.args.remembered.now) c.args.section.0 c.loop-place.place (heap_items c.loop-place.holders)
       (heap_items c.push.new.self) c.holder_of-holder.result c.in_ok-push.ensures.permutation
       c.holder_of-holder.ensures.student
-      (keeps_now (data_of c.args.crowd.now) c.args.remembered.now.prices.items c.deref.result.now c.args.section.0 c.loop-place.place c.holder_of-holder.result c.deref.ensures.value c.holder_of-holder.ensures.student c.holder_of-holder.ensures.room
+      (keeps_now (crowd_of c.args.remembered.now) c.args.remembered.now.prices.items c.deref.result.now c.args.section.0 c.loop-place.place
+      c.holder_of-holder.result c.deref.ensures.value c.holder_of-holder.ensures.student c.holder_of-holder.ensures.room
       c.holder_of-holder.ensures.later c.holder_of-holder.ensures.capped c.holder_of-holder.ensures.still)
       c.loop-place.invariant.first;
 }
 
 pub returns-clause-left : goal.returns-clause-left
 returns-clause-left c =
+    let remembered = c.args.remembered.now in
     let place : ℕ = c.loop-place.place in
-    let past : length c.args.crowd.now.menus.items ≤ place = search rules in
-    let below : place ≤ length c.args.crowd.now.menus.items = search rules in
-    let end : place ≡ length c.args.crowd.now.menus.items = omega arith in
-    first_all (data_of c.args.crowd.now) (price_in c.args.remembered.now.prices.items) c.args.section.0 c.loop-place.place (heap_items c.loop-place.holders)
-    (end ∙ sym (students_length c.args.crowd.now)) c.loop-place.invariant.first
+    let past : length remembered.bundles.items ≤ place = search rules in
+    let below : place ≤ length remembered.bundles.items = search rules in
+    let end : place ≡ length remembered.bundles.items = omega arith in
+    first_all (crowd_of remembered) (price_before remembered) c.args.section.0 c.loop-place.place (heap_items c.loop-place.holders)
+    (end ∙ remembered.each ∙ sym (students_length (arc_value remembered.crowd))) c.loop-place.invariant.first
 
-pub overflow_cast-student : goal.overflow_cast-student
-overflow_cast-student c = let few : length c.args.crowd.now.menus.items ≤ 2000 = menus_few c.args.crowd.now in search rules
+pub overflow_cast-question : goal.overflow_cast-question
+overflow_cast-question c =
+    let few : length (arc_value c.args.remembered.now.crowd).menus.items ≤ 2000 = menus_few (arc_value c.args.remembered.now.crowd) in
+    let each : length c.args.remembered.now.bundles.items ≡ length (arc_value c.args.remembered.now.crowd).menus.items = c.args.remembered.now.each in
+    let within : c.loop-place.place < length c.args.remembered.now.bundles.items = search rules in
+    omega arith

@@ -1,22 +1,19 @@
-use Rattle.std.proofs.Common.{◌<◌, ◌∙◌, ℕ, length, ap, sym, subst}
+use Rattle.std.specs.Arc.{arc_value}
 use Rattle.std.specs.FinSet as set
 use Rattle.bundle_rules.specs.Demand.{price_in}
 use Rattle.bundle_rules.specs.Bundles.{sections_of}
-use Rattle.demand_api.specs.Crowds.{demand_of}
 use Rattle.demand_api.proofs.Takers.{priced_at, found_demand}
-use Rattle.demand_api.specs.Views.{data_of}
 use Rattle.demand_workers.proofs.taking.asked_again.Goals as goal
 
 pub demand_from-requires : goal.demand_from-requires
 demand_from-requires c =
-    priced_at c.args.crowd.now c.args.prices.now c.from-place.result c.index.result.now
-    c.requires.prices
-    (subst (λ (n : ℕ). n < length c.args.crowd.now.menus.items) (sym c.from-place.ensures) c.requires.student) c.index.ensures
+    let question = c.args.question.now in
+    priced_at (arc_value question.remembered.now.crowd) question.prices.now question.student.0 c.menu.result.now question.priced question.listed
+    (c.menu.ensures c.menu.result.now)
 
 pub returns : goal.returns
 returns c =
-    found_demand c.args.crowd.now (price_in c.args.prices.now) c.from-place.result
-    c.index.result.now _ (set.contains c.args.allowed.now) (sections_of c.demand_from.result)
-    (subst (λ (n : ℕ). n < length c.args.crowd.now.menus.items) (sym c.from-place.ensures) c.requires.student) c.index.ensures
-    c.index-2.ensures c.requires.allowed c.demand_from.ensures
-    ∙ ap (λ (n : ℕ). demand_of (data_of c.args.crowd.now) (price_in c.args.prices.now) n) c.from-place.ensures
+    let question = c.args.question.now in
+    found_demand (arc_value question.remembered.now.crowd) (price_in question.prices.now) question.student.0 c.menu.result.now c.budget.result
+    (set.contains question.remembered.now.allowed) (sections_of c.demand_from.result) question.listed (c.menu.ensures c.menu.result.now)
+    (c.budget.ensures c.budget.result) question.remembered.now.every c.demand_from.ensures

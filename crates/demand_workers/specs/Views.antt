@@ -1,0 +1,15 @@
+-- What is remembered and asked, as plain data.
+use Rattle.std.specs.Prelude.{ℕ, List}
+use Rattle.std.specs.Arc.{arc_value}
+use Rattle.bundle_rules.specs.Demand.{price_in}
+use Rattle.demand_api.specs.Crowds.{CrowdData, demand_of}
+use Rattle.demand_api.specs.Views.{data_of}
+use Rattle.demand_workers.specs.declared.remembered.Remembered.{Remembered}
+
+-- the crowd of which something is remembered
+abbrev pub crowd_of : Remembered → CrowdData
+crowd_of remembered = data_of (arc_value remembered.crowd)
+
+-- the prices at which it is remembered
+abbrev pub price_before : Remembered → ℕ → ℕ
+price_before remembered = price_in remembered.prices.items

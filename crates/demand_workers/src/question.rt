@@ -1,0 +1,77 @@
+// What is asked of a student of whom something is remembered.
+ghost use Rattle.std.specs.Prelude.{◌<◌, length};
+ghost use Rattle.std.specs.Arc.{arc_value};
+ghost use Rattle.demand_api.specs.{Asking.ArePricesFor};
+ghost use Rattle.demand_workers.specs.Views.{crowd_of};
+
+use crate::cheaper::Cheaper;
+use crate::remembered::Remembered;
+use bundle_rules::{Bundle, Menu, price_of};
+use market_units::{StudentNo, Tokens};
+
+/// A student of a crowd of which something is remembered, and prices at which it is asked.
+#[derive(Clone, Copy)]
+pub(crate) struct Question<'a> {
+    pub remembered: &'a Remembered,
+    pub prices: &'a [Tokens],
+    pub student: StudentNo,
+    pub ghost priced: { ArePricesFor (crowd_of remembered.now) prices.now },
+    pub ghost listed: { student.0 < length (arc_value remembered.now.crowd).menus.items },
+}
+
+impl Question<'_> {
+    ghost use Rattle.std.specs.Prelude.{◌≡◌, IfSome, IsTrue, slice_index_or};
+    ghost use Rattle.bundle_rules.specs.Bundles.{sections_of};
+    ghost use Rattle.demand_workers.specs.Answering.{answer_to, taken_before};
+    ghost use Rattle.demand_workers.specs.Remembered.{AreWithin};
+
+    /// The student's menu.
+    pub(crate) fn menu(&self) -> &Menu
+        ensures { (d : _) → result.now
+            ≡ slice_index_or (arc_value self.now.remembered.now.crowd).menus.items
+            self.now.student.0 d }
+    {
+        &self.remembered.crowd.menus[usize::from(self.student.0)]
+    }
+
+    /// The student's budget.
+    pub(crate) fn budget(&self) -> Tokens
+        ensures { (d : _) → result
+            ≡ slice_index_or (arc_value self.now.remembered.now.crowd).budgets.items
+            self.now.student.0 d }
+    {
+        self.remembered.crowd.budgets[usize::from(self.student.0)]
+    }
+
+    /// What the student takes at the remembered prices.
+    pub(crate) fn earlier(&self) -> &Bundle
+        ensures { sections_of result.now ≡ taken_before self.now }
+    {
+        &self.remembered.bundles[usize::from(self.student.0)]
+    }
+
+    /// What is remembered of the student, where the student surely takes the same at these prices;
+    /// else `None`, and the student has to be asked.
+    pub(crate) fn kept(&self) -> Option<Bundle>
+        ensures { IfSome result (λ bundle. sections_of bundle ≡ answer_to self.now) }
+    {
+        let cheaper = Cheaper::anywhere(&self.remembered.prices, self.prices);
+        if !self.stays(cheaper) {
+            return None;
+        }
+        Some(*self.earlier())
+    }
+
+    /// Whether the student surely takes what is remembered of it at these prices too: the bundle is
+    /// still affordable, and no section of the menu became cheaper.
+    pub(crate) fn stays(&self, cheaper: Cheaper) -> bool
+        requires { AreWithin cheaper.first cheaper.past self.now.remembered.now.prices.items
+            self.now.prices.now }
+        ensures { IsTrue result → taken_before self.now ≡ answer_to self.now }
+    {
+        if price_of(self.prices, self.earlier().sections()) > self.budget().0 {
+            return false;
+        }
+        cheaper.spares(self.menu().places(), &self.remembered.prices, self.prices)
+    }
+}

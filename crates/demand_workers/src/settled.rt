@@ -1,0 +1,46 @@
+// Whom a walk to a least price settles.
+ghost use Rattle.std.specs.Prelude.{◌≡◌, ◌<◌, IfSome, length, slice_set};
+ghost use Rattle.std.specs.Arc.{arc_value};
+ghost use Rattle.bundle_rules.specs.{Bundles.sections_of, Demand.price_in};
+ghost use Rattle.demand_api.specs.Crowds.{demand_of};
+ghost use Rattle.demand_workers.specs.Views.{crowd_of};
+
+use crate::leaving::Walk;
+use crate::question::Question;
+use crate::remembered::Remembered;
+use bundle_rules::{Bundle, price_of};
+use market_units::{StudentNo, Tokens};
+
+/// What the student takes at these prices, those remembered with the section at the least price of a
+/// walk, where it does not hold the section, or where that is noted or still remembered.
+pub(crate) fn settled(walk: &Walk, prices: &[Tokens], student: StudentNo) -> Option<Bundle>
+    requires raised { prices.now
+        ≡ slice_set (arc_value walk.now.remembered).prices.items walk.now.section.0
+        walk.now.least }
+    requires student { student.0
+        < length (arc_value (arc_value walk.now.remembered).crowd).menus.items }
+    ensures { IfSome result
+        (λ bundle. sections_of bundle
+        ≡ demand_of (crowd_of (arc_value walk.now.remembered)) (price_in prices.now) student.0) }
+{
+    let remembered: &Remembered = &walk.remembered;
+    let question = Question {
+        remembered,
+        prices,
+        student,
+    };
+    let earlier = question.earlier();
+    if !earlier.has(walk.section) {
+        return Some(*earlier);
+    }
+    for place in 0..walk.notes.len() {
+        let note = walk.notes[place];
+        if note.student != student {
+            continue;
+        }
+        if price_of(prices, note.bundle.sections()) <= question.budget().0 {
+            return Some(note.bundle);
+        }
+    }
+    question.kept()
+}
