@@ -1,6 +1,6 @@
 // Audits of small markets, by workers. The texts are those of a second implementation, for the same
 // tables and bundles.
-ghost use Rattle.std.specs.Prelude.{◌≡◌, ◌≤◌, IfOk, length, map};
+ghost use Rattle.std.specs.Prelude.{◌≡◌, IfOk, length, map};
 ghost use Rattle.std.specs.Arc.{arc_value};
 ghost use Rattle.fairness_audit.specs.{Texts.AreRowsAmong, Views.row_of};
 
@@ -113,11 +113,11 @@ fn rows_of<R: Abort + Threads + Wait + Sync, G: Gate + Sync>(
     workers: u16,
     gate: &G,
 ) -> Result<Vec<EnvyRow>, Fail>
-    requires workers { (1 ≤ workers) × (workers ≤ MAX_WORKERS) }
     ensures { IfOk result
         (λ rows. AreRowsAmong (length (arc_value crowd.now).menus.items)
         (arc_value crowd.now).sections (map row_of rows.items)) }
 {
+    assert!(rt; 1 <= workers && workers <= MAX_WORKERS);
     let bundles = bundles_of(rt, alloc, held)?;
     assert!(rt; is_allocation(crowd, &bundles));
     let shared = Arc::try_clone(crowd)?;
@@ -134,9 +134,7 @@ fn text_of<R: Abort + Threads + Wait + Sync>(
     roll: &Roll,
     crowd: &Arc<Crowd>,
     workers: u16,
-) -> Result<Vec<u8>, Fail>
-    requires workers { (1 ≤ workers) × (workers ≤ MAX_WORKERS) }
-{
+) -> Result<Vec<u8>, Fail> {
     assert_eq!(rt; catalog.len(), crowd.sections);
     assert_eq!(rt; usize::from(roll.len()), crowd.menus.len());
     let settled = rows_of(rt, alloc, crowd, case.settled, workers, &OpenGate)?;

@@ -74,30 +74,40 @@ fn are_of_four(places: &[Rated]) -> bool
     places.iter().all(|rated| rated.section.0 < 4)
 }
 
+// What is offered to a student: a menu of four sections, what they cost, and the budget.
+#[derive(Clone, Copy)]
+struct Offered<'a> {
+    menu: &'a Menu,
+    prices: &'a [Tokens],
+    budget: Tokens,
+    ghost priced: { HasPrices menu.now prices.now },
+    ghost of_four: { All (λ rated. rated.section.0 < 4) menu.now.places },
+}
+
 // The best bundle where four sections are offered.
-fn best_of_four(menu: &Menu, prices: &[Tokens], budget: Tokens) -> Bundle
-    requires { HasPrices menu.now prices.now }
-    ensures { IsBest (wishes_of menu.now) (price_in prices.now) budget.0 (λ s. nat_lt s 4)
-        (sections_of result) }
+fn best_of_four(offered: &Offered) -> Bundle
+    ensures { IsBest (wishes_of offered.now.menu.now) (price_in offered.now.prices.now)
+        offered.now.budget.0 (λ s. nat_lt s 4) (sections_of result) }
 {
+    let Offered {
+        menu,
+        prices,
+        budget,
+    } = *offered;
     let all = SectionSet::full(4);
     best_plain(menu, prices, budget, &all)
 }
 
 // How the check of this text ends, in the place of the tree of what was proved.
-fn checked(
-    text: &[u8],
-    menu: &Menu,
-    prices: &[Tokens],
-    budget: Tokens,
-    section: SectionNo,
-    proved: &Proved,
-) -> Result<(), u32>
-    requires prices { HasPrices menu.now prices.now }
-    requires menu { All (λ rated. rated.section.0 < 4) menu.now.places }
-    requires proved { IsProvedWith (offer_of_all menu.now prices.now budget.0 4) section.0
-        (proved_of proved.now) }
+fn checked(text: &[u8], offered: &Offered, section: SectionNo, proved: &Proved) -> Result<(), u32>
+    requires { IsProvedWith (offer_of_all offered.now.menu.now offered.now.prices.now
+        offered.now.budget.0 4) section.0 (proved_of proved.now) }
 {
+    let Offered {
+        menu,
+        prices,
+        budget,
+    } = *offered;
     check_forced(menu, prices, budget, 4, section, &proved.bundle, text)
 }
 
@@ -106,52 +116,49 @@ fn checked(
 fn fails_where_spoiled<R: Abort>(
     rt: &R,
     alloc: Global,
-    menu: &Menu,
-    prices: &[Tokens],
-    budget: Tokens,
+    offered: &Offered,
     section: SectionNo,
     proved: &Proved,
 )
-    requires prices { HasPrices menu.now prices.now }
-    requires menu { All (λ rated. rated.section.0 < 4) menu.now.places }
-    requires proved { IsProvedWith (offer_of_all menu.now prices.now budget.0 4) section.0
-        (proved_of proved.now) }
+    requires { IsProvedWith (offer_of_all offered.now.menu.now offered.now.prices.now
+        offered.now.budget.0 4) section.0 (proved_of proved.now) }
 {
     let whole = proved.tree.as_slice();
     assert!(rt; whole.len() < 100);
-    assert!(rt; checked(whole, menu, prices, budget, section, proved).is_ok());
+    assert!(rt; checked(whole, offered, section, proved).is_ok());
     for at in 0..whole.len() {
         let mut spoiled = whole.to_vec(alloc).expect(rt, "memory");
         spoiled[at] = b'?';
         let end = Err(at as u32);
-        assert!(rt; checked(&spoiled, menu, prices, budget, section, proved) == end);
-        assert!(rt; checked(&whole[..at], menu, prices, budget, section, proved) == end);
+        assert!(rt; checked(&spoiled, offered, section, proved) == end);
+        assert!(rt; checked(&whole[..at], offered, section, proved) == end);
     }
     let mut longer = whole.to_vec(alloc).expect(rt, "memory");
     longer.push(b'*').expect(rt, "memory");
     let end = Err(whole.len() as u32);
-    assert!(rt; checked(&longer, menu, prices, budget, section, proved) == end);
+    assert!(rt; checked(&longer, offered, section, proved) == end);
 }
 
 // The student of the case is told its text, and the tree is that of the best bundle with the
 // section.
-fn try_menu<R: Abort>(rt: &R, alloc: Global, case: &Case, menu: &Menu, prices: &[Tokens])
-    requires prices { HasPrices menu.now prices.now }
-    requires menu { All (λ rated. rated.section.0 < 4) menu.now.places }
-{
+fn try_offered<R: Abort>(rt: &R, alloc: Global, case: &Case, offered: &Offered) {
     let catalog = four_sections(rt, alloc);
     let student = read_name(case.student).expect(rt, "a name");
     let section = SectionNo(case.section);
-    let budget = Tokens(case.budget);
+    let Offered {
+        menu,
+        prices,
+        budget,
+    } = *offered;
     assert!(rt; section.0 < 4);
-    let bundle = best_of_four(menu, prices, budget);
+    let bundle = best_of_four(offered);
     let explained = explain(alloc, menu, prices, budget, 4, &bundle, section).expect(rt, "memory");
     let told = put_explained(alloc, &catalog, student, section, menu, &bundle, &explained).expect(
         rt, "memory",
     );
     assert!(rt; told.as_slice() == case.text.as_bytes());
     if let Some(proved) = &explained.best {
-        fails_where_spoiled(rt, alloc, menu, prices, budget, section, proved);
+        fails_where_spoiled(rt, alloc, offered, section, proved);
     }
 }
 
@@ -159,7 +166,12 @@ fn try_case<R: Abort>(rt: &R, alloc: Global, case: &Case) {
     let menu = menu_of(rt, alloc, case);
     assert!(rt; has_prices(&menu, case.prices));
     assert!(rt; are_of_four(menu.places()));
-    try_menu(rt, alloc, case, &menu, case.prices);
+    let offered = Offered {
+        menu: &menu,
+        prices: case.prices,
+        budget: Tokens(case.budget),
+    };
+    try_offered(rt, alloc, case, &offered);
 }
 
 const FREE: &[Tokens] = &[Tokens(0), Tokens(0), Tokens(0), Tokens(0)];
@@ -230,15 +242,16 @@ fn limits_beside_the_bundle(rt: HostRuntime) {
         "ann B beside credits\nbest [B] 40\nlost 10\ntree +x!-*\n",
     );
     try_case(&rt, rt.alloc(), &credits);
+    let courses = Case {
+        caps: (10, 1),
+        text: "ann B beside courses\nbest [B] 50\nlost 0\ntree +x!*\n",
+        ..TWO
+    };
+    try_case(&rt, rt.alloc(), &courses);
 }
 
 // What is told of one of two sections, with these caps.
-const OF_TWO: [((u16, u8), u16, &str); 3] = [
-    (
-        (10, 1),
-        1,
-        "ann B beside courses\nbest [B] 50\nlost 0\ntree +x!*\n",
-    ),
+const OF_TWO: [((u16, u8), u16, &str); 2] = [
     ((10, 1), 0, "ann A held\n"),
     ((10, 0), 2, "ann C unrated\n"),
 ];

@@ -1,6 +1,4 @@
 // Each call below the top call that hands its gate on, with a gate that counts.
-ghost use Rattle.std.specs.Prelude.{◌≤◌};
-
 use crate::tests::opened_halls::hall_of;
 use crate::tests::told_audits::audited;
 use made_run::{Numbers, made_summary};
@@ -72,9 +70,7 @@ fn a_hall_passes_the_gate(rt: HostRuntime) {
 
 // An audit by so many workers, each of which starts with the rows of the second stage and with the
 // final ones.
-fn try_audit<R: Abort + Threads + Wait + Sync>(rt: &R, alloc: Global, workers: u16)
-    requires { (1 ≤ workers) × (workers ≤ MAX_WORKERS) }
-{
+fn try_audit<R: Abort + Threads + Wait + Sync>(rt: &R, alloc: Global, workers: u16) {
     let watch = Watch::of(workers);
     let text = EQUAL_MARKET.term.text.as_bytes();
     let written = audited(rt, alloc, &EQUAL_MARKET, text, workers, &watch);
@@ -91,9 +87,8 @@ fn an_audit_passes_the_gate(rt: HostRuntime) {
 }
 
 // A made market of two students, each of whom gives three commands, by so many workers.
-fn try_made<R: Abort + Threads + Wait + Sync>(rt: &R, alloc: Global, workers: u16)
-    requires { (1 ≤ workers) × (workers ≤ MAX_WORKERS) }
-{
+fn try_made<R: Abort + Threads + Wait + Sync>(rt: &R, alloc: Global, workers: u16) {
+    assert!(rt; 1 <= workers && workers <= MAX_WORKERS);
     let watch = Watch::of(workers);
     let numbers = Numbers {
         seed: 7,

@@ -42,9 +42,9 @@ fn tell<R: Abort + Threads + Wait + Sync, G: Gate + Sync>(
     streams: &[Vec<HallCommand>],
     gate: &G,
 ) -> Result<Told, Fail>
-    requires sessions { (1 ≤ length streams.now) × (length streams.now ≤ MAX_SESSIONS) }
-    requires few { request_count streams.now ≤ 200 }
+    requires { request_count streams.now ≤ 200 }
 {
+    assert!(rt; 1 <= streams.len() && streams.len() <= usize::from(MAX_SESSIONS));
     let (catalog, roll) = tables_of(rt, alloc, term.catalogue, term.roll);
     let desk = desk_of(rt, alloc, &catalog, &roll, 200);
     let hall = open_hall(rt, alloc, desk, streams, gate)?;

@@ -1,7 +1,5 @@
 // Audits of published texts, and of a forged one. The texts are those of a second implementation,
 // for the same inputs.
-ghost use Rattle.std.specs.Prelude.{◌≤◌};
-
 use crate::tests::tables::{settings_of, streams_of, tables_of};
 use certificate_checker::{CheckEnd, Finding};
 use fairness_audit::published_audit;
@@ -26,9 +24,8 @@ pub(crate) fn audited<R: Abort + Threads + Wait + Sync, G: Gate + Sync>(
     text: &[u8],
     workers: u16,
     gate: &G,
-) -> Result<Vec<u8>, CheckEnd>
-    requires { (1 ≤ workers) × (workers ≤ MAX_WORKERS) }
-{
+) -> Result<Vec<u8>, CheckEnd> {
+    assert!(rt; 1 <= workers && workers <= MAX_WORKERS);
     assert!(rt; text.len() < 1000);
     let (catalog, roll) = tables_of(rt, alloc, market.term.catalogue, market.term.roll);
     let settings = settings_of(rt, alloc, market.settings);

@@ -4,10 +4,8 @@ use Rattle.std.specs.List.{range_with_len}
 use Rattle.demand_api.specs.declared.crowd.Crowd.{Crowd}
 use Rattle.demand_api.proofs.Parts.{menus_few, students_length}
 use Rattle.demand_api.proofs.Takers.{lent_back}
-use Rattle.task_board.specs.Seats.{AreBack}
 use Rattle.fairness_audit.specs.declared.terms.Terms.{Terms}
 use Rattle.fairness_audit.specs.Allocations.{Allocation, allocation_of, student_count}
-use Rattle.fairness_audit.specs.Asked.{audit_rules}
 use Rattle.fairness_audit.specs.Rows.{row, rows}
 use Rattle.fairness_audit.specs.Texts.{AreRowsAmong}
 use Rattle.fairness_audit.specs.Views.{row_of}
@@ -18,13 +16,6 @@ use Rattle.fairness_audit.proofs.auditing.audit.Goals as goal
 -- a row for each menu is one for each student
 counted : (n : ℕ) (crowd seen : Crowd) → n ≡ vec_len seen.menus → seen ≡ crowd → n ≡ length crowd.menus.items
 counted n crowd seen is same = is ∙ ap (λ (x : Crowd). vec_len x.menus) same ∙ crowd.menus.ok.0
-
-pub close-answers-requires-clause-back : goal.close-answers-requires-clause-back
-close-answers-requires-clause-back g c =
-    subst (AreBack audit_rules c.in_ok-board.board)
-    (sym
-    (lent_back c.in_ok-board.seats.len c.work_all.new.seats c.in_ok-board.seats.items (sym (c.work_all.ensures.count ∙ c.as_mut_slice.ensures.len))))
-    c.work_all.ensures.back
 
 pub write_rows-requires-clause-count : goal.write_rows-requires-clause-count
 write_rows-requires-clause-count g c =
