@@ -1,14 +1,14 @@
 -- What is seen in a bundle is worth at most the weights of its sections.
-use Rattle.std.proofs.Common.{◌≡◌, ◌≢◌, ◌<◌, ◌≤◌, ◌+◌, ◌-◌, ◌+ℤ◌, ℕ, zero, suc, Bool, true, false, List, [], ◌∷◌, length, map, slice_index, slice_set, refl, ap, sym, subst, arith, inl, inr}
-use Rattle.std.specs.Prelude.{ℤ, pos, negsuc, ◌≤ℤ◌, ◌<ℤ◌, int_lt}
-use Rattle.std.proofs.lemmas.Bool.{cases_Bool, cases_eq, cases_order, true≢false}
+use Rattle.std.proofs.Common.{◌≡◌, ◌≢◌, ◌<◌, ◌≤◌, ◌+◌, ◌-◌, ◌+ℤ◌, ℕ, zero, suc, true, false, List, [], ◌∷◌, length, map, slice_index, slice_set, ap, sym, subst, arith, inl, inr}
+use Rattle.std.specs.Prelude.{ℤ, pos, negsuc, ◌≤ℤ◌, int_lt}
+use Rattle.std.proofs.lemmas.Bool.{cases_eq}
 use Rattle.std.proofs.lemmas.Int.{ints}
 use Rattle.std.proofs.lemmas.List.{get_or-set_other, get_or-set_same}
 use Rattle.market_units.specs.Totals.{signed_total, total}
 use Rattle.bundle_rules.specs.declared.menu.Rated.{Rated}
 use Rattle.bundle_rules.specs.Menus.{IsMenu, MenuData, adjustment_in, place_in, rating_at, section_at, wishes_of, worth}
 use Rattle.market_units.specs.Members.{has}
-use Rattle.bundle_rules.specs.Sets.{AllAbove, IsAscending}
+use Rattle.bundle_rules.specs.Sets.{IsAscending}
 use Rattle.bundle_rules.specs.Wishes.{AllRated, Wishes, adjustments, utility}
 use Rattle.bundle_rules.specs.Existence.Members.{has-above, has-cases, has-here, has-there}
 use Rattle.bundle_rules.specs.Existence.Places.{rated_on_menu, section_at-place_in}

@@ -1,5 +1,5 @@
 -- Bundles without one section.
-use Rattle.std.proofs.Common.{◌≡◌, ◌<◌, ◌≤◌, ◌+◌, ◌++◌, ◌==◌, ◌∙◌, ℕ, suc, Bool, true, false, not, List, [], ◌∷◌, cond, length, get_or, take, map, refl, ap, sym, subst, arith, inl, inr}
+use Rattle.std.proofs.Common.{◌≡◌, ◌<◌, ◌≤◌, ◌+◌, ◌++◌, ◌==◌, ◌∙◌, ℕ, suc, Bool, true, false, not, List, [], ◌∷◌, length, get_or, take, refl, ap, sym, subst, arith, inl, inr}
 use Rattle.std.specs.List.{filter}
 use Rattle.std.proofs.lemmas.Bool.{cases_Bool}
 use Rattle.std.proofs.lemmas.List.{append-nil, length-map, length-take-le, take_more, map-append}
@@ -7,7 +7,6 @@ use Rattle.std.proofs.lemmas.List.Elements.{filter-append}
 use Rattle.market_units.specs.declared.units.SectionNo.{SectionNo}
 use Rattle.bundle_rules.specs.Ordinals.{ordinals}
 use Rattle.bundle_rules.specs.Sets.{AllAbove, IsAscending, without_section}
-use Rattle.bundle_rules.specs.Existence.Members.{IsAscending-front}
 use Rattle.bundle_rules.proofs.Ends.{ascending-next}
 
 filter_above : (p : ℕ → Bool) (s : ℕ) (xs : List ℕ) → AllAbove s xs → AllAbove s (filter p xs)

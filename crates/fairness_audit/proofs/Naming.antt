@@ -1,5 +1,5 @@
 -- Whom and what the rows of an allocation name.
-use Rattle.std.proofs.Common.{◌≡◌, ◌<◌, ◌≤◌, ◌+◌, ◌∙◌, ℕ, zero, suc, Bool, true, Option, Some, None, List, [], ◌∷◌, All, length, map, refl, ap, sym, subst, arith, inl, inr}
+use Rattle.std.proofs.Common.{◌≡◌, ◌<◌, ◌≤◌, ◌+◌, ◌∙◌, ℕ, zero, suc, Bool, true, Option, Some, None, List, [], ◌∷◌, All, length, refl, sym, subst, arith, inl, inr}
 use Rattle.std.specs.Prelude.{IfSome, option_map}
 use Rattle.std.specs.List.{find, range_with_len}
 use Rattle.std.proofs.lemmas.Bool.{cases_Bool}
@@ -8,16 +8,15 @@ use Rattle.std.proofs.lemmas.List.Elements.{All-map}
 use Rattle.std.proofs.lemmas.List.FromFn.{get_or-range_with_len, length-range_with_len}
 use Rattle.std.proofs.lemmas.List.Sums.{count_by-le-length}
 use Rattle.bundle_rules.specs.declared.menu.Rated.{Rated}
-use Rattle.bundle_rules.specs.Menus.{MenuData, place_in, rating_at, section_at, wishes_of}
+use Rattle.bundle_rules.specs.Menus.{MenuData, place_in, section_at, wishes_of}
 use Rattle.market_units.specs.Members.{has}
 use Rattle.bundle_rules.specs.Existence.Members.{has-here, has-there}
 use Rattle.bundle_rules.specs.Existence.Places.{rated_on_menu, section_at-place_in}
 use Rattle.bundle_rules.proofs.BestValue.{best-is}
 use Rattle.demand_api.specs.Crowds.{IsCrowd, IsWithin}
 use Rattle.fairness_audit.specs.Allocations.{Allocation, IsAllocation, bundle_at, menu_at, student_count, students}
-use Rattle.bundle_rules.specs.Sets.{without_section}
-use Rattle.fairness_audit.specs.Envy.{is_more, seen}
-use Rattle.fairness_audit.specs.Rows.{RowData, ends_but_for, envies, has_envy_beyond_one, has_higher_envy, has_lower_envy, own_worth, row, rows, sight}
+use Rattle.fairness_audit.specs.Envy.{seen}
+use Rattle.fairness_audit.specs.Rows.{ends_but_for, envies, has_envy_beyond_one, has_higher_envy, has_lower_envy, row, rows, sight}
 use Rattle.fairness_audit.specs.Texts.{AreRowsAmong, IsRowAmong, IsSightAmong}
 
 -- what is found is one of those that were looked at

@@ -1,6 +1,6 @@
 -- Envy where all have what they take at one price vector.
-use Rattle.std.proofs.Common.{◌≡◌, ◌≢◌, ◌<◌, ◌≤◌, ◌+◌, ◌++◌, ◌==◌, ◌&&◌, ◌∙◌, ℕ, zero, suc, Bool, true, false, not, List, [], ◌∷◌, length, cond, refl, ap, sym, subst, arith, inl, inr}
-use Rattle.std.specs.Prelude.{ℤ, ◌<ℤ◌, int_lt, nat_le, nat_lt, slice_index_or}
+use Rattle.std.proofs.Common.{◌≡◌, ◌≢◌, ◌<◌, ◌≤◌, ◌+◌, ◌++◌, ◌==◌, ◌&&◌, ◌∙◌, ℕ, zero, suc, Bool, true, false, not, List, [], ◌∷◌, refl, ap, sym, subst, arith, inl, inr}
+use Rattle.std.specs.Prelude.{ℤ, ◌<ℤ◌, int_lt, nat_le, nat_lt}
 use Rattle.std.specs.List.{count_by, range_with_len}
 use Rattle.std.proofs.lemmas.Bool.{cases_Bool, false≢true}
 use Rattle.std.proofs.lemmas.Bool.Decides.{nat_tests}
@@ -15,8 +15,8 @@ use Rattle.market_units.specs.Members.{has}
 use Rattle.bundle_rules.specs.Wishes.{Wishes, utility}
 use Rattle.bundle_rules.proofs.BestValue.{best-is}
 use Rattle.bundle_rules.proofs.Parts.{total_part}
-use Rattle.demand_api.specs.Crowds.{CrowdData, Student, demand, demand_of, demands}
-use Rattle.fairness_audit.specs.Allocations.{Allocation, budget_at, bundle_at, menu_at, student_at, student_count}
+use Rattle.demand_api.specs.Crowds.{demand, demands}
+use Rattle.fairness_audit.specs.Allocations.{Allocation, budget_at, bundle_at, menu_at, student_count}
 use Rattle.fairness_audit.specs.Envy.{is_more, seen}
 use Rattle.fairness_audit.specs.Laws.{AreTakenAt}
 use Rattle.fairness_audit.specs.Rows.{envies, has_lower_envy, own_worth}

@@ -1,15 +1,13 @@
 -- Lines of rows, one more of them.
-use Rattle.std.proofs.Common.{◌≡◌, ◌<◌, ◌≤◌, ◌+◌, ◌-◌, ◌++◌, ◌∙◌, ℕ, zero, suc, List, [], ◌∷◌, length, take, drop, get_or, map, refl, ap, sym, arith, append_assoc}
-use Rattle.std.specs.Prelude.{Option, None, Some, codes, option_map, slice_get}
-use Rattle.std.proofs.lemmas.List.{append-nil, get_or-map, get_or_default, length-map, take_all}
+use Rattle.std.proofs.Common.{◌≡◌, ◌<◌, ◌≤◌, ◌+◌, ◌-◌, ◌++◌, ◌∙◌, ℕ, zero, suc, List, [], ◌∷◌, length, take, drop, get_or, ap, sym, arith, append_assoc}
+use Rattle.std.specs.Prelude.{None, Some, option_map, slice_get}
+use Rattle.std.proofs.lemmas.List.{append-nil, get_or-map, take_all}
 use Rattle.std.proofs.Math.Seq.{take-length}
 use Rattle.market_certificate.specs.Lines.{joined}
 use Rattle.market_certificate.proofs.Joins.{joined_append}
 use Rattle.student_roll.specs.Students.{Student, names_of, no_student}
-use Rattle.fairness_audit.specs.declared.row.EnvyRow.{EnvyRow}
 use Rattle.fairness_audit.specs.Rows.{RowData}
 use Rattle.fairness_audit.specs.Texts.{part_lines, row_lines, rows_lines, total_line}
-use Rattle.fairness_audit.specs.Views.{row_of}
 
 -- what is read at a place
 read_at : {X Y : Type 0} (f : X → Y) (xs : List X) (n : ℕ) (y : Y) (d : X) → option_map f (slice_get xs n) ≡ Some y → y ≡ f (get_or xs n d)

@@ -1,5 +1,5 @@
 -- Rows that grow by one envied student after another.
-use Rattle.std.specs.Prelude.{ℕ, ◌+◌, Bool, not, cond, is_none, Option, Some, None}
+use Rattle.std.specs.Prelude.{◌+◌, Bool, cond, is_none, Some, None}
 use Rattle.std.specs.Option.{option_or}
 use Rattle.fairness_audit.specs.Rows.{RowData, SeenData}
 

@@ -1,7 +1,6 @@
 -- The text of an audit.
-use Rattle.std.specs.Prelude.{ℕ, ◌<◌, ◌≤◌, ◌≡◌, List, [], ◌∷◌, ◌++◌, Option, None, Some, All, IfSome, codes, length, zip}
+use Rattle.std.specs.Prelude.{ℕ, ◌<◌, ◌≤◌, ◌≡◌, List, [], ◌∷◌, ◌++◌, Option, None, Some, All, IfSome, codes, length}
 use Rattle.std.specs.Fmt.{decimal}
-use Rattle.std.specs.List.{flat_map}
 use Rattle.market_units.specs.Totals.{total}
 use Rattle.market_certificate.specs.Lines.{joined, spaced}
 use Rattle.market_certificate.specs.Tables.{name_at}

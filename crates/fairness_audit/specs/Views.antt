@@ -1,5 +1,5 @@
 -- Rows as plain data.
-use Rattle.std.specs.Prelude.{ℕ, option_map}
+use Rattle.std.specs.Prelude.{option_map}
 use Rattle.market_units.specs.declared.units.SectionNo.{SectionNo}
 use Rattle.bundle_rules.specs.Bundles.{sections_of}
 use Rattle.fairness_audit.specs.declared.row.EnvyRow.{EnvyRow}

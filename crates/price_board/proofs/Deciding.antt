@@ -1,5 +1,5 @@
 -- What the posted bundles decide.
-use Rattle.std.proofs.Common.{ℕ, zero, suc, ◌≡◌, ◌≤◌, ◌<◌, ◌+◌, ◌==◌, ◌||◌, ◌∙◌, ◌⊎◌, Bool, true, false, List, [], ◌∷◌, Some, None, Option, length, take, drop, refl, ap, sym, subst, arith, slice_index_or, nat_lt, nat_le, cond, inl, inr, if◌then◌else◌}
+use Rattle.std.proofs.Common.{ℕ, zero, suc, ◌≡◌, ◌≤◌, ◌<◌, ◌+◌, ◌==◌, ◌||◌, ◌∙◌, Bool, true, false, List, [], ◌∷◌, Some, None, Option, length, refl, ap, sym, subst, arith, slice_index_or, nat_lt, nat_le, cond, inl, inr, if◌then◌else◌}
 use Rattle.std.specs.Prelude.{IsSome, is_none}
 use Rattle.std.specs.List.{count_by}
 use Rattle.std.proofs.lemmas.Bool.{cases_Bool, false≢true}
@@ -19,11 +19,11 @@ use Rattle.price_board.specs.declared.round.Ask.{Ask}
 use Rattle.price_board.specs.declared.round.Ask.TheVariants.{Counts, Exceeds}
 use Rattle.price_board.specs.declared.tally.Tally.{Tally}
 use Rattle.price_board.specs.declared.terms.Terms.{Terms}
-use Rattle.price_board.specs.Asked.{round_rules, version_at}
+use Rattle.price_board.specs.Asked.{round_rules}
 use Rattle.price_board.specs.Closings.{AreSettled, exceeds_at, exceeds_of}
 use Rattle.price_board.specs.Lasting.{row-at}
-use Rattle.price_board.specs.Rows.{number_of, row_of, mark_of}
-use Rattle.price_board.specs.Settling.{ask_of, count_for, is_asked, is_decided, is_settled, is_with, unfilled_in}
+use Rattle.price_board.specs.Rows.{number_of, row_of}
+use Rattle.price_board.specs.Settling.{ask_of, count_for, is_settled, is_with, unfilled_in}
 use Rattle.price_board.specs.Tallies.{tally_of, exceeds_by, HaveTallied}
 use Rattle.price_board.specs.Terms.{student_count, task_count, version_count, prices_of, count_of, demand_of}
 use Rattle.price_board.proofs.Numbering.{number-below, version-at, row-length, right_bundle}

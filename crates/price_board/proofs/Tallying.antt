@@ -1,8 +1,8 @@
 -- Tallies as bundles are posted.
-use Rattle.std.proofs.Common.{ℕ, ◌≡◌, ◌<◌, ◌≤◌, ◌+◌, ◌-◌, ◌*◌, ◌∙◌, Bool, true, false, List, length, Option, Some, None, replicate, take, drop, refl, sym, ap, subst, arith, slice_index_or, slice_set, cond, inl, inr}
+use Rattle.std.proofs.Common.{ℕ, ◌≡◌, ◌<◌, ◌≤◌, ◌+◌, ◌-◌, ◌*◌, ◌∙◌, Bool, List, length, Option, Some, None, replicate, take, drop, sym, ap, subst, arith, slice_index_or, slice_set, cond, inl, inr}
 use Rattle.std.specs.Prelude.{is_none}
 use Rattle.std.proofs.lemmas.Bool.{cases_eq}
-use Rattle.std.proofs.lemmas.List.{take-replicate, drop-replicate, get_or-replicate, get_or-map, get_or-set_same, get_or-set_other, get_or_read_under, length-map, length-set, length-replicate}
+use Rattle.std.proofs.lemmas.List.{take-replicate, drop-replicate, get_or-replicate, get_or-map, get_or-set_same, get_or-set_other, get_or_read_under, length-set, length-replicate}
 use Rattle.std.proofs.lemmas.List.Folds.{sum_by-replicate}
 use Rattle.std.proofs.lemmas.List.Sums.{count_by-le-length}
 use Rattle.std.proofs.lemmas.List.{length-take}

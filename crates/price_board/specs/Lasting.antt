@@ -1,5 +1,5 @@
 -- A version that is settled stays settled, whichever bundle is posted next.
-use Rattle.std.proofs.Common.{◌≡◌, ◌≢◌, ◌<◌, ◌≤◌, ◌+◌, ◌-◌, ◌*◌, ◌==◌, ◌||◌, ◌/◌, ◌%◌, ◌∙◌, ℕ, zero, suc, Bool, true, false, List, [], ◌∷◌, length, take, drop, Option, None, Some, refl, sym, ap, subst, arith, slice_index_or, slice_set, cond, nat_lt, nat_le, inl, inr}
+use Rattle.std.proofs.Common.{◌≡◌, ◌≢◌, ◌<◌, ◌≤◌, ◌+◌, ◌-◌, ◌*◌, ◌==◌, ◌∙◌, ℕ, zero, suc, Bool, true, false, List, [], ◌∷◌, length, take, drop, Option, None, Some, refl, sym, ap, subst, arith, slice_index_or, slice_set, cond, nat_lt, nat_le, inl, inr}
 use Rattle.std.specs.Prelude.{is_none}
 use Rattle.std.proofs.lemmas.Bool.{cases_Bool, cases_eq}
 use Rattle.std.proofs.lemmas.Bool.Decides.{nat_tests}
@@ -14,7 +14,7 @@ use Rattle.price_board.specs.declared.round.Ask.TheVariants.{Counts, Exceeds}
 use Rattle.price_board.specs.declared.terms.Terms.{Terms}
 use Rattle.price_board.specs.Asked.{round_rules, version_at, student_at}
 use Rattle.price_board.specs.Rows.{number_of, row_of}
-use Rattle.price_board.specs.Settling.{ask_of, count_for, is_asked, is_decided, is_settled, unfilled_in}
+use Rattle.price_board.specs.Settling.{ask_of, count_for, is_asked, is_settled, unfilled_in}
 use Rattle.price_board.specs.Terms.{student_count, task_count, version_count}
 
 module _ {X : Type 0} where

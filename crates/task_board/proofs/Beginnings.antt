@@ -1,15 +1,15 @@
 -- The seats of a new board.
-use Rattle.std.proofs.Common.{ℕ, zero, suc, ◌≡◌, ◌≤◌, ◌+◌, ◌*◌, ◌∙◌, [], Some, length, replicate, refl, sym, ap, subst, arith, cond}
+use Rattle.std.proofs.Common.{ℕ, zero, suc, ◌≡◌, ◌≤◌, ◌+◌, ◌*◌, ◌∙◌, [], Some, replicate, refl, sym, ap, subst, arith, cond}
 use Rattle.std.proofs.Math.Nat.{suc-mul}
 use Rattle.std.proofs.lemmas.List.Folds.{sum_by-replicate}
 use Rattle.chronicle.specs.Seats.{standing}
 use Rattle.chronicle.specs.Views.{sum_of}
 use Rattle.task_board.specs.declared.mark.Mark.{Mark}
 use Rattle.task_board.specs.declared.mark.Mark.TheVariants.{Open, Held}
-use Rattle.task_board.specs.Marks.{mark_at, is_open}
+use Rattle.task_board.specs.Marks.{is_open}
 use Rattle.task_board.specs.Openings.{IsOpening}
 use Rattle.task_board.specs.Rules.{Rules}
-use Rattle.task_board.specs.Seats.{BoardOf, SeatOf, undrawn, marks_after, IsFree}
+use Rattle.task_board.specs.Seats.{BoardOf, SeatOf, undrawn, IsFree}
 use Rattle.task_board.proofs.Histories.{opened_at}
 
 pub sum_of-replicate : (n share : ℕ) → sum_of (replicate n share) ≡ n * share

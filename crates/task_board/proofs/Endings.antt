@@ -1,9 +1,8 @@
 -- A board whose seats have finished.
-use Rattle.std.proofs.Common.{ℕ, zero, suc, ◌≡◌, ◌≤◌, ◌<◌, ◌+◌, ◌==◌, ◌&&◌, ◌++◌, ◌∙◌, ◌⊎◌, Bool, true, false, not, List, [], ◌∷◌, None, Some, Option, length, filter, refl, ap, sym, subst, arith, slice_index_or, nat_lt, inl, inr}
+use Rattle.std.proofs.Common.{ℕ, zero, suc, ◌≡◌, ◌≤◌, ◌<◌, ◌+◌, ◌==◌, ◌&&◌, ◌++◌, ◌∙◌, ◌⊎◌, Bool, true, false, List, [], ◌∷◌, None, Some, Option, length, filter, refl, ap, sym, subst, arith, slice_index_or, nat_lt, inl, inr}
 use Rattle.std.specs.List.{All, Any, list_any, AllByRecursion as Each}
 use Rattle.std.specs.Prelude.{IsSome, ⊤}
 use Rattle.std.proofs.lemmas.Bool.{cases_Bool, false≢true}
-use Rattle.std.proofs.lemmas.Bool.Decides.{nat_tests}
 use Rattle.market_units.specs.Beginnings.{BeginsWith}
 use Rattle.chronicle.specs.declared.journal.StepOf.{StepOf}
 use Rattle.chronicle.specs.History.{IsLegal, state_after, calls_by}
@@ -13,13 +12,13 @@ use Rattle.task_board.specs.declared.calls.Call.TheVariants.{Draw, Post}
 use Rattle.task_board.specs.declared.calls.Posted.{Posted}
 use Rattle.task_board.specs.declared.calls.Posted.TheVariants.{Late, Taken}
 use Rattle.task_board.specs.declared.calls.Reply.{Reply}
-use Rattle.task_board.specs.declared.calls.Reply.TheVariants.{Draw as Drew, Post as Answered}
+use Rattle.task_board.specs.declared.calls.Reply.TheVariants.{Draw as Drew}
 use Rattle.task_board.specs.declared.data.Progress.{Progress}
 use Rattle.task_board.specs.declared.mark.Mark.{Mark}
 use Rattle.task_board.specs.declared.mark.Mark.TheVariants.{Open, Held, Filled, Spent}
 use Rattle.task_board.specs.Fates.{calls_on, is_on_call, drew, posted, IsWorked, IsTaken, IsTakenOrLate}
 use Rattle.task_board.specs.Kept.{AreSettled}
-use Rattle.task_board.specs.Marks.{mark_at, is_open, answer_in}
+use Rattle.task_board.specs.Marks.{mark_at, answer_in}
 use Rattle.task_board.specs.Openings.{IsOpening}
 use Rattle.task_board.specs.Rules.{Rules, IsLasting}
 use Rattle.task_board.specs.Seats.{BoardOf, SeatOf, HistoryOf, is_done, dones, marks_after, IsFinished}

@@ -1,16 +1,15 @@
 -- What a legal history of a board says of each task.
-use Rattle.std.proofs.Common.{ℕ, ◌≡◌, ◌≢◌, ◌<◌, ◌==◌, ◌++◌, ◌∙◌, true, false, List, [], ◌∷◌, Some, None, Option, length, refl, ap, sym, subst, arith, append-nil, append_assoc, slice_set, inl, inr}
-use Rattle.std.proofs.lemmas.Bool.{cases_Bool, cases_eq}
+use Rattle.std.proofs.Common.{ℕ, ◌≡◌, ◌<◌, ◌==◌, ◌++◌, ◌∙◌, true, false, List, [], ◌∷◌, length, refl, ap, sym, subst, arith, append-nil, append_assoc, slice_set, inl, inr}
+use Rattle.std.proofs.lemmas.Bool.{cases_Bool}
 use Rattle.std.proofs.lemmas.Bool.Decides.{nat_tests}
 use Rattle.std.proofs.lemmas.List.Elements.{filter-append}
 use Rattle.chronicle.specs.declared.journal.StepOf.{StepOf}
 use Rattle.chronicle.specs.History.{step_of, IsLegal, state_after}
 use Rattle.task_board.specs.declared.calls.Call.{Call}
 use Rattle.task_board.specs.declared.calls.Call.TheVariants.{Draw, Post}
-use Rattle.task_board.specs.declared.calls.Posted.{Posted}
-use Rattle.task_board.specs.declared.calls.Posted.TheVariants.{NotYours, Late, Taken}
+use Rattle.task_board.specs.declared.calls.Posted.TheVariants.{Late, Taken}
 use Rattle.task_board.specs.declared.calls.Reply.{Reply}
-use Rattle.task_board.specs.declared.calls.Reply.TheVariants.{Draw as Drew, Post as Answered}
+use Rattle.task_board.specs.declared.calls.Reply.TheVariants.{Draw as Drew}
 use Rattle.task_board.specs.declared.data.Progress.{Progress}
 use Rattle.task_board.specs.declared.mark.Mark.{Mark}
 use Rattle.task_board.specs.declared.mark.Mark.TheVariants.{Open, Held, Filled, Spent}
@@ -20,7 +19,6 @@ use Rattle.task_board.specs.Openings.{IsOpening}
 use Rattle.task_board.specs.Rules.{Rules}
 use Rattle.task_board.specs.Seats.{HistoryOf}
 use Rattle.task_board.specs.Shared.{is_sound, reply_to, progress_after}
-use Rattle.task_board.specs.Steps.{first_left, post_answer, marks_drawn, marks_posted}
 use Rattle.task_board.proofs.Keeping.{open_at}
 use Rattle.task_board.proofs.Marking.{mark-same, mark-other, closed_below}
 use Rattle.task_board.proofs.Stepping.{draw_by, post_by, left_open}

@@ -1,24 +1,22 @@
 -- What the marks of a board keep through draws and posts.
-use Rattle.std.proofs.Common.{ℕ, zero, suc, ◌≡◌, ◌≢◌, ◌<◌, ◌≤◌, ◌+◌, ◌==◌, ◌&&◌, ◌∙◌, Bool, true, false, not, List, [], ◌∷◌, length, map, Some, None, Option, refl, sym, ap, subst, arith, slice_index_or, slice_set, replicate, cond, inl, inr}
+use Rattle.std.proofs.Common.{ℕ, zero, suc, ◌≡◌, ◌≢◌, ◌<◌, ◌≤◌, ◌+◌, ◌==◌, ◌&&◌, ◌∙◌, true, false, not, List, [], ◌∷◌, length, Some, None, refl, sym, ap, subst, arith, slice_set, replicate, cond, inl, inr}
 use Rattle.std.specs.List.{AllByRecursion as Each}
 use Rattle.std.specs.Prelude.{⊤}
-use Rattle.std.proofs.lemmas.Bool.{cases_Bool, cases_eq, false≢true, true≢false}
+use Rattle.std.proofs.lemmas.Bool.{cases_Bool, cases_eq, false≢true}
 use Rattle.std.proofs.lemmas.Bool.Decides.{nat_tests}
 use Rattle.std.proofs.lemmas.List.{length-map, length-set, length-replicate}
 use Rattle.std.proofs.lemmas.List.Sums.{sum_by-set}
 use Rattle.chronicle.specs.declared.journal.StepOf.{StepOf}
-use Rattle.chronicle.specs.History.{state_after, calls_by}
+use Rattle.chronicle.specs.History.{calls_by}
 use Rattle.task_board.specs.declared.calls.Call.{Call}
 use Rattle.task_board.specs.declared.calls.Reply.{Reply}
-use Rattle.task_board.specs.declared.data.Progress.{Progress}
 use Rattle.task_board.specs.declared.mark.Mark.{Mark}
 use Rattle.task_board.specs.declared.mark.Mark.TheVariants.{Open, Held, Filled, Spent}
 use Rattle.task_board.specs.Kept.{AreRight, KeepsMarks}
 use Rattle.task_board.specs.Marks.{mark_at, is_open, answer_in, answers_in}
 use Rattle.task_board.specs.Rules.{Rules, IsLasting}
 use Rattle.task_board.specs.Seats.{HistoryOf, undrawn}
-use Rattle.task_board.specs.Shared.{progress_after}
-use Rattle.task_board.specs.Steps.{is_over, is_left, first_left}
+use Rattle.task_board.specs.Steps.{is_over, is_left}
 use Rattle.task_board.proofs.Marking.{mark-same, mark-other, answers-set, answer-at, answers-kept, closed_below, open_is}
 use Rattle.task_board.proofs.Stepping.{IsKeptBy, left_open, over_of}
 

@@ -1,8 +1,8 @@
 -- A seat's calls on a board.
-use Rattle.std.proofs.Common.{ℕ, zero, suc, ◌≡◌, ◌≢◌, ◌≤◌, ◌<◌, ◌+◌, ◌-◌, ◌==◌, ◌&&◌, ◌++◌, ◌∙◌, ◌↔◌, Bool, true, false, List, [], ◌∷◌, Some, None, Option, length, nat_lt, replicate, take, refl, ap, sym, subst, arith, slice_set, inl, inr}
+use Rattle.std.proofs.Common.{ℕ, ◌≡◌, ◌≢◌, ◌≤◌, ◌<◌, ◌+◌, ◌-◌, ◌&&◌, ◌++◌, ◌∙◌, ◌↔◌, Bool, true, false, List, [], ◌∷◌, Some, None, Option, length, nat_lt, take, refl, ap, sym, subst, arith, slice_set, inl, inr}
 use Rattle.std.proofs.Math.Seq.{take-append_seam}
 use Rattle.std.specs.Prelude.{⊤}
-use Rattle.std.proofs.lemmas.Bool.{cases_eq, false≢true, true≢false}
+use Rattle.std.proofs.lemmas.Bool.{cases_eq, false≢true}
 use Rattle.std.proofs.lemmas.Bool.Decides.{nat_tests}
 use Rattle.std.proofs.lemmas.List.{length-append, length-replicate}
 use Rattle.std.proofs.lemmas.List.Elements.{filter-append}
@@ -21,12 +21,12 @@ use Rattle.task_board.specs.declared.mark.Mark.TheVariants.{Open, Held, Filled, 
 use Rattle.task_board.specs.Marks.{mark_at, is_open, is_held_by, answers_in}
 use Rattle.task_board.specs.Openings.{IsOpening}
 use Rattle.task_board.specs.Rules.{Rules}
-use Rattle.task_board.specs.Seats.{BoardOf, SeatOf, HistoryOf, is_done, is_post, dones, posts, undrawn, marks_after, marks_before_last, Holds, HoldsNothing, HoldsOnly, IsSeatOf, IsFree, IsHolding, IsFinished}
+use Rattle.task_board.specs.Seats.{BoardOf, SeatOf, HistoryOf, is_done, is_post, dones, posts, undrawn, marks_after, marks_before_last, Holds, HoldsNothing, HoldsOnly, IsSeatOf, IsHolding, IsFinished}
 use Rattle.task_board.specs.Shared.{is_sound, reply_to, progress_after}
-use Rattle.task_board.specs.Steps.{first_left, is_over, marks_drawn, post_answer, marks_posted}
+use Rattle.task_board.specs.Steps.{first_left, marks_drawn, post_answer, marks_posted}
 use Rattle.task_board.specs.Turns.{HoldsDrawn, AfterDraw, HasDrawn, HasPosted}
 use Rattle.task_board.proofs.Keeping.{anyone, others, keeps_count, keeps_drawn_ones, keeps_holder, undrawn-drawn, undrawn-posted}
-use Rattle.task_board.proofs.Marking.{mark-same, mark-other, closed_below, held_is, is_held}
+use Rattle.task_board.proofs.Marking.{mark-same, mark-other, closed_below, is_held}
 use Rattle.task_board.proofs.Stepping.{IsNext, draw_by, post_by, keeps_all, left_open}
 
 dones-append : {A : Type 0} (xs ys : HistoryOf A) → dones (xs ++ ys) ≡ dones xs + dones ys

@@ -1,12 +1,9 @@
 -- The steps of a board by their cases, and what they keep.
-use Rattle.std.proofs.Common.{ℕ, zero, suc, ◌≡◌, ◌≢◌, ◌<◌, ◌≤◌, ◌+◌, ◌==◌, ◌&&◌, ◌∙◌, Bool, true, false, not, List, [], ◌∷◌, length, Some, None, Option, refl, sym, ap, subst, arith, slice_index_or, slice_set, inl, inr}
+use Rattle.std.proofs.Common.{ℕ, zero, suc, ◌≡◌, ◌<◌, ◌≤◌, ◌+◌, ◌&&◌, ◌∙◌, Bool, true, false, not, List, [], ◌∷◌, length, Some, None, Option, refl, sym, ap, subst, arith, slice_set, inl, inr}
 use Rattle.std.specs.List.{AllByRecursion as Each}
 use Rattle.std.proofs.lemmas.Bool.{cases_Bool, cases_eq, false≢true, true≢false}
-use Rattle.std.proofs.lemmas.Bool.Decides.{nat_tests}
-use Rattle.std.proofs.lemmas.List.{length-map, length-set}
-use Rattle.std.proofs.lemmas.List.Sums.{sum_by-set}
 use Rattle.chronicle.specs.declared.journal.StepOf.{StepOf}
-use Rattle.chronicle.specs.History.{state_after, calls_by}
+use Rattle.chronicle.specs.History.{state_after}
 use Rattle.task_board.specs.declared.calls.Call.{Call}
 use Rattle.task_board.specs.declared.calls.Call.TheVariants.{Draw, Post}
 use Rattle.task_board.specs.declared.calls.Posted.{Posted}
@@ -15,12 +12,12 @@ use Rattle.task_board.specs.declared.calls.Reply.{Reply}
 use Rattle.task_board.specs.declared.data.Progress.{Progress}
 use Rattle.task_board.specs.declared.mark.Mark.{Mark}
 use Rattle.task_board.specs.declared.mark.Mark.TheVariants.{Open, Held, Filled, Spent}
-use Rattle.task_board.specs.Marks.{mark_at, is_open, is_held_by, answer_in, answers_in}
-use Rattle.task_board.specs.Rules.{Rules, IsLasting}
-use Rattle.task_board.specs.Seats.{HistoryOf, undrawn}
+use Rattle.task_board.specs.Marks.{mark_at, is_open, is_held_by, answers_in}
+use Rattle.task_board.specs.Rules.{Rules}
+use Rattle.task_board.specs.Seats.{HistoryOf}
 use Rattle.task_board.specs.Shared.{progress_after}
 use Rattle.task_board.specs.Steps.{first_from, is_over, is_left, first_left, with_holder, marks_drawn, post_answer, marks_posted}
-use Rattle.task_board.proofs.Marking.{mark-same, mark-other, answers-set, answer-at, answers-kept, closed_below, held_is, open_is}
+use Rattle.task_board.proofs.Marking.{held_is, open_is}
 
 -- ---- the first number that passes a test
 

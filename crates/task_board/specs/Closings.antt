@@ -1,5 +1,5 @@
 -- A board that has come to its end.
-use Rattle.std.specs.Prelude.{ℕ, ◌≡◌, ◌<◌, ◌⊎◌, List, [], IsSome, All, Any, length}
+use Rattle.std.specs.Prelude.{ℕ, ◌≡◌, ◌⊎◌, List, [], IsSome, All, Any, length}
 use Rattle.chronicle.specs.declared.journal.StepOf.{StepOf}
 use Rattle.chronicle.specs.History.{IsLegal, state_after, calls_by}
 use Rattle.task_board.specs.declared.calls.Call.{Call}

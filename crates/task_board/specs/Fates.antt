@@ -1,5 +1,5 @@
 -- What a history of a board says of one task.
-use Rattle.std.specs.Prelude.{ℕ, ◌≡◌, ◌==◌, ◌⊎◌, Bool, true, false, List, [], ◌∷◌, Some, None, filter}
+use Rattle.std.specs.Prelude.{ℕ, ◌≡◌, ◌==◌, ◌⊎◌, Bool, true, false, [], ◌∷◌, Some, None, filter}
 use Rattle.chronicle.specs.declared.journal.StepOf.{StepOf}
 use Rattle.chronicle.specs.History.{step_of}
 use Rattle.task_board.specs.declared.calls.Call.{Call}

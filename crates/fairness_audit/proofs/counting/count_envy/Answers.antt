@@ -1,9 +1,7 @@
 use Rattle.std.proofs.Common.{rules, ◌≡◌, ◌<◌, ◌≤◌, ◌∙◌, ℕ, List, length, arith, ap, sym, subst, slice_index_or, Fits, to_z, of_z, w16, w32}
 use Rattle.std.proofs.lemmas.Int.{ints}
-use Rattle.std.specs.Prelude.{None, Some, option_map}
-use Rattle.bundle_rules.specs.Bundles.{sections_of}
+use Rattle.std.specs.Prelude.{option_map}
 use Rattle.demand_api.proofs.Parts.{menus_few}
-use Rattle.fairness_audit.specs.Rows.{envied}
 use Rattle.fairness_audit.specs.Views.{row_of, seen_of}
 use Rattle.fairness_audit.proofs.Allocated.{as_many, few_so_far, own_feasible, past_content, past_envied, past_itself, row_whole}
 use Rattle.fairness_audit.proofs.counting.count_envy.Goals as goal

@@ -1,4 +1,4 @@
-use Rattle.std.proofs.Common.{◌≡◌, ◌≤◌}
+use Rattle.std.proofs.Common.{◌≡◌}
 use Rattle.std.specs.List.{range_with_len}
 use Rattle.fairness_audit.specs.Allocations.{allocation_of}
 use Rattle.fairness_audit.specs.Rows.{row_over}

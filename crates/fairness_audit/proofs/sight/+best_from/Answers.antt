@@ -6,7 +6,7 @@ use Rattle.bundle_rules.specs.Ordinals.{ordinals}
 use Rattle.bundle_rules.specs.Wishes.{IsFeasible}
 use Rattle.bundle_rules.specs.Existence.Extending.{nothing_later, best_with, best_not_with, best_without}
 use Rattle.fairness_audit.specs.Searching.{IsBestOfThese}
-use Rattle.fairness_audit.proofs.Seeing.{none, ascending_rest, ascending_wider, ascending_first, first_later, later_split, no_later, free_choice, few_left}
+use Rattle.fairness_audit.proofs.Seeing.{none, ascending_rest, ascending_first, first_later, later_split, no_later, free_choice, few_left}
 use Rattle.fairness_audit.proofs.sight.+best_from.Goals as goal
 
 pub best_from-without-requires : goal.best_from-without-requires

@@ -1,4 +1,4 @@
-use Rattle.std.proofs.Common.{rules, ◌≤◌, length, subst, sym, ◌≡◌, ◌∙◌, ℕ, arith}
+use Rattle.std.proofs.Common.{rules, ◌≤◌, length, subst, sym, ◌≡◌, ℕ, arith}
 use Rattle.std.proofs.lemmas.List.{length-map}
 use Rattle.market_units.specs.declared.units.SectionNo.{SectionNo}
 use Rattle.bundle_rules.specs.Ordinals.{ordinals}

@@ -1,4 +1,4 @@
-use Rattle.std.proofs.Common.{◌≡◌, ◌∙◌, ℕ, Bool, None, Some, not, length, take, get_or, ap, sym, to_z, of_z, w32}
+use Rattle.std.proofs.Common.{◌≡◌, ◌∙◌, ℕ, Bool, not, get_or, ap, sym, to_z, of_z, w32}
 use Rattle.std.specs.List.{find}
 use Rattle.std.proofs.lemmas.Int.{to_z-of_z}
 use Rattle.bundle_rules.specs.Bundles.{sections_of}

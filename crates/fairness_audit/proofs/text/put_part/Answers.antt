@@ -1,11 +1,11 @@
-use Rattle.std.proofs.Common.{rules, ◌≡◌, ◌<◌, ◌∙◌, ℕ, List, length, get_or, map, ap, sym, subst, arith}
+use Rattle.std.proofs.Common.{rules, ◌≡◌, ◌<◌, ◌∙◌, ℕ, length, get_or, map, sym, subst, arith}
 use Rattle.std.specs.Prelude.{codes}
 use Rattle.std.proofs.lemmas.List.{length-map}
 use Rattle.market_units.specs.Name.{name_bytes}
 use Rattle.course_catalog.specs.Sections.{section_names}
 use Rattle.market_certificate.proofs.Joins.{each_at, mapped_at}
 use Rattle.student_roll.specs.Students.{Student, names_of}
-use Rattle.fairness_audit.specs.Texts.{IsRowAmong, counts_line, total_line}
+use Rattle.fairness_audit.specs.Texts.{IsRowAmong, counts_line}
 use Rattle.fairness_audit.specs.Views.{row_of}
 use Rattle.fairness_audit.proofs.RowTexts.{part_whole, row_more, student_name}
 use Rattle.fairness_audit.proofs.text.put_part.Goals as goal

@@ -1,9 +1,8 @@
-use Rattle.std.proofs.Common.{◌≡◌, ◌∙◌, ℕ, ap, sym, subst, arith, to_z, of_z, w64, slice_index, rules}
+use Rattle.std.proofs.Common.{◌≡◌, ◌∙◌, ℕ, ap, subst, arith, to_z, of_z, w64, slice_index, rules}
 use Rattle.std.specs.Prelude.{ℤ, pos, ◌≤ℤ◌, int_lt, false}
 use Rattle.std.proofs.lemmas.Int.{ints}
 use Rattle.market_units.specs.Totals.{total}
 use Rattle.bundle_rules.specs.Bundles.{sections_of}
-use Rattle.bundle_rules.specs.Sets.{IsAscending}
 use Rattle.fairness_audit.proofs.Bounds.{not_more}
 use Rattle.fairness_audit.proofs.weights.may_be_more.Goals as goal
 

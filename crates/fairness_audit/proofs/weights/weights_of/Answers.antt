@@ -1,7 +1,7 @@
-use Rattle.std.proofs.Common.{◌≡◌, ◌<◌, ◌≤◌, ◌+◌, ◌-◌, ◌*◌, ◌∙◌, ℕ, All, length, replicate, slice_index, slice_index_or, slice_set, refl, ap, sym, subst, arith}
+use Rattle.std.proofs.Common.{◌≡◌, ◌<◌, ◌≤◌, ◌+◌, ◌-◌, ◌*◌, ◌∙◌, ℕ, length, replicate, slice_index, slice_index_or, slice_set, refl, ap, sym, subst, arith}
 use Rattle.std.proofs.lemmas.List.{get_or-replicate, length-set}
 use Rattle.std.proofs.lemmas.List.Elements.{All-set}
-use Rattle.bundle_rules.specs.Menus.{adjustment_in, rating_at, section_at}
+use Rattle.bundle_rules.specs.Menus.{adjustment_in, section_at}
 use Rattle.bundle_rules.specs.Existence.Places.{rating_at-is, section_at-is}
 use Rattle.fairness_audit.specs.Weights.{gains, weight_at}
 use Rattle.fairness_audit.proofs.Bounds.{weight_written, weights_are}

@@ -1,4 +1,4 @@
-use Rattle.std.proofs.Common.{ℕ, ◌+◌, ◌/◌, ◌%◌, rules}
+use Rattle.std.proofs.Common.{◌+◌, ◌/◌, ◌%◌, rules}
 use Rattle.std.specs.Fmt.{decimal}
 use Rattle.market_maker.specs.Catalogs.{course_name, meeting_of, section_name}
 use Rattle.market_maker.proofs.Written.{five_written}

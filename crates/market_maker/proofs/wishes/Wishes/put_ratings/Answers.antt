@@ -1,4 +1,4 @@
-use Rattle.std.proofs.Common.{◌+◌, ◌++◌, arith, ap, ◌∙◌}
+use Rattle.std.proofs.Common.{◌++◌, arith, ap, ◌∙◌}
 use Rattle.market_maker.specs.Lines.{ended}
 use Rattle.market_maker.specs.Sessions.{rating_behind, rating_line}
 use Rattle.market_maker.proofs.Growing.{line_more}

@@ -1,4 +1,4 @@
-use Rattle.std.proofs.Common.{ℕ, ◌≡◌, ◌≤◌, ◌<◌, ◌∙◌, length, replicate, arith, ap, sym, vec_len, Fits, w32}
+use Rattle.std.proofs.Common.{ℕ, ◌≡◌, ◌≤◌, ◌∙◌, length, replicate, arith, ap, sym, vec_len, Fits, w32}
 use Rattle.std.specs.Arc.{arc_value}
 use Rattle.std.proofs.lemmas.List.{length-map, length-replicate}
 use Rattle.demand_api.specs.declared.crowd.Crowd.{Crowd}
@@ -6,7 +6,7 @@ use Rattle.demand_api.specs.Views.{data_of}
 use Rattle.demand_api.proofs.Parts.{students_few, students_length}
 use Rattle.price_board.specs.declared.tally.Tally.{Tally}
 use Rattle.price_board.specs.Openings.{terms_of}
-use Rattle.price_board.specs.Terms.{student_count, version_count}
+use Rattle.price_board.specs.Terms.{version_count}
 use Rattle.price_board.proofs.Tallying.{nothing_tallied}
 use Rattle.price_board.proofs.tasks.RoundTasks.make.Goals as goal
 

@@ -1,8 +1,8 @@
-use Rattle.std.proofs.Common.{ℕ, ◌≡◌, ◌≤◌, ◌<◌, arith, subst}
+use Rattle.std.proofs.Common.{◌≤◌, ◌<◌, arith, subst}
 use Rattle.std.specs.Arc.{arc_value}
 use Rattle.task_board.specs.Marks.{answers_in}
 use Rattle.price_board.specs.Openings.{terms_of}
-use Rattle.price_board.specs.Terms.{student_count, version_count}
+use Rattle.price_board.specs.Terms.{student_count}
 use Rattle.price_board.proofs.Tallying.{may_note, noted_there, tally_small, unanswered_there}
 use Rattle.price_board.proofs.tasks.RoundTasksTasks.note.Goals as goal
 

@@ -1,4 +1,4 @@
-use Rattle.std.proofs.Common.{◌≡◌, ◌≤◌, ◌<◌, ◌+◌, ◌*◌, ◌∙◌, ℕ, ap, sym, subst, arith, length, slice_index, replicate}
+use Rattle.std.proofs.Common.{◌≡◌, ◌≤◌, ◌<◌, ◌+◌, ◌*◌, ◌∙◌, ℕ, ap, sym, subst, arith, length, slice_index}
 use Rattle.std.proofs.lemmas.List.{get_or-replicate}
 use Rattle.chronicle.specs.Views.{sum_of}
 use Rattle.task_board.specs.Openings.{opening_of}

@@ -1,4 +1,4 @@
-use Rattle.std.proofs.Common.{ℕ, ◌≡◌, ◌<◌, ◌≤◌, ◌∙◌, true, false, None, Some, length, ap, sym, subst, arith, slice_set}
+use Rattle.std.proofs.Common.{ℕ, ◌≡◌, ◌<◌, ◌≤◌, true, false, None, Some, length, ap, sym, subst, arith, slice_set}
 use Rattle.task_board.specs.declared.data.StateData.{StateData}
 use Rattle.task_board.specs.declared.mark.Mark.TheVariants.{Held}
 use Rattle.task_board.specs.Marks.{answer_in}

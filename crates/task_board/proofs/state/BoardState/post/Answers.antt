@@ -1,4 +1,4 @@
-use Rattle.std.proofs.Common.{◌≡◌, ◌∙◌, true, Some, slice_set, ap, sym, subst}
+use Rattle.std.proofs.Common.{◌≡◌, true, Some, slice_set, ap, sym, subst}
 use Rattle.task_board.specs.declared.data.StateData.{StateData}
 use Rattle.task_board.specs.declared.mark.Mark.TheVariants.{Held, Filled, Spent}
 use Rattle.task_board.specs.Kept.{KeepsMarks}
