@@ -10,4 +10,5 @@ use Rattle.demand_workers.specs.Views.{crowd_of}
 abbrev pub AreSurveyed : Inquiries → Type 0
 AreSurveyed inquiries =
     IsSurvey (crowd_of (arc_value inquiries.remembered))
-    (arc_value inquiries.remembered).bundles.items (prices_of inquiries.versions.items) (length inquiries.versions.items) inquiries.list.items
+    (arc_value inquiries.remembered).bundles.items (prices_of inquiries.versions.items)
+    (length inquiries.versions.items) inquiries.list.items
