@@ -9,5 +9,6 @@ use Rattle.demand_workers.specs.Views.{crowd_of}
 -- who is not asked at one of the versions takes there what is remembered
 abbrev pub AreSurveyed : Inquiries → Type 0
 AreSurveyed inquiries =
-    IsSurvey (crowd_of (arc_value inquiries.remembered)) (arc_value inquiries.remembered).bundles.items
-    (prices_of inquiries.versions.items) (length inquiries.versions.items) inquiries.list.items
+    IsSurvey (crowd_of (arc_value inquiries.remembered))
+    (arc_value inquiries.remembered).bundles.items (prices_of inquiries.versions.items)
+    (length inquiries.versions.items) inquiries.list.items

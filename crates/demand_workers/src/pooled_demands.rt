@@ -113,7 +113,8 @@ impl<'g> PooledDemands<AnyGate<'g>> {
         prices: &[Tokens],
     ) -> Result<Remembered, NoMemory>
         requires { ArePricesFor (data_of (arc_value self.now.crowd)) prices.now }
-        ensures crowd { IfOk result (λ memory. crowd_of memory ≡ data_of (arc_value self.now.crowd)) }
+        ensures crowd { IfOk result
+            (λ memory. crowd_of memory ≡ data_of (arc_value self.now.crowd)) }
         ensures prices { IfOk result (λ memory. memory.prices.items ≡ prices.now) }
     {
         let copy = prices.to_vec(alloc)?;
@@ -333,7 +334,7 @@ impl Demands for PooledDemands<AnyGate<'_>> {
         let [(section, limit)] = pairs else {
             return self.least_for_each(rt, alloc, &remembered, pairs);
         };
-        // What is taken at the least price is remembered: whoever raises the price asks for it next.
+        // What is taken at the least price is remembered: who raises the price asks for it next.
         let walk = self.walk_alone(rt, alloc, &remembered, *section, *limit)?;
         let memory = self.raised_memory(rt, alloc, &walk)?;
         let found = vec![in alloc; walk.least; 1]?;

@@ -14,8 +14,8 @@ use std::sync::{Mutex, Wait};
 use std::thread;
 use std::thread::Threads;
 
-/// What all workers find on a board, from the start of the first of them to the answers: it is given
-/// no allocator and has no error, so no memory is taken meanwhile.
+/// What all workers find on a board, from the start of the first of them to the answers: it is
+/// given no allocator and has no error, so no memory is taken meanwhile.
 pub(crate) fn work_and_close<R: Threads + Wait + Sync>(
     rt: &R,
     board: Board,

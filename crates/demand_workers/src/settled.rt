@@ -11,8 +11,8 @@ use crate::remembered::Remembered;
 use bundle_rules::{Bundle, price_of};
 use market_units::{StudentNo, Tokens};
 
-/// What the student takes at these prices, those remembered with the section at the least price of a
-/// walk, where it does not hold the section, or where that is noted or still remembered.
+/// What the student takes at these prices, those remembered with the section at the least price of
+/// a walk, where it does not hold the section, or where that is noted or still remembered.
 pub(crate) fn settled(walk: &Walk, prices: &[Tokens], student: StudentNo) -> Option<Bundle>
     requires raised { prices.now
         ≡ slice_set (arc_value walk.now.remembered).prices.items walk.now.section.0

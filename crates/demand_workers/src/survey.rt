@@ -30,7 +30,8 @@ impl Survey {
         requires { version < length (arc_value self.now.found.inquiries).versions.items }
         ensures len { IfOk result
             (λ bundles. length bundles.items
-            ≡ length (crowd_of (arc_value (arc_value self.now.found.inquiries).remembered)).students) }
+            ≡ length
+            (crowd_of (arc_value (arc_value self.now.found.inquiries).remembered)).students) }
         ensures taken { IfOk result
             (λ bundles. AreTaken
             (crowd_of (arc_value (arc_value self.now.found.inquiries).remembered))
