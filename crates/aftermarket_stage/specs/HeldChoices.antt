@@ -35,8 +35,9 @@ AreKnown terms held known =
     → IsBest (wishes_of who.menu) (price_in terms.prices) (raised_by terms.raise who.budget)
     (set.contains sections) bundle
 
--- where the aftermarket stands: the floor tells what is held, of which each student holds a bundle
--- that it may take and afford with the raise, and what is known of each is so
+-- how the aftermarket stands: the floor counts what is held; each student holds a bundle that it may
+-- take and afford with the raise; and that is the best one of the sections that are known of the
+-- student, where some are
 pub record Stands (terms : Terms) (floor : Floor)
     (known : List (Option (set.FinSet nat_cmp))) : Type 0 where
   pub counted : IsFloor terms.seats floor

@@ -1,4 +1,4 @@
--- How great the numbers of a prospect are at most.
+-- What is known of every prospect: how great its numbers are at most, and that it is on the menu.
 use Rattle.std.specs.Prelude.{◌<◌, ◌≤◌, List, length, All}
 use Rattle.market_units.specs.declared.limits.TheConstants.{MAX_PRICE, MAX_RATINGS}
 use Rattle.bundle_rules.specs.Menus.{MenuData}

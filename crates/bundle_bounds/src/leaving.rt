@@ -7,8 +7,8 @@ ghost use Rattle.bundle_bounds.specs.{Modest.IsModest, Tangents.IsTangent, Tange
 use crate::prospects::{Prospect, Prospects, Rate, Resource, peak_among, peak_of};
 use crate::tangents::{Tangent, Tangents};
 
-// The first of some open places, those behind it, and of these the first ones: all of its course
-// are among them.
+// The first of some open places, those behind it, and so many of these from the front that all of
+// the first one's course are among them. The first and the front ones are within their ranges.
 #[derive(Clone, Copy)]
 struct Front<'p> {
     one: &'p Prospect,

@@ -16,7 +16,8 @@ pub(crate) enum Resource {
     Count,
 }
 
-/// A resource at a price: thousandths of a point of utility for each token, credit or section.
+/// A resource at a price: thousandths of a point of utility for each token, credit or section, at
+/// most 20,000,000.
 #[derive(Clone, Copy)]
 pub(crate) struct Rate {
     pub(crate) resource: Resource,
@@ -35,7 +36,7 @@ pub(crate) struct Prospect {
     pub(crate) credits: u16,
 }
 
-/// What is known of the open places of a node, in the menu's order, each within its range.
+/// What is known of open places, at most 60, each within its range.
 #[derive(Clone, Copy)]
 pub(crate) struct Prospects<'p> {
     pub(crate) list: &'p [Prospect],
@@ -73,7 +74,8 @@ pub(crate) struct Peak {
     pub(crate) after: u64,
 }
 
-/// What is left of 1000 times a prospect's worth over the price of what it takes of the resource.
+/// 1000 times a prospect's worth, less the price of what it takes of the resource, 0 where that is
+/// negative; and the same at the next price.
 #[inline(always)]
 pub(crate) fn peak_of(prospect: &Prospect, rate: Rate) -> Peak
     requires modest { IsModest prospect.now }

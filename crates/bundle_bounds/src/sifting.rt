@@ -26,7 +26,7 @@ pub(crate) fn rests_after(rests: Rests, one: &Prospect) -> Rests
     }
 }
 
-/// Chosen places, and the last of them, which was open before.
+/// Chosen places, and a place of the menu, which is to be the last of them.
 #[derive(Clone, Copy)]
 pub(crate) struct Widened<'c, 'o> {
     pub(crate) chosen: Chosen<'c, 'o>,

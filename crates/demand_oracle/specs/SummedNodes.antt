@@ -39,6 +39,6 @@ pub record IsSummed (menu : MenuData) (price : ℕ → ℕ) (summed : SummedNode
   pub utility : summed.utility ≡ utility (wishes_of menu) (chosen_of summed)
   pub small : AreSmallSums (length (chosen_of summed)) summed.paid summed.credits summed.utility
 
--- the same at the prices of an offer
+-- the node keeps its sums at the prices of an offer
 abbrev pub IsSummedOf : OfferData → SummedNode → Type 0
 IsSummedOf offer summed = IsSummed offer.menu offer.price summed

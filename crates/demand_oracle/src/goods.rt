@@ -29,7 +29,7 @@ pub(crate) struct Goods {
 impl Goods {
     ghost use Rattle.demand_oracle.specs.AtPlaces.{IsGoods};
 
-    /// The goods of a menu at these prices, with this budget and these allowed sections.
+    /// The goods of an offer.
     pub(crate) fn of(offer: &Offer) -> Goods
         ensures goods { IsGoods (data_of offer.now) result }
         ensures menu { IsMenu offer.now.menu.now }

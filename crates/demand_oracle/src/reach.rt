@@ -73,8 +73,7 @@ impl Reach {
         }
     }
 
-    /// Measures what can be reached at these prices with this budget and these allowed sections.
-    /// There is a price for each section of the menu, each at most 1,000,001.
+    /// Measures what can be reached of an offer.
     pub fn measure(&mut self, offer: &Offer)
         ensures { IsReach (data_of offer.now) self.new }
     {
@@ -173,8 +172,8 @@ impl Reach {
 
     /// A node that begins well: its sections are chosen one after another, each the one that adds
     /// most for what it takes, of those that fit. A search that begins with it as its champion
-    /// prunes most nodes at once. The table is one that was measured for the same menu, prices,
-    /// budget and allowed sections; with another the node may be worth little.
+    /// prunes most nodes at once. The table is one that was measured for the same offer;
+    /// with another the node may be worth little.
     pub fn first_champion(&self, offer: &Offer) -> SummedNode
         ensures { IsChampion (data_of offer.now) result }
     {

@@ -1,4 +1,4 @@
-// A node with an undecided place, whose section may be taken too.
+// A node, and an undecided place whose section is tried.
 ghost use Rattle.std.specs.Prelude.{◌≡◌, ◌↔◌, ◌<◌, ◌≤◌, ◌+◌, ◌*◌, ◌++◌, ◌∷◌, [], ◌≤ℤ◌, pos, neg_ℤ, IsTrue, length};
 ghost use Rattle.bundle_rules.specs.{Menus.section_at, Menus.wishes_of, Wishes.utility};
 ghost use Rattle.bundle_bounds.specs.{Laws.IsTakable, Laws.IsNode, Views.data_of};
@@ -9,7 +9,8 @@ use crate::summed_node::SummedNode;
 use bundle_bounds::{Node, Offer, adjustments_with, is_apart, price_of_place};
 use market_units::MAX_COURSES;
 
-/// A node with its sums, at an offer, and a place of the offer's menu that is undecided there.
+/// A node with its sums at the prices of an offer, and a place of the offer's menu that is undecided
+/// there.
 #[derive(Clone, Copy)]
 pub(crate) struct Step<'s, 'o> {
     pub(crate) offer: &'s Offer<'o>,

@@ -22,7 +22,8 @@ calls_of shelf = shelf.calls
 abbrev pub FailsNext : MemoryShelf → Type 0
 FailsNext shelf = Contains (failing_of shelf) (one_more (calls_of shelf))
 
--- what it tells: its files, the first 128 begun texts, and how many calls have failed, by name
+-- what it tells: its files, the texts that were begun, while there is room for them, and how many
+-- calls have failed, by name
 abbrev pub told_by : MemoryShelf → ShelfState
 told_by shelf = record {
   holds = Some (holding_of shelf.files.items);

@@ -45,7 +45,7 @@ IsBegin before after name result =
     MatchResult result (λ _. HasBegun before after name) (λ _. HasNotBegun before after name)
 
 -- so many of the next bytes of the begun text are taken, and stand at the front of the room: none
--- at the end of the text alone, or where there is no room
+-- only at the end of the text, or where there is no room
 pub record HasRead (before after : ShelfState) (room : List ℕ) (count : ℕ) : Type 0 where
   pub holds : after.holds ≡ before.holds
   pub begun : IsTrue after.is_begun
@@ -68,7 +68,7 @@ pub record HasNotRead (before after : ShelfState) : Type 0 where
       → Rose (before.faults other) (after.faults other)
   pub later : (other : List ℕ) → before.faults other ≤ after.faults other
 
--- what a read with this result does, which leaves the room so
+-- what a read with this result does; the room is as it is after the read
 abbrev pub IsRead : {E : Type 0} → ShelfState → ShelfState → List ℕ → Result ℕ E → Type 0
 IsRead before after room result =
     MatchResult result (HasRead before after room) (λ _. HasNotRead before after)

@@ -9,7 +9,7 @@ use Rattle.market_edge.specs.SureFiles.{is_begun_text, left_of_begun, names_begu
 abbrev pub files_of : SureShelf → List File
 files_of shelf = shelf.files.items
 
--- it tells what it holds, and no call has failed
+-- it tells what it holds, and not what was begun; no call has failed
 abbrev pub shown_by : SureShelf → ShelfState
 shown_by shelf = record {
   holds = Some (sure_holding shelf.files.items);

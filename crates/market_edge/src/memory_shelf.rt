@@ -12,8 +12,8 @@ use market_units::NoMemory;
 use std::alloc::Global;
 
 /// A shelf of files in memory, whose calls of certain numbers fail. Begins and reads together are
-/// numbered from 1. Of two files of one name the first counts. It tells of the first 128 begun
-/// texts.
+/// numbered from 1. Of two files of one name the first counts. It tells what was begun until
+/// more than 128 texts were begun before the last.
 #[derive(Drop)]
 pub struct MemoryShelf {
     files: Vec<(String, Vec<u8>)>,

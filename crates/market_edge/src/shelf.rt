@@ -1,4 +1,4 @@
-// What texts are read from. Each has a name, and is read from its first byte on.
+// Where texts are read from. Each text has a name, and is read from its first byte on.
 ghost use Rattle.std.specs.Prelude.{◌<◌, length, IsTrue};
 ghost use Rattle.market_edge.specs.Shelves.{ShelfState, IsBegin, IsRead};
 
@@ -9,8 +9,9 @@ pub struct Failed;
 /// Where texts are read from. A call that fails is counted, by the names that it may be about, and
 /// no other call is.
 pub trait Shelf {
-    /// What it shows: what it holds, where it tells, which no call changes; the text that is begun,
-    /// the names that a failed read may be about, what was begun before, and the counts of faults.
+    /// What it shows: what it holds, where it tells; the text that is begun; the names that a failed
+    /// read may be about; what was begun before; and the counts of faults. No call changes what it
+    /// holds.
     ghost shows: { Self → ShelfState };
 
     /// Begins the text of a name at its first byte. After a failed call no text is begun.

@@ -42,7 +42,7 @@ IsFinished board seat = IsFinishedSeat round_rules board seat
 abbrev pub HasBegun : RoundBoard → List RoundSeat → ℕ → Type 0
 HasBegun board seats workers = HasBoardBegun round_rules board seats workers
 
--- all seats are back, and no worker has a task or is left one
+-- all seats are back, and each worker was answered that there is no task
 abbrev pub AreBack : RoundBoard → List RoundSeat → Type 0
 AreBack board seats = AreBoardBack round_rules board seats
 

@@ -1,11 +1,11 @@
-// What is taken at a vector of prices.
+// A vector of prices, with counts and seats.
 ghost use Rattle.std.specs.Prelude.{◌≡◌, ◌≤◌, All, length};
 ghost use Rattle.market_units.specs.declared.limits.TheConstants.{MAX_SECTIONS, MAX_STUDENTS};
 
 use market_units::Tokens;
 
-/// A vector of prices, with the count of each section at them and its seats, each by ordinal. There
-/// are at most 400 sections, and at most 2,000 students take one.
+/// A vector of prices, with a count and a seat number for each section, by ordinal. There are at
+/// most 400 sections, and each count is at most 2,000.
 #[derive(Clone, Copy)]
 pub(crate) struct Taken<'a> {
     pub(crate) prices: &'a [Tokens],

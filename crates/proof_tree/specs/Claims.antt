@@ -13,6 +13,6 @@ offer_in claim = data_of claim.offer.now
 abbrev pub champion_in : Claim → List ℕ
 champion_in claim = sections_of claim.champion.now
 
--- and their places
+-- the places of the champion of a claim
 abbrev pub champions_places : Claim → List ℕ
 champions_places claim = places_of (offer_in claim).menu (champion_in claim)

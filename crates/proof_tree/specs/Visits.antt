@@ -1,46 +1,30 @@
 -- What is asked of a node of a tree.
 use Rattle.std.specs.Prelude.{ℕ, List}
 use Rattle.bundle_rules.specs.Bundles.{sections_of}
-use Rattle.bundle_bounds.specs.declared.nodes.Leaf.{Leaf}
 use Rattle.bundle_bounds.specs.declared.stems.Stem.{Stem}
 use Rattle.bundle_bounds.specs.Offers.{places_of}
-use Rattle.bundle_bounds.specs.Bounds.{bounds, IsFirstPruning, NonePrunes}
 use Rattle.proof_tree.specs.declared.signs.Sign.{Sign}
 use Rattle.proof_tree.specs.declared.visit.Visit.{Visit}
 use Rattle.proof_tree.specs.Claims.{offer_in, champion_in, champions_places}
 use Rattle.proof_tree.specs.Trees.{IsShut, IsSign, HasNoSign}
 use Rattle.proof_tree.specs.Standing.{IsStemAt}
 
--- the places that are chosen there
+-- the places that are chosen at the node
 abbrev pub chosen_at : Visit → List ℕ
 chosen_at visit = places_of (offer_in visit.claim).menu (sections_of visit.node.chosen)
 
--- the required place is undecided there and not open
+-- the required place is undecided at the node and not open
 abbrev pub IsShutAt : Visit → Type 0
 IsShutAt visit =
     IsShut (offer_in visit.claim) visit.claim.required visit.node.place (chosen_at visit)
 
--- the leaf of the first bound that prunes the node, for the champion
-abbrev pub IsPruningAt : Visit → Leaf → Type 0
-IsPruningAt visit =
-    IsFirstPruning (offer_in visit.claim) visit.node.place (chosen_at visit)
-    (champions_places visit.claim)
-    (bounds (offer_in visit.claim) visit.node.place (chosen_at visit))
-
--- no bound prunes it
-abbrev pub NonePrunesAt : Visit → Type 0
-NonePrunesAt visit =
-    NonePrunes (offer_in visit.claim) visit.node.place (chosen_at visit)
-    (champions_places visit.claim)
-    (bounds (offer_in visit.claim) visit.node.place (chosen_at visit))
-
--- its canonical sign
+-- the canonical sign of the node
 abbrev pub IsSignAt : Visit → Sign → Type 0
 IsSignAt visit =
     IsSign (offer_in visit.claim) visit.claim.required (champions_places visit.claim)
     visit.node.place (chosen_at visit)
 
--- it has none
+-- the node has no canonical sign
 abbrev pub HasNoSignAt : Visit → Type 0
 HasNoSignAt visit =
     HasNoSign (offer_in visit.claim) visit.claim.required (champions_places visit.claim)

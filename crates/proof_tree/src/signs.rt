@@ -87,7 +87,7 @@ fn is_place(required: Option<u8>, place: u8) -> bool
 }
 
 /// The canonical sign of a node, or `None` where it has none: all places are decided, the chosen
-/// sections are not the champion, and no bound prunes it. The stem at this place is that of the
+/// sections are not the champion, and no bound prunes it. The stem at this index is that of the
 /// node, and keeps what is computed.
 #[inline(always)]
 pub(crate) fn sign_at(visit: &Visit, stems: &mut [Stem], at: usize) -> Option<Sign>

@@ -8,7 +8,7 @@ ghost use Rattle.proof_tree.specs.Visits.{chosen_at, HasStemAt};
 use crate::visit::Visit;
 use bundle_bounds::Stem;
 
-/// The stem at this place becomes that of the node without the next place.
+/// The stem at this index becomes that of the node without the next place.
 #[inline(always)]
 pub(crate) fn pass_at(stems: &mut [Stem], at: usize, visit: &Visit)
     requires at { at < length stems.old }
@@ -43,7 +43,7 @@ pub(crate) fn take_at(stems: &mut [Stem], at: usize, visit: &Visit)
     front[at].take(claim.offer, claim.champion, &visit.node, &mut back[0]);
 }
 
-/// The stem behind this place is copied to it.
+/// The stem behind this index is copied to it.
 pub(crate) fn put_back(stems: &mut [Stem], at: usize)
     requires { at + 1 < length stems.old }
     ensures stem { (d : Stem)

@@ -1,7 +1,7 @@
 // The bytes of a symbol.
 ghost use Rattle.std.specs.Prelude.{◌≤◌};
 
-/// The symbol of a sign, as bytes.
+/// The symbol of a sign, as its one to three bytes.
 #[derive(Clone, Copy)]
 pub(crate) struct Symbol {
     bytes: [u8; 3],

@@ -1,4 +1,4 @@
-// A node of the walk of a tree.
+// A node at which a tree is walked.
 ghost use Rattle.std.specs.Prelude.{◌≤◌, length};
 ghost use Rattle.bundle_rules.specs.Bundles.{sections_of};
 ghost use Rattle.bundle_bounds.specs.{Laws.IsNode, Props.IsNode-prop};
@@ -7,7 +7,7 @@ ghost use Rattle.proof_tree.specs.Claims.{offer_in};
 use crate::claim::Claim;
 use bundle_bounds::Node;
 
-/// A node of the tree of a claim.
+/// A node of the search, with the claim whose tree is walked: at most all places are decided.
 #[derive(Clone, Copy)]
 pub(crate) struct Visit<'c, 'o> {
     pub(crate) claim: Claim<'c, 'o>,

@@ -157,7 +157,7 @@ impl Walk {
         self.count += 1;
     }
 
-    // Lets the nodes below a node wait, whose stems stand behind those of the nodes that wait.
+    // Lets the nodes below a node wait. Their stems stand behind those of the nodes that wait.
     #[inline(always)]
     fn put_below(&mut self, visit: &Visit, sign: Sign)
         requires few { self.old.count ≤ MAX_COURSES }

@@ -16,7 +16,8 @@ pub record IsVisit (crowd : CrowdData) (seats : List ℕ) (visit : Visit) : Type
   pub counts : visit.counts.items ≡ counts_at crowd visit.prices.items
   pub error : visit.error ≡ error_at crowd seats visit.prices.items
 
--- a visit from which the search of a crowd may start: to the price 0 for each section
+-- the visit with which a search of this crowd starts, that to the price 0 for each section; there is
+-- one seat number for each section
 pub record IsStart (crowd : CrowdData) (seats : List ℕ) (visit : Visit) : Type 0 where
   pub known : IsCrowd crowd
   pub seated : length seats ≡ crowd.sections
@@ -37,7 +38,8 @@ IsNext crowd seats meant None = meant ≡ None
 IsNext crowd seats meant (Some visit) =
     (meant ≡ Some visit.prices.items) × IsVisit crowd seats visit
 
--- the walk is where the search is after its number of turns
+-- the walk is where the search is after its number of turns; there is one seat number for each
+-- section
 pub record IsWalk (crowd : CrowdData) (seats : List ℕ) (settings : Settings)
     (walk : Walk) : Type 0 where
   pub known : IsCrowd crowd

@@ -76,7 +76,7 @@ fn better(alloc: Global, best: Best, visit: &Visit) -> Result<Best, NoMemory>
 }
 
 impl Walk {
-    /// The search before its first turn, whose one visit is this one, the best so far.
+    /// The search before its first turn: it made this visit alone, which is the best so far.
     pub(crate) fn begin(
         alloc: Global,
         current: Visit,

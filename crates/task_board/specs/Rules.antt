@@ -20,8 +20,8 @@ IsLasting {B = B} {A = A} rules =
     → slice_index_or answers other (Some answer) ≡ None → rules.is_over terms answers task ≡ true
     → rules.is_over terms (slice_set answers other (Some answer)) task ≡ true
 
--- By how many tasks there are and which answers are right: the rules of tasks none of which is over
--- before it is posted
+-- The rules of so many tasks with these right answers, where no task is over before it is posted and
+-- nothing is told
 abbrev pub all_asked : {B A : Type 0} → (B → ℕ) → (B → ℕ → A → Bool) → Rules B A
 all_asked count is_right =
     record {
@@ -31,6 +31,7 @@ all_asked count is_right =
       tally = λ terms answers task. 0;
     }
 
+-- such tasks last
 pub never_over : {B A : Type 0} (count : B → ℕ) (is_right : B → ℕ → A → Bool)
     → IsLasting (all_asked count is_right)
 never_over count is_right terms answers task other answer each below none over = over

@@ -122,7 +122,7 @@ module _ {B A : Type 0} (rules : Rules B A) where
     pub free : All (IsFree board) seats
     pub fresh : All (λ (s : SeatOf B A). (s.seen ≡ []) × (s.own ≡ [])) seats
 
-  -- all seats of the board are back, in any order, and no worker has a task or is left one
+  -- all seats of the board are back, in any order, and each worker was answered that there is no task
   pub record AreBack (board : BoardOf B A) (seats : List (SeatOf B A)) : Type 0 where
     pub all : (n : ℕ) → n < length board.allotments
         → Any (λ (s : SeatOf B A). s.number ≡ n) seats
