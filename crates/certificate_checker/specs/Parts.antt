@@ -50,9 +50,9 @@ pub record AreHeldOn (seats : List ℕ) (bundles : List (List ℕ)) (floor : Flo
   pub is_floor : IsFloor seats floor
   pub held : held_on floor ≡ bundles
 
--- What is known where the turn of a number is looked at: the publication may be, it has fewer than
--- 2 ^ 32 - 1 turns, and has this one; the students have their turns in this order in each pass; and
--- the passes have come so far before the turn.
+-- What is known where the turn of a number is looked at. The publication can be checked, has this
+-- turn and fewer than 2 ^ 32 - 1; the students have their turns in this order in each pass; and this
+-- is how far the passes have come before the turn.
 pub record IsNextTurn (terms : Terms) (publication : declared.Publication) (order : List ℕ)
     (progress : Progress) (place : ℕ) : Type 0 where
   pub can : CanCheck terms (publication_of publication)

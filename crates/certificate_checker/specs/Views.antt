@@ -15,9 +15,10 @@ terms_of terms =
       raise = terms.raise;
     }
 
--- the terms by which what is printed is checked, and the publication that is printed
+-- by what a printed publication is checked
 abbrev pub terms_seen : Printed → TermsData
 terms_seen printed = terms_of printed.terms.now
 
+-- the publication that is printed
 abbrev pub printed_in : Printed → Publication
 printed_in printed = publication_of printed.publication.now

@@ -8,8 +8,9 @@ ghost use Rattle.certificate_checker.specs.Parts.{CanCheck};
 use crate::terms::Terms;
 use market_certificate::Publication;
 
-/// A publication, and what it is checked by: it has a line for each of their students and sections,
-/// and fewer than 4,294,967,295 turns.
+/// A publication, and the terms by which it is checked. It has a line for each student and each
+/// section of the terms, and fewer than 4,294,967,295 turns; the terms have seats for each section,
+/// and a raise of at most 50 percent.
 #[derive(Clone, Copy)]
 pub(crate) struct Printed<'a> {
     pub terms: &'a Terms,

@@ -1,4 +1,4 @@
--- Inquiries that leave out whom what is remembered settles.
+-- Inquiries of all students but those of whom the remembered bundle is known to be the right one.
 use Rattle.std.specs.Prelude.{length}
 use Rattle.std.specs.Arc.{arc_value}
 use Rattle.demand_workers.specs.declared.inquiry.Inquiries.{Inquiries}

@@ -1,4 +1,4 @@
--- What is remembered and asked, as plain data.
+-- What is remembered, as plain data.
 use Rattle.std.specs.Prelude.{ℕ, List}
 use Rattle.std.specs.Arc.{arc_value}
 use Rattle.bundle_rules.specs.Demand.{price_in}
@@ -10,6 +10,6 @@ use Rattle.demand_workers.specs.declared.remembered.Remembered.{Remembered}
 abbrev pub crowd_of : Remembered → CrowdData
 crowd_of remembered = data_of (arc_value remembered.crowd)
 
--- the prices at which it is remembered
+-- the price of each section at which the bundles are remembered
 abbrev pub price_before : Remembered → ℕ → ℕ
 price_before remembered = price_in remembered.prices.items

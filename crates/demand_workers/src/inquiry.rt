@@ -1,4 +1,4 @@
-// What is asked of single students, and what was found.
+// What is asked of single students.
 ghost use Rattle.std.specs.Prelude.{All, length};
 ghost use Rattle.std.specs.Arc.{arc_value};
 ghost use Rattle.demand_workers.specs.{Inquiring.IsInquiry, Rounds.AreVersionsFor, Views.crowd_of};

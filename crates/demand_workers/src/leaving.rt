@@ -26,8 +26,9 @@ pub(crate) struct Note {
     pub bundle: Bundle,
 }
 
-// A walk to the least price of a section, the others as remembered: that price, and what those took
-// on the way there who were asked.
+// A walk to the least price of a section, the others as remembered: a price from its remembered one
+// up, at most the top, and what those took at prices up to it who were asked. `least_price` makes it
+// with the least price.
 #[derive(Drop)]
 pub(crate) struct Walk {
     pub remembered: Arc<Remembered>,

@@ -12,7 +12,6 @@ use std::sync::Mutex;
 pub struct Pool {
     /// How many workers there are.
     pub workers: u16,
-    pub(crate) alloc: Global,
     // Behind locks, since threads share them: a thread is lent only what it has to answer. A worker
     // locks its own, which no other does meanwhile.
     workspaces: Vec<Mutex<Workspace>>,
@@ -35,7 +34,6 @@ impl Pool {
         }
         Ok(Pool {
             workers,
-            alloc,
             workspaces,
         })
     }

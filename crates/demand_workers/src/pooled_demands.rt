@@ -169,7 +169,8 @@ impl<'g> PooledDemands<AnyGate<'g>> {
         survey.bundles_at(alloc, 0)
     }
 
-    // What is found at these versions for those whom what is remembered does not settle.
+    // What is found at these versions, each student asked of whom the remembered bundle is not known
+    // to be right.
     fn survey<R: Threads + Wait + Sync>(
         &self,
         rt: &R,
@@ -218,8 +219,8 @@ impl<'g> PooledDemands<AnyGate<'g>> {
         Ok(memory)
     }
 
-    // What is remembered, or, where nothing is, what each student takes at these prices, which is
-    // remembered then: of several versions that lie about one, that one may serve for the others.
+    // What is remembered; where nothing is, what each student takes at these prices, which then is
+    // remembered. Of several versions that lie close together one may serve for the others.
     fn recall_first<R: Threads + Wait + Sync>(
         &mut self,
         rt: &R,

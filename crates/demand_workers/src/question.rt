@@ -1,7 +1,7 @@
 // What is asked of a student of whom something is remembered.
 ghost use Rattle.std.specs.Prelude.{◌<◌, length};
 ghost use Rattle.std.specs.Arc.{arc_value};
-ghost use Rattle.demand_api.specs.{Asking.ArePricesFor};
+ghost use Rattle.demand_api.specs.Asking.{ArePricesFor};
 ghost use Rattle.demand_workers.specs.Views.{crowd_of};
 
 use crate::cheaper::Cheaper;
@@ -9,7 +9,7 @@ use crate::remembered::Remembered;
 use bundle_rules::{Bundle, Menu, price_of};
 use market_units::{StudentNo, Tokens};
 
-/// A student of a crowd of which something is remembered, and prices at which it is asked.
+/// A student of a remembered crowd, and prices at which it is asked.
 #[derive(Clone, Copy)]
 pub(crate) struct Question<'a> {
     pub remembered: &'a Remembered,

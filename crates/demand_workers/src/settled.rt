@@ -11,8 +11,9 @@ use crate::remembered::Remembered;
 use bundle_rules::{Bundle, price_of};
 use market_units::{StudentNo, Tokens};
 
-/// What the student takes at these prices, those remembered with the section at the least price of
-/// a walk, where it does not hold the section, or where that is noted or still remembered.
+/// What the student takes at these prices: the remembered ones, with the section at the least price
+/// of the walk. Who does not hold the section takes what is remembered. Of a holder it is what is
+/// noted or kept; `None` where neither is known.
 pub(crate) fn settled(walk: &Walk, prices: &[Tokens], student: StudentNo) -> Option<Bundle>
     requires raised { prices.now
         ≡ slice_set (arc_value walk.now.remembered).prices.items walk.now.section.0

@@ -16,7 +16,8 @@ use demand_api::Crowd;
 use market_units::{NoMemory, Tokens};
 use std::alloc::Global;
 
-/// What was found for those students whom what is remembered does not settle at some versions.
+/// What students who were asked take at some versions. Who was not asked at one of them takes there
+/// what is remembered.
 #[derive(Drop)]
 pub(crate) struct Survey {
     pub found: Found,

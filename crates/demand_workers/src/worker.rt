@@ -21,8 +21,8 @@ use market_units::{MAX_WORKERS, SectionSet, StudentNo, Tokens};
 use price_board::{Board, BoardSeat, Draw};
 use std::sync::{Arc, Mutex, Wait};
 
-/// What the workers of a price board are lent: the crowd, the prices of its one version, and what
-/// is remembered of the crowd, if anything is.
+/// What the workers of a price board are lent: the crowd, the prices of the board's one version, and
+/// what is remembered of the crowd, if anything is.
 #[derive(Clone, Copy)]
 pub(crate) struct Lent<'a> {
     pub crowd: &'a Crowd,

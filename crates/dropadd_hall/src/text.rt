@@ -16,7 +16,7 @@ use market_units::{NoMemory, SectionNo, StudentNo};
 use std::alloc::Global;
 use student_roll::Roll;
 
-// A desk, and the catalogue and the roll that it is one for.
+// A desk, and the catalogue and the roll for which it was opened.
 #[derive(Clone, Copy)]
 struct NamedDesk<'a> {
     catalog: &'a Catalog,

@@ -6,7 +6,7 @@ ghost use Rattle.fairness_audit.specs.Props.{IsAllocation-prop};
 use bundle_rules::{Bundle, feasible};
 use demand_api::Crowd;
 
-/// A crowd, and a bundle for each of its students, which it may take.
+/// A crowd, and for each of its students a bundle that the student may take.
 #[derive(Clone, Copy)]
 pub(crate) struct Allocated<'a> {
     pub crowd: &'a Crowd,

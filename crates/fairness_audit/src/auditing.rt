@@ -46,16 +46,38 @@ pub fn audit<R: Threads + Wait + Sync, G: Gate + Sync>(
     let held = Arc::try_clone(&bundles)?;
     let tasks = AuditTasks::of(shared, held);
     let mut found = vec![in alloc; EnvyRow::empty(); crowd.menus.len()]?;
-    let (board, mut seats) = Board::start(alloc, tasks, workers)?;
-    // From here on no allocator is given, so no memory is taken.
+    let (board, seats) = Board::start(alloc, tasks, workers)?;
     let allocated = Allocated {
         crowd: &crowd,
         bundles: &bundles,
     };
-    work_all(rt, &board, seats.as_mut_slice(), &allocated, gate);
-    let answers = board.close(seats);
-    write_rows(&answers, &mut found);
+    work_and_write(rt, board, seats, &allocated, &mut found, gate);
     Ok(found)
+}
+
+// From the start of the first worker to the rows: it is given no allocator and has no error, so no
+// memory is taken meanwhile.
+fn work_and_write<R: Threads + Wait + Sync, G: Gate + Sync>(
+    rt: &R,
+    board: Board<AuditTasks>,
+    mut seats: Vec<BoardSeat<AuditTasks>>,
+    allocated: &Allocated,
+    rows: &mut [EnvyRow],
+    gate: &G,
+)
+    requires board { board.base.allocation
+        ≡ allocation_of allocated.now.crowd.now allocated.now.bundles.now }
+    requires begun { HasBegun audit_rules board seats.items (length seats.items) }
+    requires enough { (1 ≤ length seats.items) × (length seats.items ≤ MAX_WORKERS) }
+    requires rows { length rows.old ≡ student_count board.base.allocation }
+    requires few { length rows.old ≤ MAX_STUDENTS }
+    ensures count { length rows.new ≡ length rows.old }
+    ensures each { (i : ℕ) (d : EnvyRow) → i < length rows.new
+        → row_of (slice_index_or rows.new i d) ≡ row board.base.allocation i }
+{
+    work_all(rt, &board, seats.as_mut_slice(), allocated, gate);
+    let answers = board.close(seats);
+    write_rows(&answers, rows);
 }
 
 // Each worker works at its seat, in a thread of its own where one can be started.

@@ -15,7 +15,7 @@ use market_units::{MAX_ADJUSTMENT, MAX_COURSES, MAX_SECTIONS, SectionNo};
 const SECTIONS: usize = MAX_SECTIONS as usize;
 
 /// A student's menu, and what each section can at most add to a bundle of the student, by ordinal:
-/// at most 20,000. A section that the student does not rate adds nothing.
+/// at most 20,000.
 #[derive(Drop)]
 pub(crate) struct Weights<'a> {
     pub menu: &'a Menu,

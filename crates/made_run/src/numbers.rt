@@ -13,7 +13,7 @@ pub struct Numbers {
     pub sections: u16,
     /// The greatest clearing error that its settings accept, at most 10^12.
     pub accept: u64,
-    // What is known of any `u64`, and told of none in a struct.
+    // True of every `u64`; the prover is not told so of a field.
     pub ghost seed_fits: { seed < 2 ^ 64 },
     pub ghost some_students: { 1 ≤ students },
     pub ghost few_students: { students ≤ MAX_STUDENTS },

@@ -15,7 +15,7 @@ use std::alloc::Global;
 use std::sync::Wait;
 use std::thread::Threads;
 
-/// The numbers that the words of `make` say, in their ranges: a market is made of them.
+/// The numbers that the words of `make` say: a market is made of them.
 #[derive(Clone, Copy)]
 pub struct MakeNumbers {
     pub seed: u64,

@@ -28,7 +28,8 @@ pub fn exit_code<R: Threads + Wait + Sync, H: Shelf, K: Sink>(
     gate: &(dyn Gate + Sync),
 ) -> ExitCode
     // The process ends with the number of a status, which a call with the words behind its name
-    // answers; or there is no memory for these words, and the shelf stays as it was.
+    // answers; or there is no memory for these words, and the shelf stays as it was. What the shelf
+    // holds stays, and no count of faults falls.
     ensures { (status : Status) × (exit_status result ≡ number_of status)
         × EndsProcess (words_given args) H.Shelf shelf.old shelf.new
         (writing K.Sink sink.old sink.new) status }

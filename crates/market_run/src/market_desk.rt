@@ -7,8 +7,8 @@ ghost use Rattle.published_parts.specs.{Markets.names_in, Views.market_in};
 use preference_desk::Desk;
 use published_parts::Market;
 
-/// A market, and the desk at which its students were heard. Each entry of the desk's journal is of
-/// a session from 1 to 64.
+/// A market, and the desk at which its students were heard, which knows just the market's students
+/// and sections. Each entry of the desk's journal is of a session from 1 to 64.
 #[derive(Clone, Copy)]
 pub struct MarketDesk<'a> {
     /// The market.

@@ -18,7 +18,7 @@ offer_taken taken place =
     let student = student_in crowd place in
     offer_to student (price_in taken.prices.now) student.budget (all_sections crowd.sections)
 
--- and what it takes of it
+-- what the student of a number takes of that offer
 abbrev pub bundle_taken : Taken → ℕ → List ℕ
 bundle_taken taken place = slice_index_or (map sections_of taken.bundles.now) place []
 

@@ -17,7 +17,7 @@ pub(crate) struct Chosen<'a> {
     pub prices: &'a [Tokens],
     pub raise: u8,
     pub turns: &'a [Turn],
-    // What is known of any slice, and told of none in a struct.
+    // True of every slice; the prover is not told so of a field.
     pub ghost fits: { length turns.now < 2 ^ 64 },
     pub ghost priced: { ArePricesFor (data_of crowd.now) prices.now },
     pub ghost raised: { raise ≤ MAX_RAISE },

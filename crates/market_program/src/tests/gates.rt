@@ -3,7 +3,7 @@ use super::*;
 use market_edge::MeetingGate;
 use worked_terms::{FIVE_SECTIONS_HELD, FOUR_ENVY};
 
-// What stands on a shelf, and whoever passes this gate: the text of a command whose work is done.
+// The text of a command over these files, past this gate. Its work is done.
 pub(super) fn done_past<R: Threads + Wait + Sync + Abort>(
     rt: &R,
     alloc: Global,

@@ -18,7 +18,8 @@ use std::process::Abort;
 use student_roll::Roll;
 use utility_language::Command;
 
-/// The tables and the settings of a market, and the desk after its sessions have spoken.
+/// The tables and the settings of a market, and the desk after its sessions have spoken. The desk
+/// knows the names of the tables, and the settings are in their ranges.
 #[derive(Drop)]
 pub struct Said {
     pub catalog: Catalog,

@@ -1,4 +1,4 @@
-use Rattle.std.proofs.Common.{◌≡◌, ◌≤◌, ◌+◌, ◌∙◌, ℕ, length, map, ap, sym, subst, arith, vec_len}
+use Rattle.std.proofs.Common.{◌≡◌, ◌≤◌, ◌<◌, ◌+◌, ◌∙◌, ℕ, length, map, ap, sym, subst, arith, vec_len}
 use Rattle.std.specs.Arc.{arc_value}
 use Rattle.std.specs.List.{range_with_len}
 use Rattle.demand_api.specs.declared.crowd.Crowd.{Crowd}
@@ -17,18 +17,18 @@ use Rattle.fairness_audit.proofs.auditing.audit.Goals as goal
 counted : (n : ℕ) (crowd seen : Crowd) → n ≡ vec_len seen.menus → seen ≡ crowd → n ≡ length crowd.menus.items
 counted n crowd seen is same = is ∙ ap (λ (x : Crowd). vec_len x.menus) same ∙ crowd.menus.ok.0
 
-pub write_rows-requires-clause-count : goal.write_rows-requires-clause-count
-write_rows-requires-clause-count g c =
+pub work_and_write-requires-clause-rows : goal.work_and_write-requires-clause-rows
+work_and_write-requires-clause-rows g c κs within =
     let shared : arc_value c.in_ok-shared.shared ≡ arc_value c.args.crowd = c.in_ok-shared.ensures in
     let held : arc_value c.in_ok-held.held ≡ arc_value c.args.bundles = c.in_ok-held.ensures in
     c.deref_mut.ensures.len ∙ c.in_ok-found.ensures.len ∙ counted c.len.result (arc_value c.args.crowd) c.deref.result.now c.len.ensures c.deref.ensures
     ∙ sym (students_length (arc_value c.args.crowd))
     ∙ sym
-    (ap (λ (t : Terms). student_count t.allocation) (c.close-answers.ensures.terms ∙ c.in_ok-board.ensures.terms) ∙ ap student_count c.of-tasks.ensures
+    (ap (λ (t : Terms). student_count t.allocation) c.in_ok-board.ensures.terms ∙ ap student_count c.of-tasks.ensures
     ∙ (λ i. student_count (allocation_of (shared i) (held i).items)))
 
-pub write_rows-requires-clause-few : goal.write_rows-requires-clause-few
-write_rows-requires-clause-few g c =
+pub work_and_write-requires-clause-few : goal.work_and_write-requires-clause-few
+work_and_write-requires-clause-few g c κs within =
     let n : ℕ = length c.deref_mut.result.now in
     let is : n ≡ length (arc_value c.args.crowd).menus.items =
     c.deref_mut.ensures.len ∙ c.in_ok-found.ensures.len ∙ counted c.len.result (arc_value c.args.crowd) c.deref.result.now c.len.ensures c.deref.ensures in
@@ -41,19 +41,18 @@ returns g c =
     let items = (arc_value c.args.bundles).items in
     let shared : arc_value c.in_ok-shared.shared ≡ crowd = c.in_ok-shared.ensures in
     let held : arc_value c.in_ok-held.held ≡ arc_value c.args.bundles = c.in_ok-held.ensures in
-    let base = c.close-answers.result.terms.allocation in
+    let base = c.in_ok-board.board.base.allocation in
     let last : base ≡ allocation_of crowd items =
-    ap (λ (t : Terms). t.allocation) (c.close-answers.ensures.terms ∙ c.in_ok-board.ensures.terms) ∙ c.of-tasks.ensures
-    ∙ (λ i. allocation_of (shared i) (held i).items) in
-    let n : ℕ = length c.write_rows.new.rows in
+    ap (λ (t : Terms). t.allocation) c.in_ok-board.ensures.terms ∙ c.of-tasks.ensures ∙ (λ i. allocation_of (shared i) (held i).items) in
+    let n : ℕ = length c.work_and_write.new.rows in
     let s : ℕ = student_count (allocation_of crowd items) in
-    let lent = c.write_rows.ensures.count ∙ c.deref_mut.ensures.len in
+    let lent = c.work_and_write.ensures.count ∙ c.deref_mut.ensures.len in
     let students : n ≡ s =
     lent ∙ c.in_ok-found.ensures.len ∙ counted c.len.result crowd c.deref.result.now c.len.ensures c.deref.ensures ∙ sym (students_length crowd) in
-    let told : map row_of c.write_rows.new.rows ≡ map (row base) (range_with_len 0 n) =
-    listed row_of (row base) c.write_rows.new.rows 0
-    (λ i d low. c.write_rows.ensures.each i d low ∙ ap (row base) (let goal : i ≡ 0 + i = omega arith in goal)) in
-    let whole = ap (map row_of) (lent_back c.in_ok-found.found.len c.write_rows.new.rows c.in_ok-found.found.items (sym lent)) ∙ told
+    let told : map row_of c.work_and_write.new.rows ≡ map (row base) (range_with_len 0 n) =
+    listed row_of (row base) c.work_and_write.new.rows 0
+    (λ i d low. c.work_and_write.ensures.each i d low ∙ ap (row base) (let goal : i ≡ 0 + i = omega arith in goal)) in
+    let whole = ap (map row_of) (lent_back c.in_ok-found.found.len c.work_and_write.new.rows c.in_ok-found.found.items (sym lent)) ∙ told
     ∙ ap (λ (a : Allocation). map (row a) (range_with_len 0 n)) last ∙ ap (λ m. map (row (allocation_of crowd items)) (range_with_len 0 m)) students in
     record {
       rows = whole;
