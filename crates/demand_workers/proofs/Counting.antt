@@ -1,19 +1,12 @@
 -- Counts that grow by one bundle after another.
-use Rattle.std.proofs.Common.{ℕ, suc, ◌≡◌, ◌≢◌, ◌<◌, ◌≤◌, ◌+◌, ◌∙◌, ◌++◌, List, [], ◌∷◌, Vec, Global, length, map, take, drop, replicate, slice_index, slice_index_or, slice_set, refl, ap, sym, arith, inl, inr}
-use Rattle.std.proofs.lemmas.Bool.{cases_order}
-use Rattle.std.proofs.lemmas.List.{get_or-replicate, get_or-set_same, get_or-set_other, length-replicate, length-map, length-set}
+use Rattle.std.proofs.Common.{ℕ, suc, ◌≡◌, ◌<◌, ◌+◌, ◌∙◌, List, [], ◌∷◌, length, map, take, replicate, slice_index, slice_index_or, refl, ap, sym, arith}
+use Rattle.std.proofs.lemmas.List.{get_or-replicate, length-replicate, length-map}
 use Rattle.market_units.specs.declared.units.SectionNo.{SectionNo}
-use Rattle.market_units.specs.declared.units.Tokens.{Tokens}
-use Rattle.market_units.specs.declared.units.StudentNo.{StudentNo}
-use Rattle.bundle_rules.specs.declared.bundle.Bundle.{Bundle}
-use Rattle.bundle_rules.specs.Bundles.{sections_of}
 use Rattle.market_units.specs.Members.{has}
 use Rattle.bundle_rules.specs.Ordinals.{ordinals}
-use Rattle.bundle_rules.specs.Demand.{price_in}
 use Rattle.demand_api.specs.Counting.{AreCounts, HasCounted}
-use Rattle.demand_api.specs.Crowds.{CrowdData, demand, demands, holders, counts, demand_of}
-use Rattle.demand_api.proofs.Takers.{counted, lent_back}
-use Rattle.demand_workers.specs.Rounds.{prices_of}
+use Rattle.demand_api.specs.Crowds.{CrowdData, demand, demands, holders}
+use Rattle.demand_api.proofs.Takers.{counted}
 
 -- what each student takes is one bundle for each
 pub as_many_demands : (crowd : CrowdData) (price : ℕ → ℕ) → length (demands crowd price) ≡ length crowd.students

@@ -1,13 +1,11 @@
 -- What is remembered, at other prices.
-use Rattle.std.proofs.Common.{ℕ, suc, Bool, ◌≡◌, ◌<◌, ◌≤◌, ◌==◌, ◌∙◌, List, [], ◌∷◌, All, length, slice_index_or, refl, ap, sym, subst, arith, inl, inr}
+use Rattle.std.proofs.Common.{ℕ, suc, Bool, ◌≡◌, ◌<◌, ◌≤◌, ◌==◌, ◌∙◌, List, [], ◌∷◌, All, length, slice_index_or, refl, sym, subst, arith, inl, inr}
 use Rattle.std.specs.Prelude.{nat_lt}
 use Rattle.std.proofs.lemmas.Bool.{cases_Bool}
 use Rattle.std.proofs.lemmas.Bool.Decides.{nat_tests}
-use Rattle.std.proofs.lemmas.List.{get_or-map}
 use Rattle.market_units.specs.declared.units.SectionNo.{SectionNo}
 use Rattle.market_units.specs.declared.units.Tokens.{Tokens}
 use Rattle.market_units.specs.Totals.{total}
-use Rattle.bundle_rules.specs.declared.bundle.Bundle.{Bundle}
 use Rattle.bundle_rules.specs.declared.menu.Rated.{Rated}
 use Rattle.bundle_rules.specs.Demand.{price_in, IsPriced, IsBest}
 use Rattle.bundle_rules.specs.Menus.{MenuData, rating_at, place_in, wishes_of}
@@ -15,7 +13,7 @@ use Rattle.bundle_rules.specs.Ordinals.{ordinals}
 use Rattle.bundle_rules.proofs.BestValue.{best-is}
 use Rattle.demand_api.specs.declared.crowd.Crowd.{Crowd}
 use Rattle.demand_api.specs.Asking.{ArePricesFor}
-use Rattle.demand_api.specs.Crowds.{CrowdData, IsWithin, top, demand, demand_of}
+use Rattle.demand_api.specs.Crowds.{IsWithin, top, demand, demand_of}
 use Rattle.demand_api.specs.Views.{data_of}
 use Rattle.demand_api.proofs.Halving.{price_at}
 use Rattle.demand_api.proofs.Keeping.{best_stays}

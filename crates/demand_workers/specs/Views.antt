@@ -1,8 +1,8 @@
 -- What is remembered, as plain data.
-use Rattle.std.specs.Prelude.{ℕ, List}
+use Rattle.std.specs.Prelude.{ℕ}
 use Rattle.std.specs.Arc.{arc_value}
 use Rattle.bundle_rules.specs.Demand.{price_in}
-use Rattle.demand_api.specs.Crowds.{CrowdData, demand_of}
+use Rattle.demand_api.specs.Crowds.{CrowdData}
 use Rattle.demand_api.specs.Views.{data_of}
 use Rattle.demand_workers.specs.declared.remembered.Remembered.{Remembered}
 

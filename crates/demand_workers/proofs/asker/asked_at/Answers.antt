@@ -1,4 +1,4 @@
-use Rattle.std.proofs.Common.{◌≡◌, ◌<◌, ◌∙◌, List, Vec, Global, length, slice_set, ap, sym, subst}
+use Rattle.std.proofs.Common.{◌<◌, ◌∙◌, Vec, Global, length, ap, sym, subst}
 use Rattle.std.specs.Arc.{arc_value}
 use Rattle.market_units.specs.declared.units.Tokens.{Tokens}
 use Rattle.demand_api.specs.Asking.{ArePricesFor}

@@ -8,7 +8,6 @@ use Rattle.bundle_rules.specs.Demand.{price_in}
 use Rattle.demand_api.specs.Asking.{ArePricesFor}
 use Rattle.demand_api.specs.Crowds.{demand_of}
 use Rattle.demand_api.proofs.Halving.{price_written}
-use Rattle.demand_workers.specs.declared.leaving.Note.{Note}
 use Rattle.demand_workers.specs.declared.leaving.Walk.{Walk}
 use Rattle.demand_workers.specs.declared.remembered.Remembered.{Remembered}
 use Rattle.demand_workers.specs.Notes.{AreNoted, IsNoted}

@@ -1,12 +1,10 @@
 use Rattle.std.proofs.Common.{◌≡◌, ◌<◌, ◌∙◌, length, ap, sym, subst}
 use Rattle.std.specs.Arc.{arc_value}
 use Rattle.std.specs.Prelude.{IfSome}
-use Rattle.bundle_rules.specs.Demand.{price_in}
 use Rattle.demand_api.specs.Asking.{ArePricesFor}
-use Rattle.demand_api.specs.Crowds.{CrowdData, demand_of}
+use Rattle.demand_api.specs.Crowds.{CrowdData}
 use Rattle.demand_api.specs.Views.{data_of}
 use Rattle.demand_api.proofs.Parts.{students_length}
-use Rattle.demand_workers.specs.declared.remembered.Remembered.{Remembered}
 use Rattle.demand_workers.specs.Views.{crowd_of}
 use Rattle.demand_workers.proofs.worker.taken.Goals as goal
 

@@ -1,6 +1,6 @@
-use Rattle.std.proofs.Common.{◌≡◌, ◌∙◌, ap, sym}
+use Rattle.std.proofs.Common.{◌∙◌, ap, sym}
 use Rattle.fairness_audit.specs.declared.terms.Terms.{Terms}
-use Rattle.fairness_audit.specs.Allocations.{Allocation, student_count}
+use Rattle.fairness_audit.specs.Allocations.{student_count}
 use Rattle.fairness_audit.specs.Rows.{row}
 use Rattle.fairness_audit.proofs.auditing.work_and_write.Goals as goal
 

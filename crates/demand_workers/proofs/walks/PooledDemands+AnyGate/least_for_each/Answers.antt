@@ -1,7 +1,6 @@
 use Rattle.std.proofs.Common.{rules}
 use Rattle.demand_workers.specs.Views.{crowd_of, price_before}
 use Rattle.std.specs.Arc.{arc_value}
-use Rattle.bundle_rules.specs.Demand.{price_in}
 use Rattle.demand_api.proofs.Pairs.{least_more}
 use Rattle.demand_workers.proofs.walks.PooledDemands+AnyGate.least_for_each.Goals as goal
 
