@@ -3,7 +3,7 @@ use Rattle.std.proofs.Common.{ℕ, ◌≡◌, ◌<◌, ◌+◌, ◌++◌, ◌∙
 use Rattle.std.proofs.Common.{length, replicate, ap, sym, subst, arith, inl, inr, ◌⊎◌, ◌*◌, ◌≤◌}
 use Rattle.std.specs.Prelude.{slice_index_or, slice_set}
 use Rattle.std.proofs.lemmas.Bool.{cases_eq}
-use Rattle.std.proofs.lemmas.List.{length-append, length-replicate, length-set, get_or-replicate, get_or-set_other}
+use Rattle.std.proofs.lemmas.List.{length-append, length-replicate, length-set, get_or-replicate, get_or-set_other, length-map}
 use Rattle.std.specs.List.{All}
 use Rattle.std.proofs.lemmas.List.Elements.{filter-append}
 use Rattle.std.proofs.lemmas.Grind.{get_or-set_at}
@@ -26,32 +26,44 @@ use Rattle.price_board.specs.Asked.{round_rules}
 use Rattle.price_board.specs.Rows.{number_drawn, number_of}
 use Rattle.price_board.specs.Seats.{RoundBoard, RoundSeat, HoldsNothing, IsFinished, IsFree}
 use Rattle.price_board.specs.Terms.{task_count, version_count, student_count}
+use Rattle.demand_api.specs.Crowds.{CrowdData}
 use Rattle.demand_api.specs.Views.{data_of}
-use Rattle.demand_workers.specs.Rounds.{AreVersionsFor, IsBoardOf}
-use Rattle.demand_workers.proofs.Working.{students_there, versions_there}
+use Rattle.demand_api.proofs.Parts.{students_length}
+use Rattle.demand_workers.specs.Rounds.{AreVersionsFor, prices_of}
 use Rattle.demand_tests.specs.Drivers.{HoldsSince, IsWorker, IsDriven}
 
 abbrev pub Note : Type 0
 Note = Option Draw × ℕ
 
+-- as many versions as the board has
+versions_there : (board : RoundBoard) (versions : List (Vec Tokens Global)) → board.base.versions ≡ prices_of versions
+    → version_count board.base ≡ length versions
+versions_there board versions same = ap length same ∙ length-map versions (λ (version : Vec Tokens Global). version.items)
+
+-- as many students
+pub students_there : (board : RoundBoard) (crowd : Crowd) → board.base.crowd ≡ data_of crowd → student_count board.base ≡ length crowd.menus.items
+students_there board crowd same = ap (λ (c : CrowdData). length c.students) same ∙ students_length crowd
+
 -- the tasks of four students
-pub tasks_of_four : (board : RoundBoard) (crowd : Crowd) (versions : List (Vec Tokens Global)) → IsBoardOf (data_of crowd) versions board
-    → length crowd.menus.items ≡ 4 → length versions * 4 ≤ task_count board.base
-tasks_of_four board crowd versions is four =
+pub tasks_of_four : (board : RoundBoard) (crowd : Crowd) (versions : List (Vec Tokens Global)) → board.base.crowd ≡ data_of crowd
+    → board.base.versions ≡ prices_of versions → length crowd.menus.items ≡ 4 → length versions * 4 ≤ task_count board.base
+tasks_of_four board crowd versions its_crowd its_versions four =
     let n : ℕ = length versions in
-    let there : version_count board.base ≡ n = versions_there (data_of crowd) versions board is in
-    let here : student_count board.base ≡ 4 = students_there crowd versions board is ∙ four in
+    let there : version_count board.base ≡ n = versions_there board versions its_versions in
+    let here : student_count board.base ≡ 4 = students_there board crowd its_crowd ∙ four in
     subst (λ (v : ℕ). n * 4 ≤ v * student_count board.base) (sym there)
     (subst (λ (s : ℕ). n * 4 ≤ n * s) (sym here) (let goal : n * 4 ≤ n * 4 = omega arith in goal))
 
 -- a board of which nothing is drawn
-pub started : (board : RoundBoard) (crowd : Crowd) (versions : List (Vec Tokens Global)) (few : ℕ) (seats : List RoundSeat) (notes : List Note)
-    → IsBoardOf (data_of crowd) versions board → AreVersionsFor (data_of crowd) versions → few ≤ task_count board.base
-    → length board.allotments ≡ length seats → ((n : ℕ) (d : RoundSeat) → n < length seats → (slice_index_or seats n d).number ≡ n)
+pub started : (board : RoundBoard) (crowd : Crowd) (versions : List (Vec Tokens Global)) (least : ℕ) (seats : List RoundSeat) (notes : List Note)
+    → board.base.crowd ≡ data_of crowd → board.base.versions ≡ prices_of versions → AreVersionsFor (data_of crowd) versions
+    → least ≤ task_count board.base → length board.allotments ≡ length seats
+    → ((n : ℕ) (d : RoundSeat) → n < length seats → (slice_index_or seats n d).number ≡ n)
     → All (λ (s : RoundSeat). IsFree board s) seats → All (λ (s : RoundSeat). (s.seen ≡ []) × (s.own ≡ [])) seats
-    → notes ≡ replicate (length seats) (None, 0) → IsDriven board crowd versions few seats notes
-started board crowd versions few seats notes round prices tasks all numbers free fresh blank = record {
-  its_round = round;
+    → notes ≡ replicate (length seats) (None, 0) → IsDriven board crowd versions least seats notes
+started board crowd versions least seats notes its_crowd its_versions prices tasks all numbers free fresh blank = record {
+  its_crowd = its_crowd;
+  its_versions = its_versions;
   prices = prices;
   tasks = tasks;
   all = all;
@@ -67,19 +79,20 @@ started board crowd versions few seats notes round prices tasks all numbers free
 }
 
 -- the worker at a place
-pub worker_at : (board : RoundBoard) (crowd : Crowd) (versions : List (Vec Tokens Global)) (few : ℕ) (seats : List RoundSeat) (notes : List Note)
-    (n : ℕ) (seat : RoundSeat) (note : Note) → IsDriven board crowd versions few seats notes → n < length seats
+pub worker_at : (board : RoundBoard) (crowd : Crowd) (versions : List (Vec Tokens Global)) (least : ℕ) (seats : List RoundSeat) (notes : List Note)
+    (n : ℕ) (seat : RoundSeat) (note : Note) → IsDriven board crowd versions least seats notes → n < length seats
     → seat ≡ slice_index_or seats n seat → note ≡ slice_index_or notes n note → IsWorker board n seat note
-worker_at board crowd versions few seats notes n seat note is low here there =
+worker_at board crowd versions least seats notes n seat note is low here there =
     subst (λ (s : RoundSeat). IsWorker board n s note) (sym here)
     (subst (λ (m : Note). IsWorker board n (slice_index_or seats n seat) m) (sym there) (is.each n seat note low))
 
 -- the board after a call of one worker
-pub driven_again : (board : RoundBoard) (crowd : Crowd) (versions : List (Vec Tokens Global)) (few : ℕ) (seats : List RoundSeat) (notes : List Note)
-    (n : ℕ) (seat : RoundSeat) (note : Note) → IsDriven board crowd versions few seats notes → n < length seats → IsWorker board n seat note
-    → IsDriven board crowd versions few (slice_set seats n seat) (slice_set notes n note)
-driven_again board crowd versions few seats notes n seat note is low now = record {
-  its_round = is.its_round;
+pub driven_again : (board : RoundBoard) (crowd : Crowd) (versions : List (Vec Tokens Global)) (least : ℕ) (seats : List RoundSeat) (notes : List Note)
+    (n : ℕ) (seat : RoundSeat) (note : Note) → IsDriven board crowd versions least seats notes → n < length seats → IsWorker board n seat note
+    → IsDriven board crowd versions least (slice_set seats n seat) (slice_set notes n note)
+driven_again board crowd versions least seats notes n seat note is low now = record {
+  its_crowd = is.its_crowd;
+  its_versions = is.its_versions;
   prices = is.prices;
   tasks = is.tasks;
   all = is.all ∙ sym (length-set seats n seat);

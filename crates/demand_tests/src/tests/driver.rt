@@ -42,7 +42,8 @@ impl Model for Driver {
 
     ghost view = { λ _. tt };
 
-    ghost invariant = { λ d. IsDriven d.board (arc_value d.crowd) d.versions.items d.tasks d.seats.items d.notes.items };
+    ghost invariant = { λ d. IsDriven d.board (arc_value d.crowd) d.versions.items d.tasks
+        d.seats.items d.notes.items };
 }
 
 // Whether what is asked is of one of so many sections.

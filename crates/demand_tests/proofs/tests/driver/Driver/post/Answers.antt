@@ -1,10 +1,9 @@
 use Rattle.std.proofs.Common.{rules, ◌≡◌, ◌<◌, ◌≤◌, ◌⊎◌, ℕ, None, Some, length, sym, subst, arith, inl, inr}
 use Rattle.std.specs.Arc.{arc_value}
-use Rattle.demand_workers.proofs.Working.{students_there}
 use Rattle.price_board.specs.declared.calls.Draw.TheVariants.{Task as Drawn}
 use Rattle.price_board.specs.Terms.{task_count}
 use Rattle.task_board.specs.Seats.{posts}
-use Rattle.demand_tests.proofs.Driving.{worker_at, worker_posted, driven_again}
+use Rattle.demand_tests.proofs.Driving.{students_there, worker_at, worker_posted, driven_again}
 use Rattle.demand_tests.proofs.tests.driver.Driver.post.Goals as goal
 use Rattle.demand_tests.proofs.tests.driver.Driver.post.Goals.{then-eq, else-eq}
 
@@ -17,7 +16,7 @@ pub post-posted-requires-clause-student : goal.post-posted-requires-clause-stude
 post-posted-requires-clause-student g c =
     let there : c.args.task.student.0 < length (arc_value c.self.inside.crowd).menus.items = search rules in
     subst (λ (n : ℕ). c.args.task.student.0 < n)
-    (sym (students_there (arc_value c.self.inside.crowd) c.self.inside.versions.items c.self.inside.board c.self.invariant.its_round)) there
+    (sym (students_there c.self.inside.board (arc_value c.self.inside.crowd) c.self.invariant.its_crowd)) there
 
 pub post-posted-requires-clause-post_left : goal.post-posted-requires-clause-post_left
 post-posted-requires-clause-post_left g c =

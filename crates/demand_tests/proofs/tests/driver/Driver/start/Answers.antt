@@ -1,14 +1,14 @@
-use Rattle.std.proofs.Common.{rules, ◌≡◌, ◌≤◌, ◌<◌, ◌*◌, ◌∙◌, ℕ, None, length, replicate, ap, sym, subst, arith}
+use Rattle.std.proofs.Common.{rules, ◌≡◌, ◌≤◌, ◌<◌, ◌*◌, ◌∙◌, ℕ, None, length, replicate, ap, sym, subst}
 use Rattle.std.specs.Arc.{arc_value}
 use Rattle.std.specs.List.{All}
 use Rattle.demand_api.specs.declared.crowd.Crowd.{Crowd}
 use Rattle.demand_api.specs.Views.{data_of}
-use Rattle.demand_workers.specs.Rounds.{prices_of, AreVersionsFor, IsBoardOf}
-use Rattle.demand_workers.proofs.Rounds.{versions_are_round}
+use Rattle.demand_workers.specs.Rounds.{prices_of, AreVersionsFor}
 use Rattle.price_board.specs.declared.terms.Terms.{Terms}
 use Rattle.price_board.specs.Openings.{IsAskOf, IsRound, terms_of}
 use Rattle.price_board.specs.Terms.{task_count}
 use Rattle.demand_tests.proofs.Driving.{started, tasks_of_four}
+use Rattle.demand_tests.proofs.Rounds.{versions_are_round}
 use Rattle.demand_tests.proofs.tests.driver.Driver.start.Goals as goal
 
 pub start-requires-clause-round : goal.start-requires-clause-round
@@ -38,20 +38,18 @@ invariant_of-result g c =
     let same : arc_value c.in_ok-try_clone.field-0 ≡ crowd = search rules in
     let are : AreVersionsFor (data_of c.rivals-crowd.result) versions = search rules in
     let four : length c.rivals-crowd.result.menus.items ≡ 4 = search rules in
-    let count : length seats ≡ c.args.workers = omega (arith, c.in_ok-board.ensures.count, c.in_ok-board.seats.ok.0) in
+    let count : length seats ≡ c.args.workers = c.in_ok-board.ensures.begun.count in
     let terms = c.in_ok-board.ensures.terms in
     let copied : prices_of c.args.round.versions.items ≡ prices_of versions = search rules in
-    let round : IsBoardOf (data_of crowd) versions board = record {
-      its_crowd = ap (λ (t : Terms). t.crowd) terms ∙ ap data_of same;
-      its_versions = ap (λ (t : Terms). t.versions) terms ∙ copied;
-    } in
+    let its_crowd : board.base.crowd ≡ data_of crowd = ap (λ (t : Terms). t.crowd) terms ∙ ap data_of same in
+    let its_versions : board.base.versions ≡ prices_of versions = ap (λ (t : Terms). t.versions) terms ∙ copied in
     let told : c.tasks_of-tasks.result ≡ length versions * 4 = search rules in
-    let few : c.tasks_of-tasks.result ≤ task_count board.base =
+    let enough : c.tasks_of-tasks.result ≤ task_count board.base =
     subst (λ (n : ℕ). n ≤ task_count board.base) (sym told)
-    (tasks_of_four board crowd versions round (ap (λ (x : Crowd). length x.menus.items) kept ∙ four)) in
-    started board crowd versions c.tasks_of-tasks.result seats c.in_ok-notes.notes.items round
-    (subst (λ (x : Crowd). AreVersionsFor (data_of x) versions) (sym kept) are) few
-    (c.in_ok-board.ensures.allotments ∙ sym count)
-    (λ n d low. c.in_ok-board.ensures.numbers n d (subst (λ (k : ℕ). n < k) count low))
-    c.in_ok-board.ensures.free c.in_ok-board.ensures.fresh
+    (tasks_of_four board crowd versions its_crowd its_versions (ap (λ (x : Crowd). length x.menus.items) kept ∙ four)) in
+    started board crowd versions c.tasks_of-tasks.result seats c.in_ok-notes.notes.items its_crowd its_versions
+    (subst (λ (x : Crowd). AreVersionsFor (data_of x) versions) (sym kept) are) enough
+    (c.in_ok-board.ensures.begun.allotments ∙ sym count)
+    (λ n d low. c.in_ok-board.ensures.begun.numbers n d (subst (λ (k : ℕ). n < k) count low))
+    c.in_ok-board.ensures.begun.free c.in_ok-board.ensures.begun.fresh
     (c.in_ok-notes.ensures ∙ ap (λ (k : ℕ). replicate k (None, 0)) (sym count))
