@@ -4,8 +4,8 @@ use market_units::{SectionNo, SectionSet, Tokens};
 use std::alloc::Global;
 use std::process::Abort;
 
-// Three sections with ratings and credits, the adjustment of two of them, which two clash, the caps,
-// prices and budget, how many sections are allowed, from the first on, and what is best.
+// Three sections with ratings and credits, the adjustment of two of them, which two clash, how many
+// may be taken from the first on, and what is best.
 #[derive(Clone, Copy)]
 struct Case {
     rated: [(u8, u16); 3],
