@@ -1,5 +1,5 @@
 -- The files of a shelf in memory.
-use Rattle.std.specs.Prelude.{ℕ, ◌≡◌, zero, suc, [], ◌∷◌, ◌==◌, ◌<◌, ◌≤◌, Bool, true, false, if◌then◌else◌, List, Option, Some, None, String, Vec, map, length, position, drop, ◌++◌, ⊤}
+use Rattle.std.specs.Prelude.{ℕ, ◌≡◌, zero, suc, [], ◌∷◌, ◌==◌, ◌<◌, ◌≤◌, Bool, true, false, if◌then◌else◌, List, Option, Some, None, String, Vec, map, length, position, drop, ◌++◌, ◌+◌, nat_le}
 use Rattle.std.proofs.Common.{Global}
 use Rattle.std.specs.List.{slice_index_or}
 use Rattle.std.specs.Option.{option_map_or}
@@ -80,11 +80,13 @@ abbrev pub earlier_of : Option Place → Bool → List (ℕ × Bool)
 earlier_of None is_ended = []
 earlier_of (Some place) is_ended = (place.file, is_ended) ∷ []
 
--- such a list has grown by these texts; its telling may end
-abbrev pub Lists : Option (List (ℕ × Bool)) → Option (List (ℕ × Bool)) → List (ℕ × Bool) → Type 0
-Lists old None texts = ⊤
-Lists None (Some new) texts = ⊥
-Lists (Some old) (Some new) texts = new ≡ old ++ texts
+-- such a list behind which these texts are put: what was told and these, where it was told and all
+-- are at most so many; else nothing
+abbrev pub listed_within : ℕ → Option (List (ℕ × Bool)) → List (ℕ × Bool)
+    → Option (List (ℕ × Bool))
+listed_within room None texts = None
+listed_within room (Some old) texts =
+    if nat_le (length old + length texts) room then Some (old ++ texts) else None
 
 -- a begun text by its name
 abbrev pub opening_of : List File → ℕ × Bool → Opening

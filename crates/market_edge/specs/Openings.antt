@@ -1,5 +1,5 @@
 -- What was begun of a shelf, and which of it was read to its end.
-use Rattle.std.specs.Prelude.{ℕ, ◌≡◌, Bool, true, false, List, [], ◌∷◌, ◌++◌, map, Option, Some, None, ⊤}
+use Rattle.std.specs.Prelude.{ℕ, ◌≡◌, Bool, true, false, List, [], ◌∷◌, ◌++◌, length, map, nat_le, Option, Some, None, ⊤}
 
 -- a name whose text was begun, and whether it was read to its end
 abbrev pub Opening : Type 0
@@ -39,3 +39,9 @@ with_read_out names openings = openings ++ map read_out names
 abbrev pub BeginsAtMost : Option (List Opening) → Option (List Opening) → List ℕ → Bool → Type 0
 BeginsAtMost old new name true = Changes old new (with_begun name)
 BeginsAtMost old new name false = Changes old new as_before
+
+-- a shelf that told these begun texts tells on once the next one is begun, or that has failed: while
+-- they are at most so many
+abbrev pub tells_on : ℕ → Option (List Opening) → Bool
+tells_on room None = false
+tells_on room (Some openings) = nat_le (length openings) room

@@ -1,6 +1,6 @@
 // A list of texts that were begun, in room that is reserved once.
 ghost use Rattle.std.specs.Prelude.{◌≡◌, ◌<◌, ◌≤◌, Some, [], length, IfOk, vec_capacity};
-ghost use Rattle.market_edge.specs.MemoryFiles.{Lists, earlier_of};
+ghost use Rattle.market_edge.specs.MemoryFiles.{earlier_of, listed_within};
 ghost use Rattle.market_edge.specs.declared.begun_list.TheConstants.{ROOM};
 
 use crate::memory_files::Place;
@@ -35,7 +35,8 @@ impl BegunList {
 
     /// Puts the begun text behind the others, where there is one.
     pub fn put(&mut self, begun: Option<Place>, is_ended: bool)
-        ensures { Lists (told_texts self.old) (told_texts self.new) (earlier_of begun is_ended) }
+        ensures { told_texts self.new
+            ≡ listed_within ROOM (told_texts self.old) (earlier_of begun is_ended) }
     {
         let Some(place) = begun else {
             return;

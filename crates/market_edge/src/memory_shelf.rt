@@ -3,7 +3,9 @@ ghost use Rattle.std.specs.Prelude.{◌≡◌, ◌<◌, ◌≤◌, ◌+◌, ◌�
 ghost use Rattle.std.specs.Option.{ForSome};
 ghost use Rattle.market_units.specs.Counts.{one_more};
 ghost use Rattle.market_edge.specs.MemoryFiles.{IsPlace, Raises, count_of, has_place_of, holding_of, left_of, place_of, serves_name};
+ghost use Rattle.market_edge.specs.Openings.{tells_on};
 ghost use Rattle.market_edge.specs.Shelves.{IsBegin, IsRead};
+ghost use Rattle.market_edge.specs.declared.begun_list.TheConstants.{ROOM};
 
 use crate::begun_list::BegunList;
 use crate::memory_files::{Place, find, put_rest};
@@ -80,6 +82,11 @@ impl Shelf for MemoryShelf {
         ensures counted { OnErr result
             (Raises (has_place_of (files_of self.old) name.now) (told_by self.old).faults
             (told_by self.new).faults) }
+
+        // It tells on where at most 128 texts were begun before, and a read ends no telling.
+        ensures tells { is_some (told_by self.new).openings
+            ≡ tells_on ROOM (told_by self.old).openings }
+
         ensures next { IsNextCall self.old self.new }
     {
         let fails = next_fails(&mut self.calls, &self.failing);
@@ -108,6 +115,7 @@ impl Shelf for MemoryShelf {
         ensures counted { OnErr result
             (Raises (told_by self.old).serves (told_by self.old).faults
             (told_by self.new).faults) }
+        ensures tells { is_some (told_by self.new).openings ≡ is_some (told_by self.old).openings }
         ensures next { IsNextCall self.old self.new }
     {
         let Some(place) = self.begun else {
