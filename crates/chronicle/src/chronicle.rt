@@ -2,7 +2,7 @@ ghost use Rattle.std.specs.Prelude.{◌≡◌, ◌<◌, ◌≤◌, ◌+◌, ◌^
 ghost use Rattle.market_units.specs.Beginnings.{BeginsWith};
 ghost use Rattle.chronicle.specs.History.{state_after, IsLegal, calls_by, step_of, Extends};
 ghost use Rattle.chronicle.specs.Seats.{origin, standing, new_seats, IsDealing, HasJoined};
-ghost use Rattle.chronicle.specs.Turn.{MayCall, IsWaiting, Draws, Serves, MayStep, Steps, HasToPass, Passes};
+ghost use Rattle.chronicle.specs.Turn.{IsWaiting, Serves};
 ghost use Rattle.chronicle.specs.Views.{sum_of};
 
 use crate::bells::Bells;
@@ -257,10 +257,13 @@ impl<O: Object> Chronicle<O> {
         let place = &mut seat.place;
         self.nap_while_many_wait(rt, number);
         self.give_way();
-        let ticket = self.draw(place);
+        let ticket = self.table.shared.fetch_add::<Draw>(place, TICKET, 1);
         self.wait(rt, place, ticket);
-        let reply = self.act(place, number, request);
-        self.pass(place, number, &request, &reply);
+        let kept = place.slot_mut(&self.table.shared, 0);
+        let reply = kept.step(number, request);
+        // Gives the object back, and passes the turn on.
+        let served = self.table.shared.fetch_add::<Pass>(place, SERVING, 1);
+        self.ring(served.wrapping_add(1));
         reply
     }
 
@@ -296,16 +299,6 @@ impl<O: Object> Chronicle<O> {
         for _ in 0..PAUSES {
             hint::spin_loop();
         }
-    }
-
-    // Draws a ticket.
-    fn draw(&self, place: &mut Place<O>) -> u64
-        requires own { place.old.table_id ≡ self.now.table }
-        requires may_call { MayCall place.old.me }
-        ensures own { (place.new.table_id ≡ place.old.table_id) × (place.new.id ≡ place.old.id) }
-        ensures draws { Draws place.old.me result place.new.me }
-    {
-        self.table.shared.fetch_add::<Draw>(place, TICKET, 1)
     }
 
     // Looks until the ticket is served.
@@ -345,34 +338,12 @@ impl<O: Object> Chronicle<O> {
         false
     }
 
-    // Takes the seat's step, in its turn.
-    fn act(&self, place: &mut Place<O>, number: u16, request: O::Request) -> O::Reply
-        requires own { place.old.table_id ≡ self.now.table }
-        requires number { number < 65535 }
-        requires may_step { MayStep O.base O.state O.room O.sound O.after O.reply number request
-            place.old.me }
-        ensures own { (place.new.table_id ≡ place.old.table_id) × (place.new.id ≡ place.old.id) }
-        ensures steps { Steps O.base O.state O.room O.sound O.after O.reply number request result
-            place.old.me place.new.me }
-    {
-        let kept = place.slot_mut(&self.table.shared, 0);
-        kept.step(number, request)
-    }
-
-    // Gives the object back, passes the turn on, and rings the bell of the next ticket if it was
-    // drawn. Who draws it after this look looks in its turn after the turn was passed, so it finds
-    // itself served and does not sleep. All four accesses (this add and look, the caller's draw and
-    // look) are sequentially consistent: with a weaker order a wake-up could be lost. Tickets never
-    // reach 2^64, so equal numbers are one ticket.
-    fn pass(&self, place: &mut Place<O>, number: u16, request: &O::Request, reply: &O::Reply)
-        requires own { place.old.table_id ≡ self.now.table }
-        requires has_to_pass { HasToPass O.base O.state O.room O.sound O.after O.reply
-            (step_of number request.now reply.now) place.old.me }
-        ensures own { (place.new.table_id ≡ place.old.table_id) × (place.new.id ≡ place.old.id) }
-        ensures passes { Passes place.old.me place.new.me }
-    {
-        let served = self.table.shared.fetch_add::<Pass>(place, SERVING, 1);
-        let next = served.wrapping_add(1);
+    // Rings the bell of the next ticket if it was drawn. Who draws it after this look looks in its
+    // turn after the turn was passed, so it finds itself served and does not sleep. All four accesses
+    // (the add that passes, this look, the draw and the look of who draws) are sequentially
+    // consistent: with a weaker order a wake-up could be lost. Tickets never reach 2^64, so equal
+    // numbers are one ticket.
+    fn ring(&self, next: u64) {
         if self.table.shared.peek(TICKET) != next {
             // Also where the next thread only watches: to note who sleeps gained nothing, and a
             // ring that is kept spares the next sleep.
