@@ -49,7 +49,13 @@ impl Roll {
         if names.insert(name).is_err() {
             return Err(NoMemory);
         }
-        students.push(Entry::new(name, 0, credits, courses, 0))?;
+        students.push(Entry {
+            name,
+            base: 0,
+            credits,
+            courses,
+            carry: 0,
+        })?;
         Ok(Roll {
             version: 1,
             names,
@@ -100,7 +106,7 @@ impl Roll {
         ensures { option_map (λ s. s.name) (slice_get self.now.students student.0)
             ≡ Some (name_bytes result) }
     {
-        self.students[usize::from(student.0)].name()
+        self.students[usize::from(student.0)].name
     }
 
     /// The student's base in tokens, on which the budget is drawn: at most 900,000.
@@ -110,7 +116,7 @@ impl Roll {
             ≡ Some result }
         ensures range { result ≤ MAX_BASE }
     {
-        self.students[usize::from(student.0)].base()
+        self.students[usize::from(student.0)].base
     }
 
     /// The tokens that the student carries over: with the base at most 900,000.
@@ -121,7 +127,7 @@ impl Roll {
         ensures range { (slice_index_or self.now.students student.0 no_student).base + result
             ≤ MAX_BASE }
     {
-        self.students[usize::from(student.0)].carry()
+        self.students[usize::from(student.0)].carry
     }
 
     /// The most credits that the student may have, at most 800.
@@ -131,7 +137,7 @@ impl Roll {
             ≡ Some result }
         ensures range { result ≤ MAX_CREDITS }
     {
-        self.students[usize::from(student.0)].credits()
+        self.students[usize::from(student.0)].credits
     }
 
     /// The most sections that the student may have, at most 8.
@@ -141,7 +147,7 @@ impl Roll {
             ≡ Some result }
         ensures range { result ≤ MAX_COURSES }
     {
-        self.students[usize::from(student.0)].courses()
+        self.students[usize::from(student.0)].courses
     }
 
     /// The student of this name, or `None` exactly where no student has it.

@@ -1,7 +1,6 @@
 // The columns of a roll.
 ghost use Rattle.std.specs.Prelude.{◌≡◌, ◌+◌, ◌≤◌, IfOk};
 ghost use Rattle.csv.specs.Records.{fields_of};
-ghost use Rattle.table_records.specs.{Columns.number_or, Records.field_in};
 ghost use Rattle.student_roll.specs.{Rolls.carry_in, Rolls.roll_rules, Students.IsListed};
 
 use crate::RollRefusal;
@@ -55,21 +54,27 @@ impl Table for RollRules {
         name: Name,
         fields: &ByteRecord,
     ) -> Result<Entry, RollRefusal> {
-        let base = number(fields, row, 2, u64::from(MAX_BASE))?;
-        let credits = number(fields, row, 3, u64::from(MAX_CREDITS))?;
-        let courses = number(fields, row, 4, u64::from(MAX_COURSES))?;
+        let base = number_in(fields, 2, u64::from(MAX_BASE)).ok_or(RollRefusal::Number {
+            row,
+            column: 2,
+        })?;
+        let credits = number_in(fields, 3, u64::from(MAX_CREDITS)).ok_or(RollRefusal::Number {
+            row,
+            column: 3,
+        })?;
+        let courses = number_in(fields, 4, u64::from(MAX_COURSES)).ok_or(RollRefusal::Number {
+            row,
+            column: 4,
+        })?;
         let carry = carry_in(version, row, base as u32, fields)?;
-        Ok(Entry::new(name, base as u32, credits as u16, courses as u8, carry))
+        Ok(Entry {
+            name,
+            base: base as u32,
+            credits: credits as u16,
+            courses: courses as u8,
+            carry,
+        })
     }
-}
-
-// The number at most `max` in a column of a row.
-fn number(fields: &ByteRecord, row: u32, column: u8, max: u64) -> Result<u64, RollRefusal>
-    requires { 1 ≤ column }
-    ensures { result
-        ≡ number_or (RollRefusal.Number row column) max (field_in column (fields_of fields.now)) }
-{
-    number_in(fields, usize::from(column), max).ok_or(RollRefusal::Number { row, column })
 }
 
 // The tokens that a row's student carries over, in a table of this version: with the base at most
@@ -83,6 +88,9 @@ fn carry_in(version: usize, row: u32, base: u32, fields: &ByteRecord) -> Result<
     if version == 1 {
         return Ok(0);
     }
-    let carry = number(fields, row, 5, u64::from(MAX_BASE - base))?;
+    let carry = number_in(fields, 5, u64::from(MAX_BASE - base)).ok_or(RollRefusal::Number {
+        row,
+        column: 5,
+    })?;
     Ok(carry as u32)
 }
