@@ -1,5 +1,5 @@
 // Decimal numbers in bytes, each with one spelling: no sign and no leading zeros.
-ghost use Rattle.std.specs.Prelude.{◌≡◌, ◌≢◌, ◌<◌, ◌≤◌, ◌^◌, ◌+◌, ◌*◌, ℕ, length, take, drop, IfSome, IfNone};
+ghost use Rattle.std.specs.Prelude.{◌≡◌, ◌≢◌, ◌<◌, ◌≤◌, ◌^◌, ◌+◌, ◌*◌, ℕ, take, drop, IfSome, IfNone};
 ghost use Rattle.std.specs.Option.{SomeIff};
 ghost use Rattle.std.specs.Char.{digit_value};
 ghost use Rattle.std.specs.Str.Parse.{IsNumeral, digits_value};
@@ -59,20 +59,11 @@ pub fn put_number(n: u64, room: &mut [u8; 20]) -> usize
     ensures spelling { take result room.new ≡ decimal n }
     ensures rest { drop result room.new ≡ drop result room.old }
 {
-    put_digits(n, room)
-}
-
-fn put_digits(n: u64, room: &mut [u8]) -> usize
-    requires { length (decimal n) ≤ length room.old }
-    ensures count { result ≡ length (decimal n) }
-    ensures spelling { take result room.new ≡ decimal n }
-    ensures rest { drop result room.new ≡ drop result room.old }
-{
     if n < 10 {
         room[0] = b'0' + n as u8;
         return 1;
     }
-    let place = put_digits(n / 10, room);
+    let place = put_number(n / 10, room);
     room[place] = b'0' + (n % 10) as u8;
     place + 1
 }
