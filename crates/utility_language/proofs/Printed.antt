@@ -1,5 +1,5 @@
 -- What is printed is read as what it was.
-use Rattle.std.proofs.Common.{ℕ, zero, suc, ◌≡◌, ◌<◌, ◌≤◌, ◌^◌, ◌&&◌, true≢false, Bool, true, false, not, List, [], ◌∷◌, length, get_or, refl, sym, ap, ◌∙◌, inl, inr, arith}
+use Rattle.std.proofs.Common.{ℕ, zero, suc, ◌≡◌, ◌<◌, ◌≤◌, ◌^◌, ◌&&◌, true≢false, Bool, true, false, not, List, [], ◌∷◌, length, get_or, refl, sym, ap, subst, ◌∙◌, inl, inr, arith}
 use Rattle.std.specs.Prelude.{codes, unsigned_abs, IsTrue, ℤ, pos, negsuc}
 use Rattle.std.specs.List.{All, join_with_byte}
 use Rattle.std.specs.Fmt.{decimal, signed_decimal}
@@ -125,3 +125,8 @@ read_back line words read command is of short e =
 -- a line that was printed is a command
 pub not_passed : (line : List ℕ) (command : Command) → is_command (words_of line) ≡ false → HasShortNumber command → line ≡ printed command → ⊥
 not_passed line command none short e = true≢false (sym (printed_is_read_law command short).0 ∙ ap (λ line. is_command (words_of line)) (sym e) ∙ none)
+
+-- the number of a line's command has at most six digits
+pub short_of : (words : List (List ℕ)) (command : Command) → IsCommandOf words command → HasShortNumber command
+short_of words command (inl spells) = spells.short
+short_of words command (inr none) = subst HasShortNumber (sym none.0) tt

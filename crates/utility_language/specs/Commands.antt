@@ -1,5 +1,5 @@
 -- Which command the words of a line spell, and how a command is written.
-use Rattle.std.specs.Prelude.{ℕ, ◌≡◌, ◌≢◌, ◌<◌, ◌^◌, ◌⊎◌, Bool, false, not, ◌==◌, List, [], ◌∷◌, map, slice_index, unsigned_abs, codes, ⊤}
+use Rattle.std.specs.Prelude.{ℕ, ℤ, ◌≡◌, ◌≢◌, ◌<◌, ◌^◌, ◌⊎◌, Bool, false, not, ◌==◌, List, [], ◌∷◌, map, slice_index, unsigned_abs, codes, ⊤}
 use Rattle.std.specs.List.{filter, AllZip, join_with_byte}
 use Rattle.std.specs.Fmt.{signed_decimal}
 use Rattle.market_units.specs.Name.{name_bytes}
@@ -15,6 +15,10 @@ words_by (Pair student first second n) = codes "pair" ∷ name_bytes student ∷
 words_by (Clear student) = codes "clear" ∷ name_bytes student ∷ []
 words_by Close = codes "close" ∷ []
 words_by Unreadable = codes "unreadable" ∷ []
+
+-- the word spells this number of at most six digits
+abbrev pub IsShort : List ℕ → ℤ → Type 0
+IsShort word n = (unsigned_abs n < 10 ^ 6) × (word ≡ signed_decimal n)
 
 -- the number of a command, where it has one, has at most six digits
 abbrev pub HasShortNumber : Command → Type 0

@@ -30,8 +30,7 @@ pub fn read_line(line: &[u8]) -> Option<Command>
 
 // The command of a line with this word in front.
 fn command_of(word: &[u8], rest: &[u8]) -> Command
-    ensures command { IsCommandOf (word.now ∷ words_of rest.now) result }
-    ensures short { HasShortNumber result }
+    ensures { IsCommandOf (word.now ∷ words_of rest.now) result }
 {
     read_command(word, rest).unwrap_or(Command::Unreadable)
 }
