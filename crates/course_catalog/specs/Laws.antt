@@ -4,8 +4,8 @@ use Rattle.course_catalog.specs.Sections.{Section, SectionsClash, section_at, se
 use Rattle.course_catalog.specs.Courses.{course_number}
 
 -- the test of clashing sections is the relation
-abbrev pub ClashTestIsRelation : Type 0
-ClashTestIsRelation =
+abbrev pub SectionsClashByTest : Type 0
+SectionsClashByTest =
     (sections : List Section) (a b : ℕ)
     → IsTrue (sections_clash sections a b) ↔ SectionsClash sections a b
 
@@ -23,5 +23,5 @@ pub record AreMutual (sections : List Section) (a b : ℕ) : Type 0 where
   pub other_way : sections_clash sections a b ≡ sections_clash sections b a
   pub not_itself : sections_clash sections a a ≡ false
 
-abbrev pub ClashesAreMutual : Type 0
-ClashesAreMutual = (sections : List Section) (a b : ℕ) → AreMutual sections a b
+abbrev pub SectionsClashMutually : Type 0
+SectionsClashMutually = (sections : List Section) (a b : ℕ) → AreMutual sections a b
