@@ -44,6 +44,10 @@ abbrev pub IsBegin : {A E : Type 0} → ShelfState → ShelfState → List ℕ �
 IsBegin before after name result =
     MatchResult result (λ _. HasBegun before after name) (λ _. HasNotBegun before after name)
 
+-- a text is begun, and the room has a place for a byte of it
+abbrev pub MayRead : ShelfState → List ℕ → Type 0
+MayRead before room = IsTrue before.is_begun × (0 < length room)
+
 -- so many of the next bytes of the begun text are taken, and stand at the front of the room: none
 -- only at the end of the text, or where there is no room
 pub record HasRead (before after : ShelfState) (room : List ℕ) (count : ℕ) : Type 0 where

@@ -1,8 +1,8 @@
 // Real files. What they hold is not told: this is the trusted edge.
-ghost use Rattle.std.specs.Prelude.{◌≡◌, ◌<◌, None, List, ℕ, false, length, is_some, IsTrue, OnErr};
+ghost use Rattle.std.specs.Prelude.{◌≡◌, None, List, ℕ, false, is_some, OnErr};
 ghost use Rattle.std.specs.Io.KnownBytes.{ReadConsumes};
 ghost use Rattle.market_units.specs.Counts.{one_more};
-ghost use Rattle.market_edge.specs.Shelves.{IsBegin, IsRead};
+ghost use Rattle.market_edge.specs.Shelves.{IsBegin, IsRead, MayRead};
 
 use crate::{Failed, Shelf};
 use std::fs;
@@ -69,8 +69,7 @@ impl<'r, R: Files> Shelf for FileShelf<'r, R> {
     }
 
     fn read(&mut self, room: &mut [u8]) -> Result<usize, Failed>
-        requires begun { IsTrue (⟦<FileShelf<'r, R> as Shelf>⟧.shows self.old).is_begun }
-        requires room { 0 < length room.old }
+        requires { MayRead (⟦<FileShelf<'r, R> as Shelf>⟧.shows self.old) room.old }
         ensures reads { IsRead (⟦<FileShelf<'r, R> as Shelf>⟧.shows self.old)
             (⟦<FileShelf<'r, R> as Shelf>⟧.shows self.new) room.new result }
 

@@ -4,7 +4,7 @@ ghost use Rattle.std.specs.Option.{ForSome};
 ghost use Rattle.market_units.specs.Counts.{one_more};
 ghost use Rattle.market_edge.specs.MemoryFiles.{IsPlace, Raises, count_of, has_place_of, holding_of, left_of, place_of, serves_name};
 ghost use Rattle.market_edge.specs.Openings.{tells_on};
-ghost use Rattle.market_edge.specs.Shelves.{IsBegin, IsRead};
+ghost use Rattle.market_edge.specs.Shelves.{IsBegin, IsRead, MayRead};
 ghost use Rattle.market_edge.specs.declared.begun_list.TheConstants.{ROOM};
 
 use crate::begun_list::BegunList;
@@ -106,8 +106,7 @@ impl Shelf for MemoryShelf {
     }
 
     fn read(&mut self, room: &mut [u8]) -> Result<usize, Failed>
-        requires begun { IsTrue (told_by self.old).is_begun }
-        requires room { 0 < length room.old }
+        requires { MayRead (told_by self.old) room.old }
         ensures reads { IsRead (told_by self.old) (told_by self.new) room.new result }
 
         // It fails exactly at the calls of these numbers; each failure is counted.

@@ -1,5 +1,5 @@
 // A sink in memory, for tests.
-ghost use Rattle.std.specs.Prelude.{◌≡◌, ◌<◌, ◌≤◌, ◌⊎◌, ◌↔◌, ◌-◌, [], length, min, IfOk, OnErr, IsErr, IsTrue, Contains, vec_capacity};
+ghost use Rattle.std.specs.Prelude.{◌≡◌, ◌≤◌, ◌⊎◌, ◌↔◌, ◌-◌, [], length, min, IfOk, OnErr, IsErr, IsTrue, Contains, vec_capacity};
 ghost use Rattle.market_units.specs.Counts.{one_more};
 ghost use Rattle.market_edge.specs.Sinks.{IsWrite};
 
@@ -61,7 +61,6 @@ impl Sink for MemorySink {
     ghost shows = { taken_by };
 
     fn write(&mut self, piece: &[u8]) -> Result<usize, Failed>
-        requires { 0 < length piece.now }
         ensures writes { IsWrite (taken_by self.old) (taken_by self.new) piece.now result }
 
         // It fails exactly at the calls of these numbers, and where no room is left; each failure

@@ -1,6 +1,5 @@
 // Where texts are read from. Each text has a name, and is read from its first byte on.
-ghost use Rattle.std.specs.Prelude.{◌<◌, length, IsTrue};
-ghost use Rattle.market_edge.specs.Shelves.{ShelfState, IsBegin, IsRead};
+ghost use Rattle.market_edge.specs.Shelves.{ShelfState, IsBegin, IsRead, MayRead};
 
 /// The outside did not do what was asked of it. The fault is counted where it came from.
 #[derive(Clone, Copy, Debug, PartialEq, Eq)]
@@ -21,7 +20,6 @@ pub trait Shelf {
     /// Puts the next bytes of the begun text at the front of the room, and answers how many: 0 at
     /// the end of the text alone. A failed call takes none.
     fn read(&mut self, room: &mut [u8]) -> Result<usize, Failed>
-        requires begun { IsTrue (shows self.old).is_begun }
-        requires room { 0 < length room.old }
+        requires { MayRead (shows self.old) room.old }
         ensures { IsRead (shows self.old) (shows self.new) room.new result };
 }

@@ -1,5 +1,4 @@
 // Where texts are written to.
-ghost use Rattle.std.specs.Prelude.{◌<◌, length};
 ghost use Rattle.market_edge.specs.Sinks.{SinkState, IsWrite};
 
 use crate::Failed;
@@ -9,9 +8,8 @@ pub trait Sink {
     /// What it shows: the bytes that it has taken, where it tells, and its count of faults.
     ghost shows: { Self → SinkState };
 
-    /// Takes bytes from the front of the piece, and answers how many: at least one. A failed call
-    /// takes none.
+    /// Takes bytes from the front of the piece, and answers how many: at least one, where the piece
+    /// has one. A failed call takes none.
     fn write(&mut self, piece: &[u8]) -> Result<usize, Failed>
-        requires { 0 < length piece.now }
         ensures { IsWrite (shows self.old) (shows self.new) piece.now result };
 }

@@ -1,5 +1,5 @@
 // A writer of std, as standard output. What it takes is not told: this is the trusted edge.
-ghost use Rattle.std.specs.Prelude.{◌≡◌, ◌<◌, None, length, OnErr};
+ghost use Rattle.std.specs.Prelude.{◌≡◌, None, OnErr};
 ghost use Rattle.std.specs.Io.KnownBytes.{WriteAppends};
 ghost use Rattle.market_units.specs.Counts.{one_more};
 ghost use Rattle.market_edge.specs.Sinks.{IsWrite};
@@ -33,7 +33,6 @@ impl<W: Write + Drop> Sink for StdoutSink<W> {
     ghost shows = { λ sink. record { taken = None; faults = sink.faults } };
 
     fn write(&mut self, piece: &[u8]) -> Result<usize, Failed>
-        requires { 0 < length piece.now }
         ensures writes { IsWrite (⟦<StdoutSink<W> as Sink>⟧.shows self.old)
             (⟦<StdoutSink<W> as Sink>⟧.shows self.new) piece.now result }
 

@@ -1,8 +1,8 @@
 // A shelf in memory that never fails.
-ghost use Rattle.std.specs.Prelude.{◌≡◌, ◌<◌, Some, List, ℕ, false, length, IsTrue, IsOk};
+ghost use Rattle.std.specs.Prelude.{◌≡◌, Some, List, ℕ, false, Ok, IsOk};
 ghost use Rattle.std.specs.Option.{ForSome};
 ghost use Rattle.market_edge.specs.MemoryFiles.{IsPlace, has_place_of};
-ghost use Rattle.market_edge.specs.Shelves.{IsBegin, IsRead};
+ghost use Rattle.market_edge.specs.Shelves.{IsBegin, IsRead, MayRead};
 ghost use Rattle.market_edge.specs.SureFiles.{place_of_begun, sure_holding};
 
 use crate::memory_files::{Place, find, put_rest};
@@ -52,7 +52,7 @@ impl Shelf for SureShelf {
         ensures begins { IsBegin (shown_by self.old) (shown_by self.new) name.now result }
 
         // It never fails, and serves the name of the begun text alone.
-        ensures sure { IsOk result }
+        ensures sure { result ≡ Ok tt }
         ensures alone { (other : List ℕ)
             → (shown_by self.new).serves other ≡ has_place_of (files_of self.old) name.now other }
         ensures files { files_of self.new ≡ files_of self.old }
@@ -66,8 +66,7 @@ impl Shelf for SureShelf {
     }
 
     fn read(&mut self, room: &mut [u8]) -> Result<usize, Failed>
-        requires begun { IsTrue (shown_by self.old).is_begun }
-        requires room { 0 < length room.old }
+        requires { MayRead (shown_by self.old) room.old }
         ensures reads { IsRead (shown_by self.old) (shown_by self.new) room.new result }
 
         // It never fails.

@@ -1,5 +1,5 @@
 // A sink in memory that never fails.
-ghost use Rattle.std.specs.Prelude.{◌≡◌, ◌<◌, ◌≤◌, ◌+◌, ◌^◌, ◌-◌, ◌↔◌, [], Some, None, length, min, IfOk, IsOk, IsNone, IfSome, IfNone, vec_capacity};
+ghost use Rattle.std.specs.Prelude.{◌≡◌, ◌<◌, ◌≤◌, ◌+◌, ◌^◌, ◌-◌, ◌↔◌, [], Some, None, length, min, Ok, IfOk, IsNone, IfSome, IfNone, vec_capacity};
 ghost use Rattle.market_edge.specs.Sinks.{IsWrite, told_within};
 
 use crate::{Failed, Sink};
@@ -55,12 +55,10 @@ impl Sink for SureSink {
     ghost shows = { shown_by };
 
     fn write(&mut self, piece: &[u8]) -> Result<usize, Failed>
-        requires { 0 < length piece.now }
         ensures writes { IsWrite (shown_by self.old) (shown_by self.new) piece.now result }
 
         // It never fails, and takes the whole piece.
-        ensures sure { IsOk result }
-        ensures whole { IfOk result (λ n. n ≡ length piece.now) }
+        ensures whole { result ≡ Ok (length piece.now) }
         ensures told { told_bytes self.new
             ≡ told_within (size_of self.old) (told_bytes self.old) piece.now }
         ensures count { count_of self.new
