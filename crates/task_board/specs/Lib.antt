@@ -1,3 +1,4 @@
+pub mod Boards
 pub mod Closings
 pub mod Fates
 pub mod Kept

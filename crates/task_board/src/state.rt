@@ -1,6 +1,7 @@
 // A board without threads.
-ghost use Rattle.std.specs.Prelude.{◌≡◌, ◌≤◌, ◌<◌, ◌+◌, ◌*◌, ℕ, true, false, IfOk, length, replicate};
+ghost use Rattle.std.specs.Prelude.{◌≡◌, ◌≤◌, ◌<◌, ◌+◌, ◌-◌, ◌*◌, ℕ, true, false, IfOk, length, replicate};
 ghost use Rattle.chronicle.specs.History.{state_after};
+ghost use Rattle.task_board.specs.Boards.{with_marks, with_room};
 ghost use Rattle.task_board.specs.Marks.{is_held_by, mark_at};
 ghost use Rattle.task_board.specs.Openings.{no_answers, opening_of};
 ghost use Rattle.task_board.specs.Steps.{first_left, is_left, is_over, marks_drawn, marks_posted, post_answer};
@@ -67,9 +68,8 @@ impl<T: Tasks> BoardState<T> {
     /// where there is none.
     pub fn draw(&mut self, worker: u16) -> Option<u32>
         ensures answer { result ≡ first_left T.rules self.old.terms self.old.marks }
-        ensures marks { self.new.marks ≡ marks_drawn T.rules self.old.terms self.old.marks worker }
-        ensures terms { self.new.terms ≡ self.old.terms }
-        ensures room { self.new.room ≡ self.old.room }
+        ensures board { self.new
+            ≡ with_marks self.old (marks_drawn T.rules self.old.terms self.old.marks worker) }
     {
         let next = self.next_left();
         self.next = next;
@@ -150,9 +150,7 @@ impl<T: Tasks> BoardState<T> {
     /// One call of those that the board has room for.
     pub(crate) fn use_room(&mut self)
         requires { 1 ≤ self.old.room }
-        ensures room { self.new.room + 1 ≡ self.old.room }
-        ensures terms { self.new.terms ≡ self.old.terms }
-        ensures marks { self.new.marks ≡ self.old.marks }
+        ensures { self.new ≡ with_room self.old (self.old.room - 1) }
     {
         self.calls -= 1;
     }
