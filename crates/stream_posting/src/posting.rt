@@ -1,5 +1,5 @@
 // What the sessions do while the history is open.
-ghost use Rattle.std.specs.Prelude.{◌≡◌, ◌<◌, ◌≤◌, ℕ, true, length, slice_index_or};
+ghost use Rattle.std.specs.Prelude.{◌≡◌, ◌<◌, ◌≤◌, ℕ, length, slice_index_or};
 ghost use Rattle.stream_posting.specs.Postings.{IsReady, HasPosted};
 
 use chronicle::{Chronicle, Object, Seat};
@@ -25,9 +25,8 @@ where
         × (length streams.now ≤ MAX_SESSIONS) }
     requires numbers { (n : ℕ) (d : _) → n < length seats.old
         → (slice_index_or seats.old n d).number ≡ n }
-    requires sound { (request : O.Request) → O.sound chronicle.now.base request ≡ true }
     requires ready { (n : ℕ) (d : _) (none : _) → n < length seats.old
-        → IsReady chronicle.now (slice_index_or streams.now n none).items
+        → IsReady O.sound chronicle.now (slice_index_or streams.now n none).items
         (slice_index_or seats.old n d) }
     ensures count { length seats.new ≡ length seats.old }
     ensures numbers { (n : ℕ) (d : _) → n < length seats.old
@@ -43,9 +42,9 @@ where
         threads,
         &|n, seat|
             requires { (n < length streams.now) × (seat.now.number < MAX_SESSIONS)
-                × ((request : O.Request) → O.sound chronicle.now.base request ≡ true)
                 × ((none : _)
-                → IsReady chronicle.now (slice_index_or streams.now n none).items seat.now) }
+                → IsReady O.sound chronicle.now (slice_index_or streams.now n none).items
+                seat.now) }
         { post_stream(rt, chronicle, seat, &streams[n], gate) },
     );
 }
@@ -59,8 +58,7 @@ fn post_stream<R: Wait, O: Object, G: Gate>(
     gate: &G,
 )
     requires number { seat.old.number < MAX_SESSIONS }
-    requires sound { (request : O.Request) → O.sound chronicle.now.base request ≡ true }
-    requires ready { IsReady chronicle.now stream.now seat.old }
+    requires ready { IsReady O.sound chronicle.now stream.now seat.old }
     ensures posted { HasPosted chronicle.now stream.now seat.new }
     ensures number { seat.new.number ≡ seat.old.number }
 {

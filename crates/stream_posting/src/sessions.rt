@@ -58,13 +58,12 @@ where
     O::Request: Send + Sync,
     O::Reply: Send,
     requires sessions { (1 ≤ length streams.now) × (length streams.now ≤ MAX_SESSIONS) }
-    requires sound { (request : O.Request) → O.sound chronicle.base request ≡ true }
     requires count { (vec_len seats ≡ length streams.now)
         × (length chronicle.allotments ≡ length streams.now) }
     requires numbers { (n : ℕ) (d : _) → n < vec_len seats
         → (slice_index_or seats.items n d).number ≡ n }
     requires ready { (n : ℕ) (d : _) (none : _) → n < vec_len seats
-        → IsReady chronicle (slice_index_or streams.now n none).items
+        → IsReady O.sound chronicle (slice_index_or streams.now n none).items
         (slice_index_or seats.items n d) }
     ensures base { O.base result.0 ≡ chronicle.base }
     ensures legal { IsLegal O.sound O.after O.reply chronicle.base chronicle.opening result.1 }

@@ -10,7 +10,6 @@ for_each_mut-requires-clause-accepts g c κs within = λ i p below is.
     let few : streams ≤ 64 = c.requires.count.2 in (
       (let goal : i < streams = omega arith in goal),
       (let goal : p.now.number < 64 = omega arith in goal),
-      c.requires.sound,
       λ none. subst
-          (λ seat. IsReady c.args.chronicle.now (slice_index_or c.args.streams.now i none).items seat) (sym is) (c.requires.ready i p.now none below),
+          (λ seat. IsReady g.O.Object.sound c.args.chronicle.now (slice_index_or c.args.streams.now i none).items seat) (sym is) (c.requires.ready i p.now none below),
     )

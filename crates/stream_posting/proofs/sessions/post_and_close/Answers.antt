@@ -6,7 +6,7 @@ use Rattle.stream_posting.proofs.sessions.post_and_close.Goals as goal
 pub post_all-requires-clause-ready : goal.post_all-requires-clause-ready
 post_all-requires-clause-ready g c κs within = λ n d none below.
     let inside : n < c.args.seats.len = omega (arith, c.as_mut_slice.ensures.len) in
-    subst (λ all. IsReady c.args.chronicle (slice_index_or c.args.streams.now n none).items (slice_index_or all n d)) (sym c.as_mut_slice.ensures.value)
+    subst (λ all. IsReady g.O.Object.sound c.args.chronicle (slice_index_or c.args.streams.now n none).items (slice_index_or all n d)) (sym c.as_mut_slice.ensures.value)
     (c.requires.ready n d none inside)
 
 pub close-requires-clause-chronicle : goal.close-requires-clause-chronicle

@@ -14,10 +14,6 @@ start-requires-clause-room g c =
     let same : calls ≡ asked = ap sum_of c.in_ok-allotments.ensures ∙ sum_of-lengths c.args.streams.now in
     let goal : calls ≤ g.O.Object.room c.args.object = omega (arith, c.requires.room) in goal
 
-pub post_and_close-object-requires-clause-sound : goal.post_and_close-object-requires-clause-sound
-post_and_close-object-requires-clause-sound g c κs within = λ request.
-    subst (λ base. g.O.Object.sound base request ≡ true) (sym c.in_ok-chronicle.ensures.chronicle.0) (c.requires.sound request)
-
 pub post_and_close-object-requires-clause-count : goal.post_and_close-object-requires-clause-count
 post_and_close-object-requires-clause-count g c κs within =
     let streams = c.args.streams.now in
@@ -41,6 +37,8 @@ post_and_close-object-requires-clause-ready g c κs within = λ n d none below.
           ap (λ s. s.left) seat ∙ ap (λ lengths. slice_index lengths n) c.in_ok-allotments.ensures ∙ get_or-map vec_len streams n none 0 there
           ∙ (slice_index_or streams n none).ok.0;
       own = ap (λ s. s.own) seat;
+      requests_sound =
+          λ request. subst (λ base. g.O.Object.sound base request ≡ true) (sym c.in_ok-chronicle.ensures.chronicle.0) (c.requires.sound request);
     }
 
 pub returns-clause-base : goal.returns-clause-base
