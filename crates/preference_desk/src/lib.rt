@@ -11,11 +11,13 @@ pub mod laws;
 mod names;
 mod pairs;
 mod preferences;
+mod rating;
 mod ratings;
 mod reply;
 mod rows;
 mod shared;
 mod steps;
+mod two_sections;
 
 pub use desk::Desk;
 pub use entry::Entry;

@@ -9,19 +9,21 @@ ghost use Rattle.preference_desk.specs.Rows.{ArePairs, pair_entry};
 ghost use Rattle.preference_desk.specs.StudentPreferences.{pair_cmp};
 
 use crate::rows;
+use crate::two_sections::TwoSections;
 use market_units::{MAX_ADJUSTMENT, MAX_PAIRS, NoMemory, SectionNo};
 use std::alloc::Global;
 
 /// The adjustments of one student, pair by pair, in room that was taken once.
 #[derive(Drop)]
 pub(crate) struct Pairs {
-    items: Vec<(SectionNo, SectionNo, i16)>,
+    // Ascending by the first section and then by the second.
+    pub items: Vec<(SectionNo, SectionNo, i16)>,
     ghost kept: { ArePairs items.items },
     ghost room: { MAX_PAIRS ≤ vec_capacity items },
 }
 
 impl Pairs {
-    ghost use Rattle.std.specs.FinMap.{empty, contains_key, entries, len};
+    ghost use Rattle.std.specs.FinMap.{empty, contains_key, len};
     ghost use Rattle.preference_desk.specs.{PairsView.pairs_in, StudentPreferences.with_pair};
 
     /// No adjustments, with room for as many as a student may have. The only error is that memory
@@ -34,32 +36,23 @@ impl Pairs {
         })
     }
 
-    /// The pairs of sections and their adjustments, ascending by the first section and then by the
-    /// second.
-    pub(crate) fn as_slice(&self) -> &[(SectionNo, SectionNo, i16)]
-        ensures entries { map pair_entry result.now ≡ entries (pairs_in self.now) }
-        ensures kept { ArePairs result.now }
-    {
-        &self.items
-    }
-
     /// The pair's adjustment becomes this, and 0 takes it out; `false`, and nothing changes, where
     /// there is no room for one more.
-    pub(crate) fn set(&mut self, first: SectionNo, second: SectionNo, n: i16) -> bool
-        requires order { first.0 < second.0 }
+    pub(crate) fn set(&mut self, sections: TwoSections, n: i16) -> bool
         requires small { unsigned_abs n ≤ unsigned_abs MAX_ADJUSTMENT }
         ensures room { result
             ≡ not
             (nat_lt 0 (unsigned_abs n)
-            && not (contains_key (pairs_in self.old) (first.0, second.0))
+            && not (contains_key (pairs_in self.old) (sections.lower.0, sections.higher.0))
             && nat_le MAX_PAIRS (len (pairs_in self.old))) }
         ensures set { pairs_in self.new
-            ≡ (if result then with_pair (pairs_in self.old) (first.0, second.0) n
+            ≡ (if result
+            then with_pair (pairs_in self.old) (sections.lower.0, sections.higher.0) n
             else pairs_in self.old) }
     {
-        let place = place_of(&self.items, first, second);
-        let stands = stands_at(&self.items, place, first, second);
-        let entry = adjusted(first, second, n);
+        let place = place_of(&self.items, sections.lower, sections.higher);
+        let stands = stands_at(&self.items, place, sections.lower, sections.higher);
+        let entry = adjusted(sections.lower, sections.higher, n);
         rows::write(&mut self.items, MAX_PAIRS, place, stands, entry)
     }
 

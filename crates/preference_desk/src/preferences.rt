@@ -1,7 +1,9 @@
 // What all students want.
 use crate::pairs::Pairs;
+use crate::rating::Rating;
 use crate::ratings::Ratings;
-use market_units::{MAX_ADJUSTMENT, MAX_RATING, NoMemory, SectionNo, StudentNo};
+use crate::two_sections::TwoSections;
+use market_units::{MAX_ADJUSTMENT, NoMemory, SectionNo, StudentNo};
 use std::alloc::Global;
 
 /// What one student wants.
@@ -83,7 +85,7 @@ impl Preferences {
             ≡ entries (wanted_by self.now student.0).ratings }
         ensures kept { AreRatings result.now }
     {
-        self.rows[usize::from(student.0)].ratings.as_slice()
+        &self.rows[usize::from(student.0)].ratings.items
     }
 
     /// The pairs that the student adjusts, the lower section first, in ascending order, with their
@@ -93,19 +95,18 @@ impl Preferences {
         ensures entries { map pair_entry result.now ≡ entries (wanted_by self.now student.0).pairs }
         ensures kept { ArePairs result.now }
     {
-        self.rows[usize::from(student.0)].pairs.as_slice()
+        &self.rows[usize::from(student.0)].pairs.items
     }
 
     /// Sets a student's rating of a section, and 0 takes it back; `false`, and nothing changes,
     /// where the student has no room for one more.
-    pub(crate) fn rate(&mut self, student: StudentNo, section: SectionNo, rating: u8) -> bool
+    pub(crate) fn rate(&mut self, student: StudentNo, section: SectionNo, rating: Rating) -> bool
         requires student { student.0 < length (preferences_of self.old) }
-        requires small { rating ≤ MAX_RATING }
         ensures room { result
-            ≡ not (has_no_room_to_rate (wanted_by self.old student.0) section.0 rating) }
+            ≡ not (has_no_room_to_rate (wanted_by self.old student.0) section.0 rating.n) }
         ensures set { preferences_of self.new
             ≡ (if result
-            then slice_set (preferences_of self.old) student.0 (record { ratings = with_rating (wanted_by self.old student.0).ratings section.0 rating; pairs = (wanted_by self.old student.0).pairs })
+            then slice_set (preferences_of self.old) student.0 (record { ratings = with_rating (wanted_by self.old student.0).ratings section.0 rating.n; pairs = (wanted_by self.old student.0).pairs })
             else preferences_of self.old) }
     {
         let row = &mut self.rows[usize::from(student.0)];
@@ -114,27 +115,20 @@ impl Preferences {
 
     /// Sets a student's adjustment of a pair of sections, and 0 takes it back; `false`, and nothing
     /// changes, where the student has no room for one more.
-    pub(crate) fn pair(
-        &mut self,
-        student: StudentNo,
-        first: SectionNo,
-        second: SectionNo,
-        n: i16,
-    ) -> bool
+    pub(crate) fn pair(&mut self, student: StudentNo, sections: TwoSections, n: i16) -> bool
         requires student { student.0 < length (preferences_of self.old) }
-        requires order { first.0 < second.0 }
         requires small { unsigned_abs n ≤ unsigned_abs MAX_ADJUSTMENT }
         ensures room { result
             ≡ not
-            (has_no_room_to_pair (wanted_by self.old student.0) (first.0, second.0)
-            (unsigned_abs n)) }
+            (has_no_room_to_pair (wanted_by self.old student.0)
+            (sections.lower.0, sections.higher.0) (unsigned_abs n)) }
         ensures set { preferences_of self.new
             ≡ (if result
-            then slice_set (preferences_of self.old) student.0 (record { ratings = (wanted_by self.old student.0).ratings; pairs = with_pair (wanted_by self.old student.0).pairs (first.0, second.0) n })
+            then slice_set (preferences_of self.old) student.0 (record { ratings = (wanted_by self.old student.0).ratings; pairs = with_pair (wanted_by self.old student.0).pairs (sections.lower.0, sections.higher.0) n })
             else preferences_of self.old) }
     {
         let row = &mut self.rows[usize::from(student.0)];
-        row.pairs.set(first, second, n)
+        row.pairs.set(sections, n)
     }
 
     /// Takes back all ratings and adjustments of a student.

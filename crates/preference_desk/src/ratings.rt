@@ -7,20 +7,22 @@ ghost use Rattle.market_units.specs.declared.limits.TheConstants.{MAX_RATINGS};
 ghost use Rattle.preference_desk.specs.Places.{place_in, stands};
 ghost use Rattle.preference_desk.specs.Rows.{AreRatings, rating_entry};
 
+use crate::rating::Rating;
 use crate::rows;
-use market_units::{MAX_RATING, MAX_RATINGS, NoMemory, SectionNo};
+use market_units::{MAX_RATINGS, NoMemory, SectionNo};
 use std::alloc::Global;
 
 /// The ratings of one student, section by section, in room that was taken once.
 #[derive(Drop)]
 pub(crate) struct Ratings {
-    items: Vec<(SectionNo, u8)>,
+    // Ascending by section.
+    pub items: Vec<(SectionNo, u8)>,
     ghost kept: { AreRatings items.items },
     ghost room: { MAX_RATINGS ≤ vec_capacity items },
 }
 
 impl Ratings {
-    ghost use Rattle.std.specs.FinMap.{empty, contains_key, entries, len};
+    ghost use Rattle.std.specs.FinMap.{empty, contains_key, len};
     ghost use Rattle.preference_desk.specs.{RatingsView.ratings_in, StudentPreferences.with_rating};
 
     /// No ratings, with room for as many as a student may give. The only error is that memory was
@@ -33,29 +35,20 @@ impl Ratings {
         })
     }
 
-    /// The rated sections and their ratings, ascending by section.
-    pub(crate) fn as_slice(&self) -> &[(SectionNo, u8)]
-        ensures entries { map rating_entry result.now ≡ entries (ratings_in self.now) }
-        ensures kept { AreRatings result.now }
-    {
-        &self.items
-    }
-
     /// The section's rating becomes this, and 0 takes it out; `false`, and nothing changes, where
     /// there is no room for one more.
-    pub(crate) fn set(&mut self, section: SectionNo, rating: u8) -> bool
-        requires { rating ≤ MAX_RATING }
+    pub(crate) fn set(&mut self, section: SectionNo, rating: Rating) -> bool
         ensures room { result
             ≡ not
-            (nat_lt 0 rating && not (contains_key (ratings_in self.old) section.0)
+            (nat_lt 0 rating.n && not (contains_key (ratings_in self.old) section.0)
             && nat_le MAX_RATINGS (len (ratings_in self.old))) }
         ensures set { ratings_in self.new
-            ≡ (if result then with_rating (ratings_in self.old) section.0 rating
+            ≡ (if result then with_rating (ratings_in self.old) section.0 rating.n
             else ratings_in self.old) }
     {
         let place = place_of(&self.items, section);
         let stands = stands_at(&self.items, place, section);
-        let entry = rated(section, rating);
+        let entry = rated(section, rating.n);
         rows::write(&mut self.items, MAX_RATINGS, place, stands, entry)
     }
 

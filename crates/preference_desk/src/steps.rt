@@ -7,6 +7,8 @@ ghost use Rattle.preference_desk.specs.{NamesView.names_in, PreferencesView.pref
 use crate::Reply;
 use crate::names::Names;
 use crate::preferences::Preferences;
+use crate::rating::Rating;
+use crate::two_sections::TwoSections;
 use market_units::{MAX_ADJUSTMENT, MAX_RATING, Name, SectionNo};
 use utility_language::Command;
 
@@ -36,7 +38,8 @@ pub(crate) fn rate(
     if n < 0 || n > i32::from(MAX_RATING) {
         return Reply::OutOfRange;
     }
-    if preferences.rate(student, section, n as u8) {
+    let rating = Rating { n: n as u8 };
+    if preferences.rate(student, section, rating) {
         Reply::Done
     } else {
         Reply::TooMany
@@ -76,9 +79,11 @@ pub(crate) fn pair(
     if n.unsigned_abs() > u32::from(MAX_ADJUSTMENT.unsigned_abs()) {
         return Reply::OutOfRange;
     }
-    let lower = SectionNo(one.0.min(other.0));
-    let higher = SectionNo(one.0.max(other.0));
-    if preferences.pair(student, lower, higher, n as i16) {
+    let sections = TwoSections {
+        lower: SectionNo(one.0.min(other.0)),
+        higher: SectionNo(one.0.max(other.0)),
+    };
+    if preferences.pair(student, sections, n as i16) {
         Reply::Done
     } else {
         Reply::TooMany

@@ -3,9 +3,9 @@ use Rattle.market_units.specs.Name.{name_bytes}
 use Rattle.preference_desk.proofs.NameLemmas.{other_ordinals}
 use Rattle.preference_desk.proofs.steps.pair.Goals as goal
 
-pub pair-requires-clause-order : goal.pair-requires-clause-order
-pair-requires-clause-order c =
+pub invariant_of-sections : goal.invariant_of-sections
+invariant_of-sections c =
     let apart : c.in-Some-section.one.0 ≡ c.in-Some-section-2.other.0 → ⊥ =
     other_ordinals (map name_bytes c.args.names.now.sections.keys) c.args.first.now c.args.second.now _ _ c.in-Some-section.ensures.has
     c.in-Some-section-2.ensures.has c.in-Some-section.ensures.ordinal c.in-Some-section-2.ensures.ordinal (sym c.eq.ensures ∙ c.if-eq.false) in
-    omega (arith, apart)
+    record { order = omega (arith, apart) }

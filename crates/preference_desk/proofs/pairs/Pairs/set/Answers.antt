@@ -25,15 +25,15 @@ stands_is first second seen items here e is = same_place (λ items. stands pair_
 pub write-requires-clause-place : goal.write-requires-clause-place
 write-requires-clause-place c =
     let items = c.args.self.now.items.items in
-    let place = place_is c.args.first c.args.second _ items _ c.place_of-place.ensures c.deref.ensures.value in
-    omega (arith, place, place_fits pair_cmp (c.args.first.0, c.args.second.0) (map pair_entry items), length-entries pair_entry items)
+    let place = place_is c.args.sections.lower c.args.sections.higher _ items _ c.place_of-place.ensures c.deref.ensures.value in
+    omega (arith, place, place_fits pair_cmp (c.args.sections.lower.0, c.args.sections.higher.0) (map pair_entry items), length-entries pair_entry items)
 
 pub write-requires-clause-inside : goal.write-requires-clause-inside
 write-requires-clause-inside c here =
     let items = c.args.self.now.items.items in
-    let place = place_is c.args.first c.args.second _ items _ c.place_of-place.ensures c.deref.ensures.value in
-    let stands = sym (stands_is c.args.first c.args.second _ items _ c.stands_at-stands.ensures c.deref-2.ensures.value) ∙ here in
-    omega (arith, place, place_inside pair_cmp (c.args.first.0, c.args.second.0) (map pair_entry items) stands, length-entries pair_entry items)
+    let place = place_is c.args.sections.lower c.args.sections.higher _ items _ c.place_of-place.ensures c.deref.ensures.value in
+    let stands = sym (stands_is c.args.sections.lower c.args.sections.higher _ items _ c.stands_at-stands.ensures c.deref-2.ensures.value) ∙ here in
+    omega (arith, place, place_inside pair_cmp (c.args.sections.lower.0, c.args.sections.higher.0) (map pair_entry items) stands, length-entries pair_entry items)
 
 -- what was made of the adjustment as it was passed on is what the adjustment makes
 entry_is : (first second : SectionNo) (n : ℤ) → SFits w16 n → (x : Option (SectionNo × SectionNo × ℤ))
@@ -55,23 +55,23 @@ after_write first second n seen seen' items new x place here result kept order s
 pub invariant_of-self : goal.invariant_of-self
 invariant_of-self c =
     let set =
-    after_write c.args.first c.args.second c.args.n _ _ _ _ _ _ _ _ c.args.self.now.kept c.requires.order c.requires.small
-    (entry_is c.args.first c.args.second c.args.n c.ranges.n _ c.adjusted-entry.ensures) c.place_of-place.ensures c.deref.ensures.value
+    after_write c.args.sections.lower c.args.sections.higher c.args.n _ _ _ _ _ _ _ _ c.args.self.now.kept c.args.sections.order c.requires.small
+    (entry_is c.args.sections.lower c.args.sections.higher c.args.n c.ranges.n _ c.adjusted-entry.ensures) c.place_of-place.ensures c.deref.ensures.value
     c.stands_at-stands.ensures c.deref-2.ensures.value c.write.ensures.room c.write.ensures.items in
     record { kept = set.kept; room = omega (arith, c.args.self.now.room, c.write.ensures.capacity) }
 
 pub returns-clause-room : goal.returns-clause-room
 returns-clause-room c =
     let set =
-    after_write c.args.first c.args.second c.args.n _ _ _ _ _ _ _ _ c.args.self.now.kept c.requires.order c.requires.small
-    (entry_is c.args.first c.args.second c.args.n c.ranges.n _ c.adjusted-entry.ensures) c.place_of-place.ensures c.deref.ensures.value
+    after_write c.args.sections.lower c.args.sections.higher c.args.n _ _ _ _ _ _ _ _ c.args.self.now.kept c.args.sections.order c.requires.small
+    (entry_is c.args.sections.lower c.args.sections.higher c.args.n c.ranges.n _ c.adjusted-entry.ensures) c.place_of-place.ensures c.deref.ensures.value
     c.stands_at-stands.ensures c.deref-2.ensures.value c.write.ensures.room c.write.ensures.items in
     set.room
 
 pub returns-clause-set : goal.returns-clause-set
 returns-clause-set c =
     let set =
-    after_write c.args.first c.args.second c.args.n _ _ _ _ _ _ _ _ c.args.self.now.kept c.requires.order c.requires.small
-    (entry_is c.args.first c.args.second c.args.n c.ranges.n _ c.adjusted-entry.ensures) c.place_of-place.ensures c.deref.ensures.value
+    after_write c.args.sections.lower c.args.sections.higher c.args.n _ _ _ _ _ _ _ _ c.args.self.now.kept c.args.sections.order c.requires.small
+    (entry_is c.args.sections.lower c.args.sections.higher c.args.n c.ranges.n _ c.adjusted-entry.ensures) c.place_of-place.ensures c.deref.ensures.value
     c.stands_at-stands.ensures c.deref-2.ensures.value c.write.ensures.room c.write.ensures.items in
     set.view

@@ -12,5 +12,5 @@ returns-clause-set c =
     let row = row_is rows c.from.result c.args.student.0 c.index_mut-row.result.now c.index_mut-row.ensures.value c.from.ensures c.requires.student in
     row_changes rows c.from.result c.args.student.0 (record { ratings = c.index_mut-row.result.now.ratings; pairs = c.set.new.self }) c.set.result _
     c.from.ensures c.requires.student
-    (paired_row c.index_mut-row.result.now c.set.new.self _ (c.args.first.0, c.args.second.0) c.args.n c.set.result row
-    (c.set.ensures.set ∙ ap (λ n. cond c.set.result (with_pair (pairs_in c.index_mut-row.result.now.pairs) (c.args.first.0, c.args.second.0) n) (pairs_in c.index_mut-row.result.now.pairs)) (to_z-of_z w16 c.args.n c.ranges.n)))
+    (paired_row c.index_mut-row.result.now c.set.new.self _ (c.args.sections.lower.0, c.args.sections.higher.0) c.args.n c.set.result row
+    (c.set.ensures.set ∙ ap (λ n. cond c.set.result (with_pair (pairs_in c.index_mut-row.result.now.pairs) (c.args.sections.lower.0, c.args.sections.higher.0) n) (pairs_in c.index_mut-row.result.now.pairs)) (to_z-of_z w16 c.args.n c.ranges.n)))

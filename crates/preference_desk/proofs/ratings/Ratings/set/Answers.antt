@@ -42,20 +42,20 @@ after_write section rating seen seen' items new x place here result kept small x
 pub invariant_of-self : goal.invariant_of-self
 invariant_of-self c =
     let set =
-    after_write c.args.section c.args.rating _ _ _ _ _ _ _ _ c.args.self.now.kept c.requires c.rated-entry.ensures c.place_of-place.ensures
+    after_write c.args.section c.args.rating.n _ _ _ _ _ _ _ _ c.args.self.now.kept c.args.rating.small c.rated-entry.ensures c.place_of-place.ensures
     c.deref.ensures.value c.stands_at-stands.ensures c.deref-2.ensures.value c.write.ensures.room c.write.ensures.items in
     record { kept = set.kept; room = omega (arith, c.args.self.now.room, c.write.ensures.capacity) }
 
 pub returns-clause-room : goal.returns-clause-room
 returns-clause-room c =
     let set =
-    after_write c.args.section c.args.rating _ _ _ _ _ _ _ _ c.args.self.now.kept c.requires c.rated-entry.ensures c.place_of-place.ensures
+    after_write c.args.section c.args.rating.n _ _ _ _ _ _ _ _ c.args.self.now.kept c.args.rating.small c.rated-entry.ensures c.place_of-place.ensures
     c.deref.ensures.value c.stands_at-stands.ensures c.deref-2.ensures.value c.write.ensures.room c.write.ensures.items in
     set.room
 
 pub returns-clause-set : goal.returns-clause-set
 returns-clause-set c =
     let set =
-    after_write c.args.section c.args.rating _ _ _ _ _ _ _ _ c.args.self.now.kept c.requires c.rated-entry.ensures c.place_of-place.ensures
+    after_write c.args.section c.args.rating.n _ _ _ _ _ _ _ _ c.args.self.now.kept c.args.rating.small c.rated-entry.ensures c.place_of-place.ensures
     c.deref.ensures.value c.stands_at-stands.ensures c.deref-2.ensures.value c.write.ensures.room c.write.ensures.items in
     set.view
