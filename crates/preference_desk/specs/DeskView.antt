@@ -21,5 +21,5 @@ abbrev pub entries_of : Desk → List Entry
 entries_of desk = desk.journal.items
 
 -- how many commands can still be posted
-abbrev pub room_of : Desk → ℕ
-room_of desk = desk.lines - vec_len desk.journal
+abbrev pub commands_left : Desk → ℕ
+commands_left desk = desk.lines - vec_len desk.journal

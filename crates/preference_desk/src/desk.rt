@@ -34,7 +34,7 @@ pub struct Desk {
 impl Desk {
     ghost use Rattle.std.specs.Prelude.{◌+◌, ◌++◌, ◌∷◌, [], All, IfOk};
     ghost use Rattle.preference_desk.specs.DeskStep.{reply_to, state_after};
-    ghost use Rattle.preference_desk.specs.DeskView.{names_of, state_of, entries_of, room_of};
+    ghost use Rattle.preference_desk.specs.DeskView.{names_of, state_of, entries_of, commands_left};
     ghost use Rattle.preference_desk.specs.Entries.{entry_of};
     ghost use Rattle.preference_desk.specs.Journals.{IsLegalJournal, closed_preferences, opening};
     ghost use Rattle.preference_desk.specs.MarketNames.{market_names};
@@ -54,7 +54,7 @@ impl Desk {
             (λ desk. state_of desk
             ≡ opening (market_names catalog.now.sections roll.now.students)) }
         ensures entries { IfOk result (λ desk. entries_of desk ≡ []) }
-        ensures room { IfOk result (λ desk. room_of desk ≡ lines) }
+        ensures room { IfOk result (λ desk. commands_left desk ≡ lines) }
     {
         let students = students_of(alloc, roll)?;
         let sections = sections_of(alloc, catalog)?;
@@ -70,7 +70,7 @@ impl Desk {
 
     /// How many commands can still be posted.
     pub fn room(&self) -> u32
-        ensures { result ≡ room_of self.now }
+        ensures { result ≡ commands_left self.now }
     {
         self.lines - self.journal.len() as u32
     }
@@ -78,14 +78,14 @@ impl Desk {
     /// Takes the session's command: replies to it, carries it out where the reply is `Done`, and
     /// enters it into the journal.
     pub fn post(&mut self, session: u16, command: Command) -> Reply
-        requires { 1 ≤ room_of self.old }
+        requires { 1 ≤ commands_left self.old }
         ensures reply { result ≡ reply_to (names_of self.old) (state_of self.old) command }
         ensures state { state_of self.new
             ≡ state_after (names_of self.old) (state_of self.old) command }
         ensures names { names_of self.new ≡ names_of self.old }
         ensures entries { entries_of self.new
             ≡ entries_of self.old ++ entry_of session command result ∷ [] }
-        ensures room { room_of self.new + 1 ≡ room_of self.old }
+        ensures room { commands_left self.new + 1 ≡ commands_left self.old }
     {
         let reply = carry_out(
             &self.names,

@@ -33,7 +33,7 @@ impl Model for Told {
 }
 
 impl Object for Desk {
-    ghost use Rattle.preference_desk.specs.DeskView.{names_of, state_of, entries_of, room_of};
+    ghost use Rattle.preference_desk.specs.DeskView.{names_of, state_of, entries_of, commands_left};
     ghost use Rattle.preference_desk.specs.Shared.{is_sound, told_after, told_reply};
 
     type Base = Known;
@@ -48,7 +48,7 @@ impl Object for Desk {
 
     ghost state = { λ desk. record { state = state_of desk; entries = entries_of desk } };
 
-    ghost room = { λ desk. room_of desk };
+    ghost room = { λ desk. commands_left desk };
 
     ghost sound = { is_sound };
 

@@ -1,5 +1,5 @@
 use Rattle.std.proofs.Common.{ℕ, ◌≡◌, ◌≤◌, ◌∙◌, arith}
-use Rattle.preference_desk.specs.DeskView.{room_of}
+use Rattle.preference_desk.specs.DeskView.{commands_left}
 use Rattle.preference_desk.specs.MarketNames.{market_names}
 use Rattle.session_hall.specs.Streams.{command_count}
 use Rattle.session_hall.proofs.Merging.{entries_merge, entries_are_steps, steps_are_legal}
@@ -8,7 +8,7 @@ use Rattle.session_hall.proofs.hall.hold.Goals as goal
 pub post_streams-requires-clause-room : goal.post_streams-requires-clause-room
 post_streams-requires-clause-room g c κs within =
     let commands : ℕ = command_count c.args.streams.now in
-    let room : ℕ = room_of c.in_ok-desk.desk in
+    let room : ℕ = commands_left c.in_ok-desk.desk in
     let taken : room ≡ commands = c.in_ok-desk.ensures.room ∙ c.count_commands-lines.ensures in
     let goal : commands ≤ room = omega arith in goal
 
