@@ -6,7 +6,7 @@ ghost use Rattle.chronicle.specs.Turn.{IsWaiting, Serves};
 ghost use Rattle.chronicle.specs.Views.{sum_of};
 
 use crate::bells::Bells;
-use crate::journal::Journal;
+use crate::journal::{Journal, StepOf};
 use crate::kept::Kept;
 use crate::object::Object;
 use crate::rule::{Deal, Draw, Key, Look, Pass, Turns};
@@ -260,7 +260,12 @@ impl<O: Object> Chronicle<O> {
         let ticket = self.table.shared.fetch_add::<Draw>(place, TICKET, 1);
         self.wait(rt, place, ticket);
         let kept = place.slot_mut(&self.table.shared, 0);
-        let reply = kept.step(number, request);
+        let reply = kept.object.step(number, request);
+        kept.journal.push_reserved(StepOf {
+            seat: number,
+            request,
+            reply,
+        });
         // Gives the object back, and passes the turn on.
         let served = self.table.shared.fetch_add::<Pass>(place, SERVING, 1);
         self.ring(served.wrapping_add(1));
