@@ -8,6 +8,7 @@ use Rattle.bundle_bounds.specs.declared.prospects.Resource.{Resource}
 use Rattle.bundle_bounds.specs.declared.prospects.Resource.TheVariants.{Count}
 use Rattle.bundle_bounds.specs.Courses.{takes_of, has_course, greatest, by_course}
 use Rattle.bundle_bounds.specs.Bounds.{over_price}
+use Rattle.bundle_bounds.specs.Modest.{IsModest}
 use Rattle.bundle_bounds.proofs.Steps.{by_course-step, greatest_none}
 
 pub drop_here : (ps : List Prospect) (i : ℕ) (d : Prospect) → i < length ps → drop i ps ≡ get_or ps i d ∷ drop (i + 1) ps
@@ -63,6 +64,14 @@ courses_more courses more ps i at d low at_is here others there course =
           let differ : ((get_or ps i d).course == course) ≡ false = ne_eqb (get_or ps i d).course course (λ e. other (sym e ∙ sym at_is)) in
           ap (λ n. n == 1) (others course other) ∙ there course ∙ sym (split ∙ rw differ refl)
     ]
+
+-- what a prospect has over a price is within its range
+pub peak_low : (resource : Resource) (price : ℕ) (p : Prospect) (own : ℕ) → IsModest p → own ≡ over_price resource price p → own ≤ 20000000
+peak_low resource price p own modest own_is =
+    let worth : p.worth ≤ 20000 = modest.worth_low in
+    let paid : ℕ = price * takes_of resource p in
+    let own_is' : own ≡ 1000 * p.worth - paid = own_is in
+    let goal : own ≤ 20000000 = omega arith in goal
 
 -- the highest of a course, one more of it in front
 pub peak_front : (f : Prospect → ℕ) (ps : List Prospect) (i own most high : ℕ) (d : Prospect) → i < length ps → own ≡ f (get_or ps i d)
