@@ -13,9 +13,7 @@ use crate::chosen::Chosen;
 use crate::places::{adjustments_with, is_apart, price_of_place};
 use crate::prospects::Prospect;
 use bundle_rules::{Menu, Rated};
-use market_units::{
-    MAX_ADJUSTMENT, MAX_COURSES, MAX_PRICE, MAX_RATING, MAX_RATINGS, MAX_SECTION_CREDITS,
-};
+use market_units::{MAX_ADJUSTMENT, MAX_COURSES, MAX_PRICE, MAX_RATINGS, MAX_SECTION_CREDITS};
 
 /// What the chosen places leave of each resource.
 #[derive(Clone, Copy)]
@@ -146,7 +144,6 @@ fn first_of_course(places: &[Rated], course: u16) -> usize
 /// The most that a place can add to the utility: its rating, its adjustments with the chosen
 /// places, and what those with later places can add; 0 where the sum is negative.
 pub(crate) fn worth_of(rating: u8, adjustments: i32, hopes: u32) -> u32
-    requires rating { rating ≤ MAX_RATING }
     requires low { neg_ℤ (pos 1600) ≤ℤ adjustments }
     requires high { adjustments ≤ℤ pos 1600 }
     requires hopes { hopes ≤ 12000 }
