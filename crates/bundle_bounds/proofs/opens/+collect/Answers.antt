@@ -37,11 +37,13 @@ returns-then-not-is_open_at-clause-value t c =
     let no : c.is_open_at.result ≡ false = search rules in
     let shut : is_open offer c.args.chosen.now.places.now c.args.place ≡ false =
     sym
-    (open_same offer c.args.chosen.now.places.now c.args.place c.args.chosen.now.rests.budget c.args.chosen.now.rests.credits c.args.chosen.now.rests.courses c.is_open_at.result
+    (open_same offer c.args.chosen.now.places.now c.args.place c.args.chosen.now.rests.budget c.args.chosen.now.rests.credits
+    c.args.chosen.now.rests.courses c.is_open_at.result
     c.is_open_at.ensures are.budget_is are.credits_is are.courses_is)
     ∙ no in
     c.collect-start.ensures.value
-    ∙ ap (prospects offer c.args.chosen.now.places.now) (sym (opens_shut offer c.args.chosen.now.places.now c.args.place (length c.args.chosen.now.offer.now.menu.now.places) low shut))
+    ∙ ap (prospects offer c.args.chosen.now.places.now) (sym (opens_shut offer c.args.chosen.now.places.now c.args.place
+    (length c.args.chosen.now.offer.now.menu.now.places) low shut))
 
 pub returns-clause-value : goal.returns-clause-value
 returns-clause-value t c =
@@ -53,7 +55,8 @@ returns-clause-value t c =
     let yes : c.is_open_at.result ≡ true = search rules in
     let opened : is_open offer c.args.chosen.now.places.now c.args.place ≡ true =
     sym
-    (open_same offer c.args.chosen.now.places.now c.args.place c.args.chosen.now.rests.budget c.args.chosen.now.rests.credits c.args.chosen.now.rests.courses c.is_open_at.result
+    (open_same offer c.args.chosen.now.places.now c.args.place c.args.chosen.now.rests.budget c.args.chosen.now.rests.credits
+    c.args.chosen.now.rests.courses c.is_open_at.result
     c.is_open_at.ensures are.budget_is are.credits_is are.courses_is)
     ∙ yes in
     let some : 1 ≤ c.collect-start.result = omega (arith, c.collect-start.ensures.space, c.len.ensures.menu.places.few) in
@@ -69,7 +72,8 @@ returns-clause-value t c =
     low opened some within
     (c.collect-start.ensures.value)
     (prospect_is menu c.args.chosen.now.offer.now.prices.now c.args.chosen.now.offer.now.budget.0 c.args.chosen.now.offer.now.allowed.now places c.args.place _
-    c.rated-rated.result.now c.course_of.result c.worth_of.result c.price_of_place.result a c.hopes-later_ones.result c.rated-rated.ensures.value c.course_of.ensures worth
+    c.rated-rated.result.now c.course_of.result c.worth_of.result c.price_of_place.result a c.hopes-later_ones.result c.rated-rated.ensures.value
+    c.course_of.ensures worth
     c.adjustments_with-adjustments.ensures.value c.hopes-later_ones.ensures.value c.price_of_place.ensures.value
     ∙ ap (λ l. prospect offer places c.args.place (map (λ (p : Prospect). p.place) l))
     (rest_of_room c.collect-start.new.room c.collect-start.result whole))
