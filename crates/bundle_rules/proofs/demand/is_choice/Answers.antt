@@ -11,7 +11,8 @@ use Rattle.bundle_rules.proofs.demand.is_choice.Goals as goal
 pub price_of-requires-clause-priced : goal.price_of-requires-clause-priced
 price_of-requires-clause-priced c =
     all_of_ordinals (IsPriced c.args.terms.now.prices.now) c.sections.result.now
-    (λ s is. priced c.args.terms.now.menu.now c.args.terms.now.prices.now (sections_of c.args.bundle.now) c.args.terms.now.priced (c.feasible.ensures.0 c.if-not-feasible.false).rated s
+    (λ s is. priced c.args.terms.now.menu.now c.args.terms.now.prices.now (sections_of c.args.bundle.now) c.args.terms.now.priced
+    (c.feasible.ensures.0 c.if-not-feasible.false).rated s
     (subst (λ xs. has xs s ≡ true) c.sections.ensures.value is))
 
 pub all_allowed-requires : goal.all_allowed-requires
@@ -23,7 +24,8 @@ all_allowed-requires c =
 pub returns : goal.returns
 returns c =
     let feasible = c.feasible.ensures.0 c.if-not-feasible.false in
-    let price : c.price_of.result ≡ total (price_in c.args.terms.now.prices.now) (sections_of c.args.bundle.now) = c.price_of.ensures.value ∙ ap (total (price_in c.args.terms.now.prices.now)) c.sections.ensures.value in (
+    let price : c.price_of.result ≡ total (price_in c.args.terms.now.prices.now) (sections_of c.args.bundle.now) =
+    c.price_of.ensures.value ∙ ap (total (price_in c.args.terms.now.prices.now)) c.sections.ensures.value in (
       (λ yes'. record {
         feasible = feasible;
         affordable = subst (λ n. n ≤ c.args.terms.now.budget.0) price c.if-price_of-terms.false;

@@ -20,5 +20,6 @@ returns-else-not-clash t c =
     rw c.if-not-clash.false (
       (λ yes'. absurd (true≢false (sym yes'))),
       (λ none. absurd
-          (true≢false (sym c.if-not-clash.false ∙ c.clash.ensures ∙ (subst (ClashesWithNone (by_place c.args.others.now.menu.now) c.args.place) split none).0))),
+          (true≢false
+          (sym c.if-not-clash.false ∙ c.clash.ensures ∙ (subst (ClashesWithNone (by_place c.args.others.now.menu.now) c.args.place) split none).0))),
     )

@@ -7,7 +7,8 @@ use Rattle.bundle_rules.proofs.preferences.within_caps.Goals as goal
 pub returns-then-picks-from : goal.returns-then-picks-from
 unfolding by_place
 returns-then-picks-from c =
-    let courses : length c.args.picks.now.places.now ≤ c.args.picks.now.menu.now.courses = omega (arith, c.if-picks-from.true, c.from.ensures, c.courses.ensures) in
+    let courses : length c.args.picks.now.places.now ≤ c.args.picks.now.menu.now.courses =
+    omega (arith, c.if-picks-from.true, c.from.ensures, c.courses.ensures) in
     let value : c.credits_of.result ≡ total (by_place c.args.picks.now.menu.now).credits c.args.picks.now.places.now = c.credits_of.ensures.value in
     let cap : c.from-then-picks-from.result ≡ c.args.picks.now.menu.now.credits = c.from-then-picks-from.ensures ∙ c.credits.ensures in (
       (λ yes'. record {
@@ -17,7 +18,8 @@ returns-then-picks-from c =
             ≤ c.from-then-picks-from.result = grind (arith, nat_tests) in let h : total (by_place c.args.picks.now.menu.now).credits c.args.picks.now.places.now
             ≤ c.args.picks.now.menu.now.credits = omega arith in h);
       }),
-      (λ is. let h : total (by_place c.args.picks.now.menu.now).credits c.args.picks.now.places.now ≤ c.args.picks.now.menu.now.credits = is.credits in let low : c.credits_of.result
+      (λ is. let h : total (by_place c.args.picks.now.menu.now).credits c.args.picks.now.places.now ≤ c.args.picks.now.menu.now.credits =
+          is.credits in let low : c.credits_of.result
           ≤ c.from-then-picks-from.result = omega arith in grind (arith, nat_tests)),
     )
 
