@@ -1,6 +1,6 @@
 -- The greatest of each course, added up from the last prospect to the first.
 use Rattle.std.proofs.Common.{◌≡◌, ℕ, zero, suc, ◌+◌, ◌-◌, ◌*◌, ◌<◌, ◌≤◌, ◌≢◌, max, true, false, ◌==◌, ◌||◌, List, [], ◌∷◌, length, get_or, take, drop, drop-cons, add-one, refl, sym, ap, ◌∙◌, arith, inl, inr}
-use Rattle.std.specs.Prelude.{if◌then◌else◌}
+use Rattle.std.specs.Prelude.{if◌then◌else◌, All}
 use Rattle.std.specs.Int.{bit_at}
 use Rattle.std.proofs.lemmas.Bool.{cases_Bool, cases_eq, eq-eqb, ne_eqb}
 use Rattle.bundle_bounds.specs.declared.prospects.Prospect.{Prospect}
@@ -8,6 +8,7 @@ use Rattle.bundle_bounds.specs.declared.prospects.Resource.{Resource}
 use Rattle.bundle_bounds.specs.declared.prospects.Resource.TheVariants.{Count}
 use Rattle.bundle_bounds.specs.Courses.{takes_of, has_course, greatest, by_course}
 use Rattle.bundle_bounds.specs.Bounds.{over_price}
+use Rattle.bundle_bounds.specs.Modest.{IsModest}
 use Rattle.bundle_bounds.proofs.Steps.{by_course-step, greatest_none}
 
 pub drop_here : (ps : List Prospect) (i : ℕ) (d : Prospect) → i < length ps → drop i ps ≡ get_or ps i d ∷ drop (i + 1) ps
@@ -64,6 +65,14 @@ courses_more courses more ps i at d low at_is here others there course =
           ap (λ n. n == 1) (others course other) ∙ there course ∙ sym (split ∙ rw differ refl)
     ]
 
+-- what a prospect has over a price is within its range
+pub peak_low : (resource : Resource) (price : ℕ) (p : Prospect) (own : ℕ) → IsModest p → own ≡ over_price resource price p → own ≤ 20000000
+peak_low resource price p own modest own_is =
+    let worth : p.worth ≤ 20000 = modest.worth_low in
+    let paid : ℕ = price * takes_of resource p in
+    let own_is' : own ≡ 1000 * p.worth - paid = own_is in
+    let goal : own ≤ 20000000 = omega arith in goal
+
 -- the highest of a course, one more of it in front
 pub peak_front : (f : Prospect → ℕ) (ps : List Prospect) (i own most high : ℕ) (d : Prospect) → i < length ps → own ≡ f (get_or ps i d)
     → most ≡ greatest f (get_or ps i d).course (drop (i + 1) ps) → high ≡ max own most → high ≡ greatest f (get_or ps i d).course (drop i ps)
@@ -72,6 +81,20 @@ peak_front f ps i own most high d low own_is most_is high_is =
     let same : (p.course == p.course) ≡ true = eq-eqb p.course p.course refl in
     let front : greatest f p.course (p ∷ drop (i + 1) ps) ≡ max (f p) (greatest f p.course (drop (i + 1) ps)) = rw same refl in
     high_is ∙ (λ j. max (own_is j) (most_is j)) ∙ sym (ap (greatest f p.course) (drop_here ps i d low) ∙ front)
+
+-- the greatest worth of each course, a thousandfold, is at most so much for each prospect
+pub plain_low : (ps : List Prospect) → All IsModest ps → by_course (λ p. 1000 * p.worth) ps ≤ 20000000 * length ps
+plain_low [] all = omega arith
+plain_low (p ∷ ps) all =
+    let f : Prospect → ℕ = λ q. 1000 * q.worth in
+    let here : p.worth ≤ 20000 = (all 0 p (omega arith)).worth_low in
+    let whole : ℕ = by_course f (p ∷ ps) in
+    let later : ℕ = by_course f ps in
+    let most : ℕ = greatest f p.course ps in
+    let rest : later ≤ 20000000 * length ps =
+    plain_low ps (λ i d low. all (suc i) d (let h : suc i < suc (length ps) = omega arith in h)) in
+    let split : whole ≡ (1000 * p.worth - most) + later = by_course-step f p ps in
+    let goal : whole ≤ 20000000 * suc (length ps) = omega arith in goal
 
 -- none of a course from a prospect on
 pub none_from : (ps : List Prospect) (i c : ℕ) (d : Prospect) → i < length ps → ((get_or ps i d).course == c) ≡ false

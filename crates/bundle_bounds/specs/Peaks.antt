@@ -6,7 +6,9 @@ use Rattle.bundle_bounds.specs.declared.prospects.Peak.{Peak}
 use Rattle.bundle_bounds.specs.Courses.{greatest}
 use Rattle.bundle_bounds.specs.Bounds.{over_price}
 
--- the peak has the greatest of its course among these
-pub record IsPeak (resource : Resource) (price : ℕ) (ps : List Prospect) (peak : Peak) : Type 0 where
-  pub here_is : peak.here ≡ greatest (over_price resource price) peak.course ps
-  pub after_is : peak.after ≡ greatest (over_price resource (price + 1)) peak.course ps
+-- the peak is of this course, and has the greatest of it among these
+pub record IsPeak (resource : Resource) (price course : ℕ) (ps : List Prospect)
+    (peak : Peak) : Type 0 where
+  pub course_is : peak.course ≡ course
+  pub here_is : peak.here ≡ greatest (over_price resource price) course ps
+  pub after_is : peak.after ≡ greatest (over_price resource (price + 1)) course ps

@@ -1,21 +1,19 @@
 // What open places make without the first of them.
-ghost use Rattle.std.specs.Prelude.{◌≡◌, ◌≤◌, ◌*◌, ◌+◌, ◌-◌, ◌∷◌, ℕ, false, IfSome, length, drop, All};
+ghost use Rattle.std.specs.Prelude.{◌≡◌, ◌≤◌, ◌*◌, ◌+◌, ◌-◌, ◌∷◌, ℕ, false, IfSome, length, drop};
 ghost use Rattle.bundle_bounds.specs.Bounds.{over_price};
 ghost use Rattle.bundle_bounds.specs.Courses.{HasAllOfCourse, has_course, greatest, by_course};
-ghost use Rattle.bundle_bounds.specs.{Modest.IsModest, Tangents.IsTangent, Tangents.AreTangents};
+ghost use Rattle.bundle_bounds.specs.{Tangents.IsTangent, Tangents.AreTangents};
 
 use crate::prospects::{Prospect, Prospects, Rate, Resource, peak_among, peak_of};
 use crate::tangents::{Tangent, Tangents};
 
 // The first of some open places, those behind it, and so many of these from the front that all of
-// the first one's course are among them. The first and the front ones are within their ranges.
+// the first one's course are among them.
 #[derive(Clone, Copy)]
 struct Front<'p> {
     one: &'p Prospect,
     more: &'p [Prospect],
     firsts: &'p [Prospect],
-    ghost one_modest: { IsModest one.now },
-    ghost modest: { All IsModest firsts.now },
     ghost has_all: { HasAllOfCourse firsts.now more.now one.now.course },
 }
 

@@ -5,7 +5,7 @@ ghost use Rattle.market_units.specs.declared.limits.TheConstants.{MAX_COURSES};
 ghost use Rattle.bundle_rules.specs.Menus.{credits_at, adjustment_in};
 ghost use Rattle.bundle_bounds.specs.Modest.{IsModest, AreOn};
 ghost use Rattle.bundle_bounds.specs.Offers.{AreOnMenu, allowed_at, price_at};
-ghost use Rattle.bundle_bounds.specs.Opens.{is_apart, opens_from, hopes, prospect, prospects, first_of_course, above_zero};
+ghost use Rattle.bundle_bounds.specs.Opens.{is_apart, opens_from, prospects, first_of_course, above_zero};
 ghost use Rattle.bundle_bounds.specs.{Rests.AreRests, Views.data_of};
 
 use crate::Offer;
@@ -13,9 +13,7 @@ use crate::chosen::Chosen;
 use crate::places::{adjustments_with, is_apart, price_of_place};
 use crate::prospects::Prospect;
 use bundle_rules::{Menu, Rated};
-use market_units::{
-    MAX_ADJUSTMENT, MAX_COURSES, MAX_PRICE, MAX_RATING, MAX_RATINGS, MAX_SECTION_CREDITS,
-};
+use market_units::{MAX_ADJUSTMENT, MAX_COURSES, MAX_PRICE, MAX_RATINGS, MAX_SECTION_CREDITS};
 
 /// What the chosen places leave of each resource.
 #[derive(Clone, Copy)]
@@ -146,7 +144,6 @@ fn first_of_course(places: &[Rated], course: u16) -> usize
 /// The most that a place can add to the utility: its rating, its adjustments with the chosen
 /// places, and what those with later places can add; 0 where the sum is negative.
 pub(crate) fn worth_of(rating: u8, adjustments: i32, hopes: u32) -> u32
-    requires rating { rating ≤ MAX_RATING }
     requires low { neg_ℤ (pos 1600) ≤ℤ adjustments }
     requires high { adjustments ≤ℤ pos 1600 }
     requires hopes { hopes ≤ 12000 }
@@ -164,31 +161,6 @@ fn course_of(menu: &Menu, course: u16) -> u8
     first_of_course(menu.places(), course) as u8
 }
 
-// What is known of an open place, before later open ones.
-fn prospect_at(chosen: &Chosen, place: u8, later: &[Prospect]) -> Prospect
-    requires place { place < length chosen.now.offer.now.menu.now.places }
-    requires later_on_menu { AreOn chosen.now.offer.now.menu.now later.now }
-    requires later_few { length later.now ≤ MAX_RATINGS }
-    ensures value { result
-        ≡ prospect (data_of chosen.now.offer.now) chosen.now.places.now place
-        (map (λ other. other.place) later.now) }
-    ensures modest { IsModest result }
-    ensures place { result.place < length chosen.now.offer.now.menu.now.places }
-{
-    let menu = chosen.offer.menu;
-    prove!(place < menu.len());
-    let rated = menu.rated(place);
-    let adjustments = adjustments_with(menu, chosen.places, place);
-    let later_ones = hopes(menu, place, later);
-    Prospect {
-        place,
-        course: course_of(menu, rated.course),
-        worth: worth_of(rated.rating, adjustments, later_ones),
-        price: price_of_place(menu, chosen.offer.prices, place),
-        credits: rated.credits,
-    }
-}
-
 /// Writes the prospects of the open places from a place on to the end of the room, in the menu's
 /// order, and gives where they begin.
 pub(crate) fn collect(chosen: &Chosen, place: u8, room: &mut [Prospect; MAX_RATINGS]) -> usize
@@ -203,14 +175,23 @@ pub(crate) fn collect(chosen: &Chosen, place: u8, room: &mut [Prospect; MAX_RATI
     ensures modest { All IsModest (drop result room.new) }
     ensures on_menu { AreOn chosen.now.offer.now.menu.now (drop result room.new) }
 {
-    if place == chosen.offer.menu.len() {
+    let menu = chosen.offer.menu;
+    if place == menu.len() {
         return room.len();
     }
     let start = collect(chosen, place + 1, room);
     if !is_open_at(chosen, place) {
         return start;
     }
-    let prospect = prospect_at(chosen, place, &room[start..]);
-    room[start - 1] = prospect;
+    let rated = menu.rated(place);
+    let adjustments = adjustments_with(menu, chosen.places, place);
+    let later_ones = hopes(menu, place, &room[start..]);
+    room[start - 1] = Prospect {
+        place,
+        course: course_of(menu, rated.course),
+        worth: worth_of(rated.rating, adjustments, later_ones),
+        price: price_of_place(menu, chosen.offer.prices, place),
+        credits: rated.credits,
+    };
     start - 1
 }

@@ -78,12 +78,9 @@ pub(crate) struct Peak {
 /// negative; and the same at the next price.
 #[inline(always)]
 pub(crate) fn peak_of(prospect: &Prospect, rate: Rate) -> Peak
-    requires modest { IsModest prospect.now }
     ensures course { result.course ≡ prospect.now.course }
     ensures here { result.here ≡ over_price rate.resource rate.price prospect.now }
     ensures after { result.after ≡ over_price rate.resource (rate.price + 1) prospect.now }
-    ensures high { result.here ≤ 20000000 }
-    ensures after_high { result.after ≤ 20000000 }
 {
     let taken = takes(prospect, rate.resource);
     let here = (1000 * u64::from(prospect.worth)).saturating_sub(rate.price * taken);
@@ -152,11 +149,9 @@ fn add_up_twice(all: &Prospects, rate: Rate) -> (u64, u64)
 // hand. Of a new course there are none. Sections of one course mostly stand side by side.
 #[inline(always)]
 fn peak_behind(more: &[Prospect], rate: Rate, course: u8, is_new: bool, last: Peak) -> Peak
-    requires behind { All IsModest more.now }
     requires none { IsTrue is_new → has_course more.now course ≡ false }
-    requires last { IsPeak rate.resource rate.price more.now last }
-    ensures course { result.course ≡ course }
-    ensures peak { IsPeak rate.resource rate.price more.now result }
+    requires last { IsPeak rate.resource rate.price last.course more.now last }
+    ensures { IsPeak rate.resource rate.price course more.now result }
 {
     if course == last.course {
         return last;
@@ -187,9 +182,7 @@ fn higher(own: Peak, most: Peak) -> Peak
 
 /// The peak of a course among these.
 pub(crate) fn peak_among(prospects: &[Prospect], rate: Rate, course: u8) -> Peak
-    requires { All IsModest prospects.now }
-    ensures course { result.course ≡ course }
-    ensures peak { IsPeak rate.resource rate.price prospects.now result }
+    ensures { IsPeak rate.resource rate.price course prospects.now result }
 {
     let mut here = 0;
     let mut after = 0;
@@ -207,7 +200,6 @@ pub(crate) fn peak_among(prospects: &[Prospect], rate: Rate, course: u8) -> Peak
 
 // What is left over the price by a prospect of the course; nothing by one of another.
 fn peak_in(prospect: &Prospect, rate: Rate, course: u8) -> Peak
-    requires { IsModest prospect.now }
     ensures here { result.here
         ≡ (if prospect.now.course == course then over_price rate.resource rate.price prospect.now
         else 0) }

@@ -59,11 +59,11 @@ fn is_below(
 ) -> bool
     requires one_modest { IsModest prospect.now }
     requires known { IsKnown base.number limit left.rest left.resource all.now.list.now known.old }
-    requires last { IfSome last.old (IsTangent left.rest left.resource all.now.list.now) }
     ensures below { IsTrue result ↔ (((nat_lt 0 prospect.now.worth && nat_lt 0 (takes_of left.resource prospect.now)) ≡ true)
         × ((base.number +ℤ pos (at_price left.resource left.rest (1000 * prospect.now.worth / takes_of left.resource prospect.now) all.now.list.now)) <ℤ limit)) }
     ensures known { IsKnown base.number limit left.rest left.resource all.now.list.now known.new }
-    ensures last { IfSome last.new (IsTangent left.rest left.resource all.now.list.now) }
+    ensures last { IfSome last.old (IsTangent left.rest left.resource all.now.list.now)
+        → IfSome last.new (IsTangent left.rest left.resource all.now.list.now) }
 {
     let taken = takes(prospect, left.resource);
     let worth = 1000 * u64::from(prospect.worth);
@@ -158,7 +158,7 @@ fn first_of_resource(
 
 /// Whether the plain bound, which is so much above the base, is below the limit.
 pub(crate) fn is_plain_below(base: Base, limit: i64, plain: u64) -> bool
-    requires plain_high { plain ≤ 1200000000 }
+    requires { plain ≤ 1200000000 }
     ensures { IsTrue result ↔ ((base.number +ℤ pos plain) <ℤ limit) }
 {
     let least = base.number + plain as i64;
@@ -178,7 +178,6 @@ pub(crate) fn first_with(
     tangents: &mut Tangents,
 ) -> Option<Leaf>
     requires plain { plain ≡ by_course (λ p. 1000 * p.worth) all.now.list.now }
-    requires plain_high { plain ≤ 1200000000 }
     requires tangents { AreTangents rests.budget rests.credits rests.courses all.now.list.now
         tangents.old }
     ensures first { IfSome result

@@ -1,9 +1,9 @@
 // The open places that stay open beside one more chosen place.
-ghost use Rattle.std.specs.Prelude.{◌≡◌, ◌<◌, ◌≤◌, ◌+◌, ◌-◌, ◌++◌, ◌∷◌, [], ℕ, List, not, nat_le, ◌&&◌, true, length, drop, All};
+ghost use Rattle.std.specs.Prelude.{◌≡◌, ◌<◌, ◌≤◌, ◌-◌, ◌++◌, ◌∷◌, [], ℕ, List, not, nat_le, ◌&&◌, true, length, drop, All};
 ghost use Rattle.std.specs.List.{AllByRecursion};
 ghost use Rattle.bundle_rules.specs.Menus.{clash_in};
 ghost use Rattle.bundle_bounds.specs.Modest.{IsModest, AreOn};
-ghost use Rattle.bundle_bounds.specs.Opens.{is_open, open_among, prospect, prospects};
+ghost use Rattle.bundle_bounds.specs.Opens.{is_open, open_among, prospects};
 ghost use Rattle.bundle_bounds.specs.Views.{data_of};
 
 use crate::chosen::Chosen;
@@ -53,51 +53,6 @@ fn stays_open(wider: &Widened, one: &Prospect) -> bool
     u32::from(one.credits) <= rests.credits && !menu.clash(one.place, wider.last)
 }
 
-// Writes an open place before those that begin here in the room, where it stays open, and gives
-// where they begin then.
-#[inline(always)]
-fn put_open(
-    wider: &Widened,
-    one: &Prospect,
-    start: usize,
-    room: &mut [Prospect; MAX_RATINGS],
-) -> usize
-    requires modest { IsModest one.now }
-    requires one_on_menu { one.now.place < length wider.now.chosen.offer.now.menu.now.places }
-    requires some { 1 ≤ start }
-    requires within { start ≤ MAX_RATINGS }
-    requires later_modest { All IsModest (drop start room.old) }
-    requires later_on_menu { AreOn wider.now.chosen.offer.now.menu.now (drop start room.old) }
-    ensures value { (before others later : List ℕ)
-        → wider.now.chosen.places.now ≡ before ++ wider.now.last ∷ []
-        → is_open (data_of wider.now.chosen.offer.now) before one.now.place ≡ true
-        → one.now ≡ prospect (data_of wider.now.chosen.offer.now) before one.now.place others
-        → drop start room.old
-        ≡ open_among (data_of wider.now.chosen.offer.now) wider.now.chosen.places.now later
-        → drop result room.new
-        ≡ open_among (data_of wider.now.chosen.offer.now) wider.now.chosen.places.now
-        (one.now.place ∷ later) }
-    ensures low { start ≤ result + 1 }
-    ensures high { result ≤ start }
-    ensures modest { All IsModest (drop result room.new) }
-    ensures on_menu { AreOn wider.now.chosen.offer.now.menu.now (drop result room.new) }
-{
-    if !stays_open(wider, one) {
-        return start;
-    }
-    let menu = wider.chosen.offer.menu;
-    let adjustments = adjustments_with(menu, wider.chosen.places, one.place);
-    let later_ones = hopes(menu, one.place, &room[start..]);
-    room[start - 1] = Prospect {
-        place: one.place,
-        course: one.course,
-        worth: worth_of(menu.rated(one.place).rating, adjustments, later_ones),
-        price: one.price,
-        credits: one.credits,
-    };
-    start - 1
-}
-
 /// Writes the prospects of those open places that stay open beside the last chosen one to the end
 /// of the room, and gives where they begin.
 pub(crate) fn sift(wider: &Widened, all: &Prospects, room: &mut [Prospect; MAX_RATINGS]) -> usize
@@ -113,10 +68,24 @@ pub(crate) fn sift(wider: &Widened, all: &Prospects, room: &mut [Prospect; MAX_R
     ensures modest { All IsModest (drop result room.new) }
     ensures on_menu { AreOn wider.now.chosen.offer.now.menu.now (drop result room.new) }
 {
+    let menu = wider.chosen.offer.menu;
     let list = all.list;
     let mut start = room.len();
     for index in (0..list.len()).rev() {
-        start = put_open(wider, &list[index], start, room);
+        let one = &list[index];
+        if !stays_open(wider, one) {
+            continue;
+        }
+        let adjustments = adjustments_with(menu, wider.chosen.places, one.place);
+        let later_ones = hopes(menu, one.place, &room[start..]);
+        room[start - 1] = Prospect {
+            place: one.place,
+            course: one.course,
+            worth: worth_of(menu.rated(one.place).rating, adjustments, later_ones),
+            price: one.price,
+            credits: one.credits,
+        };
+        start -= 1;
     }
     start
 }

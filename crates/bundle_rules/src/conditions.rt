@@ -1,5 +1,6 @@
 // What a menu may be built of.
 ghost use Rattle.std.specs.Prelude.{◌≡◌, ◌≢◌, ◌↔◌, ◌<◌, ◌≤◌, IsTrue, All, length, map};
+ghost use Rattle.market_units.specs.declared.limits.TheConstants.{MAX_RATINGS};
 ghost use Rattle.bundle_rules.specs.Menus.{clash_in, IsRated, ArePlaces, IsPair, AreDifferent, ArePairs, ClashesWell, AreClashes};
 ghost use Rattle.bundle_rules.specs.{Rows.RowIsSound, Sets.IsAscending};
 
@@ -96,43 +97,55 @@ pub(crate) fn are_clashes(places: &[Rated], clashes: &[u64]) -> bool
     if clashes.len() != places.len() {
         return false;
     }
-    for a in 0..places.len() {
-        if !row_is_sound(places, clashes, a) {
+    for place in 0..places.len() {
+        let row = Row {
+            places,
+            clashes,
+            place,
+        };
+        if !row_is_sound(&row) {
             return false;
         }
     }
     true
 }
 
-fn row_is_sound(places: &[Rated], clashes: &[u64], a: usize) -> bool
-    requires few { length places.now ≤ MAX_RATINGS }
-    requires words { length clashes.now ≡ length places.now }
-    requires on_menu { a < length places.now }
-    ensures { IsTrue result ↔ RowIsSound places.now clashes.now a }
+// One of at most 60 places, with the word of each.
+#[derive(Clone, Copy)]
+struct Row<'r> {
+    places: &'r [Rated],
+    clashes: &'r [u64],
+    place: usize,
+    ghost few: { length places.now ≤ MAX_RATINGS },
+    ghost words: { length clashes.now ≡ length places.now },
+    ghost on_menu: { place < length places.now },
+}
+
+fn row_is_sound(row: &Row) -> bool
+    ensures { IsTrue result ↔ RowIsSound row.now.places.now row.now.clashes.now row.now.place }
 {
-    for b in 0..places.len() {
-        if !clashes_well(places, clashes, a, b) {
+    for other in 0..row.places.len() {
+        if !clashes_well(row, other) {
             return false;
         }
     }
-    !has_bit(clashes, a, a)
+    !has_bit(row.clashes, row.place, row.place)
 }
 
-fn clashes_well(places: &[Rated], clashes: &[u64], a: usize, b: usize) -> bool
-    requires few { length places.now ≤ MAX_RATINGS }
-    requires words { length clashes.now ≡ length places.now }
-    requires first { a < length places.now }
-    requires second { b < length places.now }
-    ensures { IsTrue result ↔ ClashesWell places.now clashes.now a b }
+fn clashes_well(row: &Row, other: usize) -> bool
+    requires { other < length row.now.places.now }
+    ensures { IsTrue result
+        ↔ ClashesWell row.now.places.now row.now.clashes.now row.now.place other }
 {
-    let clash = has_bit(clashes, a, b);
-    if clash != has_bit(clashes, b, a) {
+    let place = row.place;
+    let clash = has_bit(row.clashes, place, other);
+    if clash != has_bit(row.clashes, other, place) {
         return false;
     }
-    if clash || a == b {
+    if clash || place == other {
         return true;
     }
-    places[a].course != places[b].course
+    row.places[place].course != row.places[other].course
 }
 
 fn has_bit(clashes: &[u64], a: usize, b: usize) -> bool

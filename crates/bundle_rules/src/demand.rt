@@ -4,11 +4,16 @@ ghost use Rattle.std.specs.FinSet as set;
 ghost use Rattle.market_units.specs.Totals.{total};
 ghost use Rattle.bundle_rules.specs.Bundles.{sections_of};
 ghost use Rattle.bundle_rules.specs.Demand.{price_in, IsPriced, ArePriced, HasPrices, IsChoice, IsBest};
-ghost use Rattle.bundle_rules.specs.{Extensions.IsBestExtension, Menus.wishes_of, Menus.IsMenu};
+ghost use Rattle.bundle_rules.specs.{Extensions.IsBestExtension, Menus.wishes_of};
 ghost use Rattle.bundle_rules.specs.{Ordinals.ordinals, Sets.IsAscending, Wishes.IsFeasible};
 
 use crate::{Bundle, Menu, Rated, feasible, prefers};
-use market_units::{MAX_COURSES, MAX_PRICE, MAX_SECTIONS, SectionNo, SectionSet, Tokens};
+use market_units::{
+    MAX_COURSES, MAX_PRICE, MAX_RATINGS, MAX_SECTIONS, SectionNo, SectionSet, Tokens,
+};
+
+// At most this many places are on a menu.
+const PLACES: u8 = MAX_RATINGS as u8;
 
 /// Whether there is a price for each section of the menu, each at most 1,000,001: what `best_plain`
 /// needs.
@@ -44,45 +49,46 @@ pub fn best_plain(menu: &Menu, prices: &[Tokens], budget: Tokens, allowed: &Sect
     ensures { IsBest (wishes_of menu.now) (price_in prices.now) budget.0 (set.contains allowed.now)
         (sections_of result) }
 {
-    best_from(
+    let terms = Terms {
         menu,
         prices,
         budget,
         allowed,
-        menu.places(),
-        Bundle::empty(),
-    )
+    };
+    best_from(&terms, menu.places(), Bundle::empty())
+}
+
+// A menu at given prices, with a budget and the sections that may be taken.
+#[derive(Clone, Copy)]
+struct Terms<'t> {
+    menu: &'t Menu,
+    prices: &'t [Tokens],
+    budget: Tokens,
+    allowed: &'t SectionSet,
+    ghost priced: { HasPrices menu.now prices.now },
 }
 
 // The best of the choices that are these sections and some of the later ones.
-fn best_from(
-    menu: &Menu,
-    prices: &[Tokens],
-    budget: Tokens,
-    allowed: &SectionSet,
-    later: &[Rated],
-    chosen: Bundle,
-) -> Bundle
-    requires menu { IsMenu menu.now }
-    requires prices { HasPrices menu.now prices.now }
-    requires chosen { IsChoice (wishes_of menu.now) (price_in prices.now) budget.0
-        (set.contains allowed.now) (sections_of chosen) }
+fn best_from(terms: &Terms, later: &[Rated], chosen: Bundle) -> Bundle
+    requires chosen { IsChoice (wishes_of terms.now.menu.now) (price_in terms.now.prices.now)
+        terms.now.budget.0 (set.contains terms.now.allowed.now) (sections_of chosen) }
     requires later { IsAscending (sections_of chosen ++ map (λ rated. rated.section.0) later.now) }
-    ensures { IsBestExtension (wishes_of menu.now) (price_in prices.now) budget.0
-        (set.contains allowed.now) (sections_of chosen) (map (λ rated. rated.section.0) later.now)
-        (sections_of result) }
+    ensures { IsBestExtension (wishes_of terms.now.menu.now) (price_in terms.now.prices.now)
+        terms.now.budget.0 (set.contains terms.now.allowed.now) (sections_of chosen)
+        (map (λ rated. rated.section.0) later.now) (sections_of result) }
 {
-    if chosen.sections().len() >= usize::from(menu.courses()) {
+    prove!(terms.menu.len() <= PLACES);
+    if chosen.sections().len() >= usize::from(terms.menu.courses()) {
         return chosen;
     }
     match later {
         [] => chosen,
         [rated, more @ ..] => {
-            let without = best_from(menu, prices, budget, allowed, more, chosen);
-            match extended(menu, prices, budget, allowed, chosen, rated.section) {
+            let without = best_from(terms, more, chosen);
+            match extended(terms, chosen, rated.section) {
                 Some(wider) => {
-                    let with_it = best_from(menu, prices, budget, allowed, more, wider);
-                    if prefers(menu, &with_it, &without) {
+                    let with_it = best_from(terms, more, wider);
+                    if prefers(terms.menu, &with_it, &without) {
                         with_it
                     } else {
                         without
@@ -95,29 +101,21 @@ fn best_from(
 }
 
 // The bundle with one more section, where that is a choice.
-fn extended(
-    menu: &Menu,
-    prices: &[Tokens],
-    budget: Tokens,
-    allowed: &SectionSet,
-    chosen: Bundle,
-    section: SectionNo,
-) -> Option<Bundle>
-    requires menu { IsMenu menu.now }
-    requires prices { HasPrices menu.now prices.now }
+fn extended(terms: &Terms, chosen: Bundle, section: SectionNo) -> Option<Bundle>
     requires room { length (sections_of chosen) < MAX_COURSES }
     requires above { IsAscending (sections_of chosen ++ section.0 ∷ []) }
     ensures value { IfSome result
         (λ wider. sections_of wider ≡ sections_of chosen ++ section.0 ∷ []) }
     ensures choice { IfSome result
-        (λ wider. IsChoice (wishes_of menu.now) (price_in prices.now) budget.0
-        (set.contains allowed.now) (sections_of wider)) }
+        (λ wider. IsChoice (wishes_of terms.now.menu.now) (price_in terms.now.prices.now)
+        terms.now.budget.0 (set.contains terms.now.allowed.now) (sections_of wider)) }
     ensures none { IfNone result
-        (¬ IsChoice (wishes_of menu.now) (price_in prices.now) budget.0 (set.contains allowed.now)
+        (¬ IsChoice (wishes_of terms.now.menu.now) (price_in terms.now.prices.now)
+        terms.now.budget.0 (set.contains terms.now.allowed.now)
         (sections_of chosen ++ section.0 ∷ [])) }
 {
     let wider = chosen.with(section);
-    if is_choice(menu, prices, budget, allowed, &wider) {
+    if is_choice(terms, &wider) {
         Some(wider)
     } else {
         None
@@ -125,26 +123,19 @@ fn extended(
 }
 
 // Whether a bundle is feasible, within the budget and allowed.
-fn is_choice(
-    menu: &Menu,
-    prices: &[Tokens],
-    budget: Tokens,
-    allowed: &SectionSet,
-    bundle: &Bundle,
-) -> bool
-    requires menu { IsMenu menu.now }
-    requires prices { HasPrices menu.now prices.now }
+fn is_choice(terms: &Terms, bundle: &Bundle) -> bool
     ensures { IsTrue result
-        ↔ IsChoice (wishes_of menu.now) (price_in prices.now) budget.0 (set.contains allowed.now)
-        (sections_of bundle.now) }
+        ↔ IsChoice (wishes_of terms.now.menu.now) (price_in terms.now.prices.now)
+        terms.now.budget.0 (set.contains terms.now.allowed.now) (sections_of bundle.now) }
 {
-    if !feasible(menu, bundle) {
+    prove!(terms.menu.len() <= PLACES);
+    if !feasible(terms.menu, bundle) {
         return false;
     }
-    if price_of(prices, bundle.sections()) > budget.0 {
+    if price_of(terms.prices, bundle.sections()) > terms.budget.0 {
         return false;
     }
-    all_allowed(allowed, bundle.sections())
+    all_allowed(terms.allowed, bundle.sections())
 }
 
 /// What these sections cost together, in tokens. There is a price for each, at most 1,000,001, and

@@ -9,6 +9,7 @@ mod conditions;
 mod demand;
 pub mod laws;
 mod menu;
+mod picks;
 mod place_list;
 mod preferences;
 

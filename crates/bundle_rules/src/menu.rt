@@ -1,5 +1,6 @@
 // What one student may choose from.
 ghost use Rattle.std.specs.Prelude.{◌≡◌, ◌<◌, ◌≤◌, ◌*◌, ◌+◌, ◌≤ℤ◌, neg_ℤ, ℕ, [], Some, IsTrue, length, IfOk, All, slice_get};
+ghost use Rattle.market_units.specs.declared.limits.TheConstants.{MAX_RATINGS};
 ghost use Rattle.bundle_rules.specs.Kept.{IsTable};
 ghost use Rattle.bundle_rules.specs.Menus.{adjustment_in, clash_in, place_in, IsRated, IsPair, ArePlaces, ArePairs, AreClashes, AreCaps, IsMenu};
 
@@ -107,7 +108,13 @@ impl Menu {
               courses = courses;
             }) }
     {
-        let adjustments = adjustment_table(alloc, places.len(), pairs)?;
+        let adjustments = adjustment_table(
+            alloc,
+            &Pairs {
+                places: places.len(),
+                list: pairs,
+            },
+        )?;
         Ok(Menu {
             places: places.to_vec(alloc)?,
             pairs: pairs.to_vec(alloc)?,
@@ -217,33 +224,36 @@ pub fn place_among(places: &[Rated], section: SectionNo) -> usize
     }
 }
 
-// The adjustment of each two places, row by row.
-fn adjustment_table(
-    alloc: Global,
+// Pairs of so many places, at most 60, with their adjustments.
+#[derive(Clone, Copy)]
+struct Pairs<'p> {
     places: usize,
-    pairs: &[(u8, u8, i16)],
-) -> Result<Vec<i16>, NoMemory>
-    requires few { places ≤ MAX_RATINGS }
-    requires pairs { All (IsPair places) pairs.now }
-    ensures { IfOk result (λ table. IsTable places pairs.now table.items) }
+    list: &'p [(u8, u8, i16)],
+    ghost few: { places ≤ MAX_RATINGS },
+    ghost each: { All (IsPair places) list.now },
+}
+
+// The adjustment of each two places, row by row.
+fn adjustment_table(alloc: Global, pairs: &Pairs) -> Result<Vec<i16>, NoMemory>
+    ensures { IfOk result
+        (λ table. IsTable pairs.now.places pairs.now.list.now table.items) }
 {
-    let mut table = vec![in alloc; 0i16; places * places]?;
-    fill(&mut table, places, pairs);
+    let mut table = vec![in alloc; 0i16; pairs.places * pairs.places]?;
+    fill(&mut table, pairs);
     Ok(table)
 }
 
 // Writes the adjustments of the pairs into a table of zeros, the last pair first.
-fn fill(table: &mut [i16], places: usize, pairs: &[(u8, u8, i16)])
-    requires size { length table.old ≡ places * places }
-    requires zeros { IsTable places [] table.old }
-    requires few { places ≤ MAX_RATINGS }
-    requires pairs { All (IsPair places) pairs.now }
-    ensures { IsTable places pairs.now table.new }
+fn fill(table: &mut [i16], pairs: &Pairs)
+    requires size { length table.old ≡ pairs.now.places * pairs.now.places }
+    requires zeros { IsTable pairs.now.places [] table.old }
+    ensures { IsTable pairs.now.places pairs.now.list.now table.new }
 {
-    match pairs {
+    let places = pairs.places;
+    match pairs.list {
         [] => {}
         [(a, b, by), more @ ..] => {
-            fill(table, places, more);
+            fill(table, &Pairs { places, list: more });
             table[usize::from(*a) * places + usize::from(*b)] = *by;
             table[usize::from(*b) * places + usize::from(*a)] = *by;
         }

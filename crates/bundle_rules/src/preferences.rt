@@ -1,14 +1,15 @@
 // Which bundles a student may take, and which of two the student prefers.
-ghost use Rattle.std.specs.Prelude.{◌≡◌, ◌↔◌, ◌<◌, ◌≤◌, ◌*◌, ◌*ℤ◌, ℕ, pos, neg_ℤ, ◌≤ℤ◌, IsTrue, length, map, take, All};
+ghost use Rattle.std.specs.Prelude.{◌≡◌, ◌↔◌, ◌<◌, ◌≤◌, ◌*◌, ◌*ℤ◌, pos, neg_ℤ, ◌≤ℤ◌, IsTrue, length, All};
 ghost use Rattle.market_units.specs.Totals.{total};
 ghost use Rattle.bundle_rules.specs.Apart.{ClashesWithNone, AreApart, IsWithinCaps, MayTake};
 ghost use Rattle.bundle_rules.specs.Bundles.{sections_of};
-ghost use Rattle.bundle_rules.specs.Menus.{by_place, wishes_of, place_in, IsMenu};
+ghost use Rattle.bundle_rules.specs.Menus.{by_place, wishes_of};
 ghost use Rattle.bundle_rules.specs.{Preferences.IsPreferred, Sets.DiffersFirstIn};
 ghost use Rattle.bundle_rules.specs.Wishes.{AllRated, IsFeasible, utility, adjustments};
 
+use crate::picks::Picks;
 use crate::{Bundle, Menu, Places, is_ahead};
-use market_units::{MAX_ADJUSTMENT, MAX_COURSES, MAX_SECTION_CREDITS};
+use market_units::{MAX_ADJUSTMENT, MAX_SECTION_CREDITS};
 
 /// The sum of the bundle's ratings and of the adjustments of its unordered pairs. All its sections
 /// are on the menu.
@@ -16,7 +17,9 @@ pub fn utility(menu: &Menu, bundle: &Bundle) -> i32
     requires { AllRated (wishes_of menu.now) (sections_of bundle.now) }
     ensures { result ≡ utility (wishes_of menu.now) (sections_of bundle.now) }
 {
-    utility_of(menu, Places::of(menu, bundle).as_slice())
+    let places = Places::of(menu, bundle);
+    let places = places.as_slice();
+    utility_of(&Picks { menu, places })
 }
 
 /// Whether the student may take the bundle: each section is rated, no two clash, and both caps
@@ -25,7 +28,11 @@ pub fn feasible(menu: &Menu, bundle: &Bundle) -> bool
     ensures { IsTrue result ↔ IsFeasible (wishes_of menu.now) (sections_of bundle.now) }
 {
     let places = Places::of(menu, bundle);
-    may_take(menu, places.as_slice())
+    let places = places.as_slice();
+    if !are_below(places, menu.len()) {
+        return false;
+    }
+    may_take(&Picks { menu, places })
 }
 
 /// Whether the first of two feasible bundles is preferred to the second: it has the greater
@@ -57,94 +64,99 @@ fn comes_first(menu: &Menu, a: &Bundle, b: &Bundle) -> bool
     is_ahead(menu.len(), first.as_slice(), second.as_slice())
 }
 
-// Whether the places are on the menu, no two clash, and both caps hold.
-fn may_take(menu: &Menu, places: &[u8]) -> bool
-    requires { length places.now ≤ MAX_COURSES }
-    ensures answer { IsTrue result ↔ MayTake menu.now places.now }
-    ensures menu { IsMenu menu.now }
+// Whether each of the places is among so many.
+fn are_below(places: &[u8], count: u8) -> bool
+    ensures { IsTrue result ↔ All (λ place. place < count) places.now }
 {
-    on_menu(menu, places) && within_caps(menu, places) && apart(menu, places)
-}
-
-fn within_caps(menu: &Menu, places: &[u8]) -> bool
-    requires on_menu { All (λ place. place < length menu.now.places) places.now }
-    requires few { length places.now ≤ MAX_COURSES }
-    ensures { IsTrue result ↔ IsWithinCaps (by_place menu.now) places.now }
-{
-    places.len() <= usize::from(menu.courses())
-        && credits_of(menu, places) <= u32::from(menu.credits())
-}
-
-fn on_menu(menu: &Menu, places: &[u8]) -> bool
-    ensures answer { IsTrue result ↔ All (λ place. place < length menu.now.places) places.now }
-    ensures menu { IsMenu menu.now }
-{
-    let count = menu.len();
     places.iter().all(|place| *place < count)
 }
 
-fn utility_of(menu: &Menu, places: &[u8]) -> i32
-    requires on_menu { All (λ place. place < length menu.now.places) places.now }
-    requires few { length places.now ≤ MAX_COURSES }
-    ensures value { result ≡ utility (by_place menu.now) places.now }
-    ensures low { neg_ℤ (pos (1700 * length places.now)) ≤ℤ result }
-    ensures high { result ≤ℤ pos (1700 * length places.now) }
+// Whether no two of the places clash, and both caps hold.
+fn may_take(picks: &Picks) -> bool
+    ensures { IsTrue result ↔ MayTake picks.now.menu.now picks.now.places.now }
 {
-    match places {
+    within_caps(picks) && apart(picks)
+}
+
+fn within_caps(picks: &Picks) -> bool
+    ensures { IsTrue result ↔ IsWithinCaps (by_place picks.now.menu.now) picks.now.places.now }
+{
+    let menu = picks.menu;
+    picks.places.len() <= usize::from(menu.courses())
+        && credits_of(picks) <= u32::from(menu.credits())
+}
+
+fn utility_of(picks: &Picks) -> i32
+    ensures value { result ≡ utility (by_place picks.now.menu.now) picks.now.places.now }
+    ensures low { neg_ℤ (pos (1700 * length picks.now.places.now)) ≤ℤ result }
+    ensures high { result ≤ℤ pos (1700 * length picks.now.places.now) }
+{
+    let menu = picks.menu;
+    match picks.places {
         [] => 0,
         [place, more @ ..] => {
+            let later = Picks { menu, places: more };
             i32::from(menu.rated(*place).rating)
-                + adjustments_of(menu, *place, more)
-                + utility_of(menu, more)
+                + adjustments_of(*place, &later)
+                + utility_of(&later)
         }
     }
 }
 
-fn adjustments_of(menu: &Menu, place: u8, others: &[u8]) -> i32
-    requires place { place < length menu.now.places }
-    requires on_menu { All (λ place. place < length menu.now.places) others.now }
-    requires few { length others.now ≤ MAX_COURSES }
-    ensures value { result ≡ adjustments (by_place menu.now) place others.now }
-    ensures low { neg_ℤ (MAX_ADJUSTMENT *ℤ pos (length others.now)) ≤ℤ result }
-    ensures high { result ≤ℤ (MAX_ADJUSTMENT *ℤ pos (length others.now)) }
+fn adjustments_of(place: u8, others: &Picks) -> i32
+    requires { place < length others.now.menu.now.places }
+    ensures value { result ≡ adjustments (by_place others.now.menu.now) place others.now.places.now }
+    ensures low { neg_ℤ (MAX_ADJUSTMENT *ℤ pos (length others.now.places.now)) ≤ℤ result }
+    ensures high { result ≤ℤ (MAX_ADJUSTMENT *ℤ pos (length others.now.places.now)) }
 {
-    match others {
+    let menu = others.menu;
+    match others.places {
         [] => 0,
         [other, more @ ..] => {
-            i32::from(menu.adjustment(place, *other)) + adjustments_of(menu, place, more)
+            let later = Picks { menu, places: more };
+            i32::from(menu.adjustment(place, *other)) + adjustments_of(place, &later)
         }
     }
 }
 
-fn apart(menu: &Menu, places: &[u8]) -> bool
-    requires { All (λ place. place < length menu.now.places) places.now }
-    ensures { IsTrue result ↔ AreApart (by_place menu.now) places.now }
+fn apart(picks: &Picks) -> bool
+    ensures { IsTrue result ↔ AreApart (by_place picks.now.menu.now) picks.now.places.now }
 {
-    match places {
+    let menu = picks.menu;
+    match picks.places {
         [] => true,
-        [place, more @ ..] => clashes_with_none(menu, *place, more) && apart(menu, more),
+        [place, more @ ..] => {
+            let later = Picks { menu, places: more };
+            clashes_with_none(*place, &later) && apart(&later)
+        }
     }
 }
 
-fn clashes_with_none(menu: &Menu, place: u8, others: &[u8]) -> bool
-    requires place { place < length menu.now.places }
-    requires others { All (λ place. place < length menu.now.places) others.now }
-    ensures { IsTrue result ↔ ClashesWithNone (by_place menu.now) place others.now }
+fn clashes_with_none(place: u8, others: &Picks) -> bool
+    requires { place < length others.now.menu.now.places }
+    ensures { IsTrue result
+        ↔ ClashesWithNone (by_place others.now.menu.now) place others.now.places.now }
 {
-    match others {
+    let menu = others.menu;
+    match others.places {
         [] => true,
-        [other, more @ ..] => !menu.clash(place, *other) && clashes_with_none(menu, place, more),
+        [other, more @ ..] => {
+            let later = Picks { menu, places: more };
+            !menu.clash(place, *other) && clashes_with_none(place, &later)
+        }
     }
 }
 
-fn credits_of(menu: &Menu, places: &[u8]) -> u32
-    requires on_menu { All (λ place. place < length menu.now.places) places.now }
-    requires few { length places.now ≤ MAX_COURSES }
-    ensures value { result ≡ total (by_place menu.now).credits places.now }
-    ensures high { result ≤ MAX_SECTION_CREDITS * length places.now }
+fn credits_of(picks: &Picks) -> u32
+    ensures value { result ≡ total (by_place picks.now.menu.now).credits picks.now.places.now }
+    ensures high { result ≤ MAX_SECTION_CREDITS * length picks.now.places.now }
 {
-    match places {
+    let menu = picks.menu;
+    match picks.places {
         [] => 0,
-        [place, more @ ..] => u32::from(menu.rated(*place).credits) + credits_of(menu, more),
+        [place, more @ ..] => {
+            let later = Picks { menu, places: more };
+            u32::from(menu.rated(*place).credits) + credits_of(&later)
+        }
     }
 }

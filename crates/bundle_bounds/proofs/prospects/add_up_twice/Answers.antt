@@ -9,7 +9,7 @@ use Rattle.bundle_bounds.specs.Bounds.{over_price}
 use Rattle.bundle_bounds.specs.Peaks.{IsPeak}
 use Rattle.bundle_bounds.proofs.Outlook.{rest_whole}
 use Rattle.bundle_bounds.proofs.Steps.{no_prospect}
-use Rattle.bundle_bounds.proofs.Adding.{added_front, courses_more, peak_front}
+use Rattle.bundle_bounds.proofs.Adding.{added_front, courses_more, peak_front, peak_low}
 use Rattle.bundle_bounds.proofs.prospects.add_up_twice.Goals as goal
 
 pub loop-index-init : goal.loop-index-init
@@ -18,6 +18,7 @@ loop-index-init c =
     record {
       there = λ course. ap (λ n. n == 1) (bit_at-zero course) ∙ sym (ap (λ ps. has_course ps course) none);
       peak = record {
+        course_is = refl;
         here_is = sym (ap (greatest (over_price c.args.rate.resource c.args.rate.price) 0) none);
         after_is = sym (ap (greatest (over_price c.args.rate.resource (c.args.rate.price + 1)) 0) none);
       };
@@ -40,8 +41,29 @@ pub peak_behind-most-requires-clause-last : goal.peak_behind-most-requires-claus
 peak_behind-most-requires-clause-last c =
     let ps = c.args.all.now.list.now in
     let next : c.loop-index.index ≡ (c.loop-index.index - 1) + 1 = omega arith in
-    subst (λ l. IsPeak c.args.rate.resource c.args.rate.price l c.loop-index.last) (sym (rest_whole ps ((c.loop-index.index - 1) + 1)))
-    (subst (λ n. IsPeak c.args.rate.resource c.args.rate.price (drop n ps) c.loop-index.last) next c.loop-index.invariant.peak)
+    let last = c.loop-index.last in
+    subst (λ l. IsPeak c.args.rate.resource c.args.rate.price last.course l last) (sym (rest_whole ps ((c.loop-index.index - 1) + 1)))
+    (subst (λ n. IsPeak c.args.rate.resource c.args.rate.price last.course (drop n ps) last) next c.loop-index.invariant.peak)
+
+pub overflow_add-sum : goal.overflow_add-sum
+overflow_add-sum c =
+    let ps = c.args.all.now.list.now in
+    let low : c.loop-index.index - 1 < length c.args.all.now.list.now = omega arith in
+    let small : c.loop-index.sum ≤ 20000000 * (length c.args.all.now.list.now - c.loop-index.index) = c.loop-index.invariant.small in
+    let more =
+    peak_low c.args.rate.resource c.args.rate.price (get_or ps (c.loop-index.index - 1) no_prospect) c.peak_of-own.result.here
+    (c.args.all.now.modest (c.loop-index.index - 1) no_prospect low) c.peak_of-own.ensures.here in
+    omega (arith, c.saturating_sub-sum.ensures, c.args.all.now.few, more)
+
+pub overflow_add-next : goal.overflow_add-next
+overflow_add-next c =
+    let ps = c.args.all.now.list.now in
+    let low : c.loop-index.index - 1 < length c.args.all.now.list.now = omega arith in
+    let small : c.loop-index.next ≤ 20000000 * (length c.args.all.now.list.now - c.loop-index.index) = c.loop-index.invariant.next_small in
+    let more =
+    peak_low c.args.rate.resource (c.args.rate.price + 1) (get_or ps (c.loop-index.index - 1) no_prospect) c.peak_of-own.result.after
+    (c.args.all.now.modest (c.loop-index.index - 1) no_prospect low) c.peak_of-own.ensures.after in
+    omega (arith, c.saturating_sub-next.ensures, c.args.all.now.few, more)
 
 pub loop-index-preserved : goal.loop-index-preserved
 loop-index-preserved c =
@@ -56,12 +78,13 @@ loop-index-preserved c =
     let most = c.peak_behind-most.result in
     let own = c.peak_of-own.result in
     let most_is = c.peak_behind-most.ensures in
-    let here : most.here ≡ greatest f course (drop ((c.loop-index.index - 1) + 1) ps) =
-    most_is.peak.here_is ∙ (λ j. greatest f (most_is.course j) (whole j)) in
-    let after : most.after ≡ greatest g course (drop ((c.loop-index.index - 1) + 1) ps) =
-    most_is.peak.after_is ∙ (λ j. greatest g (most_is.course j) (whole j)) in
-    let more : own.here ≤ 20000000 = c.peak_of-own.ensures.high in
-    let more' : own.after ≤ 20000000 = c.peak_of-own.ensures.after_high in
+    let here : most.here ≡ greatest f course (drop ((c.loop-index.index - 1) + 1) ps) = most_is.here_is ∙ ap (greatest f course) whole in
+    let after : most.after ≡ greatest g course (drop ((c.loop-index.index - 1) + 1) ps) = most_is.after_is ∙ ap (greatest g course) whole in
+    let modest = c.args.all.now.modest (c.loop-index.index - 1) no_prospect low in
+    let more : own.here ≤ 20000000 =
+    peak_low c.args.rate.resource c.args.rate.price (get_or ps (c.loop-index.index - 1) no_prospect) own.here modest c.peak_of-own.ensures.here in
+    let more' : own.after ≤ 20000000 =
+    peak_low c.args.rate.resource (c.args.rate.price + 1) (get_or ps (c.loop-index.index - 1) no_prospect) own.after modest c.peak_of-own.ensures.after in
     let less : c.saturating_sub-sum.result ≡ own.here - most.here = c.saturating_sub-sum.ensures in
     let less' : c.saturating_sub-next.result ≡ own.after - most.after = c.saturating_sub-next.ensures in
     let so_far' : c.loop-index.next ≤ 20000000 * (length c.args.all.now.list.now - c.loop-index.index) = is.next_small in
@@ -73,6 +96,7 @@ loop-index-preserved c =
           c.with-courses.ensures.same c.with-courses.ensures.others
           (subst (λ n. (other : ℕ) → (bit_at c.loop-index.courses other == 1) ≡ has_course (drop n ps) other) next is.there);
       peak = record {
+        course_is = refl;
         here_is =
             peak_front f ps (c.loop-index.index - 1) own.here most.here c.higher-last.result.here no_prospect low c.peak_of-own.ensures.here here
             c.higher-last.ensures.here

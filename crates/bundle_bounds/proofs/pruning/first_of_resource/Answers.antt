@@ -18,12 +18,15 @@ returns-then-is_below-clause-first c =
     (first_at c.args.base.number c.args.limit c.args.left.rest c.args.left.resource c.args.all.now.list.now c.args.all.now.list.now c.loop-prospect.prospect-index no_prospect
     c.loop-prospect-test.true (rw l at c.loop-prospect.invariant.none_is) ((rw l at c.is_below.ensures.below).0 c.if-is_below.true))
 
+pub returns-then-is_below-clause-last : goal.returns-then-is_below-clause-last
+returns-then-is_below-clause-last c = c.is_below.ensures.last c.loop-prospect.invariant.last_is
+
 pub loop-prospect-preserved : goal.loop-prospect-preserved
 loop-prospect-preserved c =
     let l : to_z w64 (of_z w64 c.args.limit) ≡ c.args.limit = omega (arith, ints) in
     rw l (record {
       known_is = rw l at c.is_below.ensures.known;
-      last_is = c.is_below.ensures.last;
+      last_is = c.is_below.ensures.last c.loop-prospect.invariant.last_is;
       none_is =
           none_more c.args.base.number c.args.limit c.args.left.rest c.args.left.resource c.args.all.now.list.now c.args.all.now.list.now c.loop-prospect.prospect-index no_prospect
           c.loop-prospect-test.true (rw l at c.loop-prospect.invariant.none_is)

@@ -1,9 +1,10 @@
-use Rattle.std.proofs.Common.{ℕ, ◌≡◌, ◌∙◌, ◌*◌, Bool, true, false, true≢false, to_z, of_z, w64, sym, subst, arith, inr, Some}
+use Rattle.std.proofs.Common.{ℕ, ◌≡◌, ◌≤◌, ◌∙◌, ◌*◌, length, Bool, true, false, true≢false, to_z, of_z, w64, sym, subst, arith, inr, Some}
 use Rattle.std.specs.Prelude.{ℤ, pos, ◌+ℤ◌, ◌<ℤ◌}
 use Rattle.std.proofs.lemmas.Int.{ints}
 use Rattle.bundle_bounds.specs.declared.nodes.Leaf.{Leaf}
 use Rattle.bundle_bounds.specs.declared.nodes.Leaf.TheVariants.{Plain}
 use Rattle.bundle_bounds.specs.Courses.{by_course}
+use Rattle.bundle_bounds.proofs.Adding.{plain_low}
 use Rattle.bundle_bounds.proofs.Limits.{first-append_left, if_first-append_right, if_none-append, if_first-next, if_none-next}
 use Rattle.bundle_bounds.proofs.pruning.first_with.Goals as goal
 
@@ -11,6 +12,15 @@ use Rattle.bundle_bounds.proofs.pruning.first_with.Goals as goal
 not_below : (base limit : ℤ) (plain sum : ℕ) (told : Bool) → plain ≡ sum → ((base +ℤ pos plain) <ℤ limit → told ≡ true) → told ≡ false
     → ¬ ((base +ℤ pos sum) <ℤ limit)
 not_below base limit plain sum told same tells not = λ low. true≢false (sym (tells (subst (λ n. (base +ℤ pos n) <ℤ limit) (sym same) low)) ∙ not)
+
+pub is_plain_below-requires : goal.is_plain_below-requires
+is_plain_below-requires c =
+    let ps = c.args.all.now.list.now in
+    let sum : ℕ = by_course (λ p. 1000 * p.worth) ps in
+    let is : c.args.plain ≡ sum = c.requires.plain in
+    let low : sum ≤ 20000000 * length ps = plain_low ps c.args.all.now.modest in
+    let few : length ps ≤ 60 = c.args.all.now.few in
+    omega arith
 
 pub returns-in-Some-clause-first : goal.returns-in-Some-clause-first
 returns-in-Some-clause-first c =

@@ -8,21 +8,24 @@ use Rattle.bundle_rules.proofs.menu.+fill.Goals as goal
 
 pub bounds-table-from-in-len1-up : goal.bounds-table-from-in-len1-up
 bounds-table-from-in-len1-up t c =
-    let is : IsPair c.args.places (get_or c.args.pairs.now 0 (0, 0, pos 0)) = c.requires.pairs 0 (0, 0, pos 0) (omega arith) in
+    let is : IsPair c.args.pairs.now.places (get_or c.args.pairs.now.list.now 0 (0, 0, pos 0)) = c.args.pairs.now.each 0 (0, 0, pos 0) (omega arith) in
     let ordered = is.ordered in
     let on_menu = is.on_menu in
-    let size : length c.fill.new.table ≡ c.args.places * c.args.places = c.fill.ensures.size in
+    let size : length c.fill.new.table ≡ c.args.pairs.now.places * c.args.pairs.now.places = c.fill.ensures.size in
     let in_table =
-    mul-add-lt c.from-in-len1-up-2.result c.args.places c.from-in-len1-up-3.result c.args.places (omega (arith, c.from-in-len1-up-2.ensures))
+    mul-add-lt c.from-in-len1-up-2.result c.args.pairs.now.places c.from-in-len1-up-3.result c.args.pairs.now.places
+    (omega (arith, c.from-in-len1-up-2.ensures))
     (omega (arith, c.from-in-len1-up-3.ensures)) in
     rw (length-set, size) in_table
 
 pub returns-in-len1-up : goal.returns-in-len1-up
 returns-in-len1-up t c =
-    let is : IsPair c.args.places (get_or c.args.pairs.now 0 (0, 0, pos 0)) = c.requires.pairs 0 (0, 0, pos 0) (omega arith) in
+    let is : IsPair c.args.pairs.now.places (get_or c.args.pairs.now.list.now 0 (0, 0, pos 0)) = c.args.pairs.now.each 0 (0, 0, pos 0) (omega arith) in
     let low = is.low in
     let high = is.high in
-    put_next c.args.places c.args.pairs.now _ (get_or c.args.pairs.now 0 (0, 0, pos 0)) c.fill.new.table c.from.result c.from-in-len1-up.result
+    put_next c.args.pairs.now.places c.args.pairs.now.list.now _ (get_or c.args.pairs.now.list.now 0 (0, 0, pos 0)) c.fill.new.table c.from.result
+    c.from-in-len1-up.result
     c.from-in-len1-up-3.result c.from-in-len1-up-2.result _
-    (first_rest c.args.pairs.now (0, 0, pos 0) c.in-len1-up.len_at_least) is c.fill.ensures c.from.ensures c.from-in-len1-up.ensures c.from-in-len1-up-2.ensures
+    (first_rest c.args.pairs.now.list.now (0, 0, pos 0) c.in-len1-up.len_at_least) is c.fill.ensures c.from.ensures c.from-in-len1-up.ensures
+    c.from-in-len1-up-2.ensures
     c.from-in-len1-up-3.ensures (omega (arith, ints))

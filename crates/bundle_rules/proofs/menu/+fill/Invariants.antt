@@ -2,4 +2,4 @@ use Rattle.std.proofs.Common.{length}
 use Rattle.bundle_rules.proofs.menu.+fill.Given as goal
 
 abbrev pub decreases-fill : goal.decreases-fill
-decreases-fill l = length l.pairs.now
+decreases-fill l = length l.pairs.now.list.now

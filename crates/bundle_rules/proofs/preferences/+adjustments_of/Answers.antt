@@ -13,4 +13,4 @@ returns-in-len1-up-clause-value t c =
     omega (arith, ints, c.from.ensures) in
     sum
     ∙ rw (c.adjustment.ensures.value, c.adjustments_of.ensures.value)
-    (sym (ap (adjustments (by_place c.args.menu.now) c.args.place) (first_rest c.args.others.now 0 c.in-len1-up.len_at_least)))
+    (sym (ap (adjustments (by_place c.args.others.now.menu.now) c.args.place) (first_rest c.args.others.now.places.now 0 c.in-len1-up.len_at_least)))

@@ -8,6 +8,6 @@ use Rattle.bundle_rules.proofs.preferences.+credits_of.Goals as goal
 pub returns-in-len1-up-clause-value : goal.returns-in-len1-up-clause-value
 unfolding by_place
 returns-in-len1-up-clause-value t c =
-    let one = credits_at-is c.args.menu.now.places _ c.rated.result.now c.rated.ensures.value in
+    let one = credits_at-is c.args.picks.now.menu.now.places _ c.rated.result.now c.rated.ensures.value in
     rw (c.from.ensures, c.credits_of.ensures.value, ← one)
-    (sym (ap (total (by_place c.args.menu.now).credits) (first_rest c.args.places.now 0 c.in-len1-up.len_at_least)))
+    (sym (ap (total (by_place c.args.picks.now.menu.now).credits) (first_rest c.args.picks.now.places.now 0 c.in-len1-up.len_at_least)))

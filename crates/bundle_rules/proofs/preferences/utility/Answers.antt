@@ -6,13 +6,16 @@ use Rattle.bundle_rules.specs.Wishes.{utility}
 use Rattle.bundle_rules.proofs.Feasibility.{places_of_rated, utility_by_place}
 use Rattle.bundle_rules.proofs.preferences.utility.Goals as goal
 
-pub utility_of-requires-clause-on_menu : goal.utility_of-requires-clause-on_menu
-utility_of-requires-clause-on_menu c =
-    subst (All (λ place. place < length c.args.menu.now.places)) (sym (c.as_slice.ensures.value ∙ c.of.ensures))
-    (places_of_rated c.args.menu.now (sections_of c.args.bundle.now) c.requires)
+pub invariant_of-utility_of : goal.invariant_of-utility_of
+invariant_of-utility_of c = record {
+  on_menu =
+      subst (All (λ place. place < length c.args.menu.now.places)) (sym (c.as_slice-places.ensures.value ∙ c.of-places.ensures))
+      (places_of_rated c.args.menu.now (sections_of c.args.bundle.now) c.requires);
+  few = c.as_slice-places.ensures.few;
+}
 
 pub returns : goal.returns
 returns c =
     let same : to_z w32 (of_z w32 c.utility_of.result) ≡ c.utility_of.result = omega (arith, ints) in
-    same ∙ c.utility_of.ensures.value ∙ ap (utility (by_place c.args.menu.now)) (c.as_slice.ensures.value ∙ c.of.ensures)
+    same ∙ c.utility_of.ensures.value ∙ ap (utility (by_place c.args.menu.now)) (c.as_slice-places.ensures.value ∙ c.of-places.ensures)
     ∙ utility_by_place c.args.menu.now (sections_of c.args.bundle.now)
