@@ -11,7 +11,7 @@ use Rattle.demand_oracle.specs.SummedNodes.{chosen_of}
 -- a column has so much of the budget in units, and what is paid for that and for so many credits at
 -- the reach's multipliers
 pub record HasLeft (reach : Reach) (budget credits : ℕ) (column : Column) : Type 0 where
-  pub units : column.units ≡ budget / 2 ^ reach.shift
+  pub units : column.units ≡ budget / 2 ^ reach.unit.shift
   pub paid : column.paid ≡ reach.credits.money * budget + reach.credits.credits * credits
 
 -- the column where so many courses, so much of the budget and so many credits are left: no more

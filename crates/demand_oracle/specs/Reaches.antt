@@ -61,4 +61,4 @@ IsLightest offer lightest =
 pub record IsReach (offer : OfferData) (reach : Reach) : Type 0 where
   pub lightest : IsLightest offer reach.lightest
   pub hopes : HoldsHopes offer reach.hopes 0
-  pub covers : HoldsCovers offer reach.credits reach.shift reach.most 0
+  pub covers : HoldsCovers offer reach.credits reach.unit.shift reach.most 0

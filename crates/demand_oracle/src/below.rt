@@ -145,7 +145,7 @@ fn falls_short(
     if !is_below(added, lacking(champion.utility(), utility, 0)) {
         return false;
     }
-    let hoped = reach.hoped_with(summed.places(), place, next);
+    let hoped = reach.hoped_with(&step, next);
     is_below(added, lacking(champion.utility(), utility, hoped))
 }
 

@@ -6,13 +6,12 @@ use crate::multipliers::Multipliers;
 use crate::spot::Spot;
 use crate::tables::{MILLION, PLACES};
 use bundle_bounds::{Offer, price_of_place};
-use market_units::MAX_RATINGS;
 
 // The places that are chosen so far, and what they leave.
 #[derive(Clone, Copy)]
 pub(crate) struct Draft {
     // The chosen places, as bits.
-    chosen: u64,
+    pub(crate) chosen: u64,
     // These, and the places that are not allowed or clash with one of them.
     shut: u64,
     budget: u32,
@@ -52,13 +51,6 @@ impl Draft {
             draft.shut |= u64::from(!offer.allowed.has(menu.rated(place).section)) << place;
         }
         draft
-    }
-
-    /// Whether the place is chosen.
-    pub(crate) fn has(&self, place: u8) -> bool
-        requires { place < MAX_RATINGS }
-    {
-        (self.chosen >> place) & 1 == 1
     }
 
     // The place that adds most, of those that fit.

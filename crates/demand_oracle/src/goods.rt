@@ -7,6 +7,7 @@ ghost use Rattle.bundle_rules.specs.Menus.{credits_at, section_at, IsMenu};
 ghost use Rattle.bundle_bounds.specs.Views.{data_of};
 ghost use Rattle.demand_oracle.specs.OpenWords.{IsWordOf, Clashes, IsAlone};
 
+use crate::spot::Spot;
 use crate::step::Step;
 use crate::summed_node::SummedNode;
 use crate::tables::{MOST_PLACES, PLACES};
@@ -40,7 +41,7 @@ impl Goods {
         Goods {
             prices: prices_of(offer),
             credits: credits_of(menu),
-            clashes: clashes_of(menu, alone),
+            clashes: clashes_of(offer, alone),
             alone,
         }
     }
@@ -72,31 +73,34 @@ fn credits_of(menu: &Menu) -> [u16; PLACES]
 }
 
 // For each place of a word the word of the places that clash with it.
-fn clashes_of(menu: &Menu, alone: u64) -> [u64; PLACES]
-    ensures { (place : ℕ) → place < length menu.now.places → bit_at alone place ≡ 1
-        → IsWordOf (Clashes menu.now place) (length menu.now.places) (slice_index result place) }
+fn clashes_of(offer: &Offer, alone: u64) -> [u64; PLACES]
+    ensures { (place : ℕ) → place < length offer.now.menu.now.places → bit_at alone place ≡ 1
+        → IsWordOf (Clashes offer.now.menu.now place) (length offer.now.menu.now.places)
+        (slice_index result place) }
 {
     let mut words = [0; PLACES];
-    for place in 0..menu.len() {
-        words[usize::from(place)] = clashing(menu, alone, place);
+    for place in 0..offer.menu.len() {
+        words[usize::from(place)] = clashing(&Spot { offer, place }, alone);
     }
     words
 }
 
 // The word of the places that clash with a place, where that is in a word. No other is asked for:
 // in the aftermarket most places are in no bundle, and looking pair by pair takes its time.
-fn clashing(menu: &Menu, alone: u64, place: u8) -> u64
-    requires { place < length menu.now.places }
-    ensures { bit_at alone place ≡ 1
-        → IsWordOf (Clashes menu.now place) (length menu.now.places) result }
+fn clashing(spot: &Spot, alone: u64) -> u64
+    ensures { bit_at alone spot.now.place ≡ 1
+        → IsWordOf (Clashes spot.now.offer.now.menu.now spot.now.place)
+        (length spot.now.offer.now.menu.now.places) result }
 {
-    prove!(place < menu.len());
-    if (alone >> place) & 1 == 0 {
+    let offer = spot.offer;
+    let menu = offer.menu;
+    prove!(spot.place < menu.len());
+    if (alone >> spot.place) & 1 == 0 {
         return 0;
     }
     let mut word = 0;
-    for other in 0..menu.len() {
-        word = with_bit(word, other, menu.clash(place, other));
+    for place in 0..menu.len() {
+        word = with_bit(word, &Spot { offer, place }, menu.clash(spot.place, place));
     }
     word
 }
@@ -115,16 +119,17 @@ fn alone(offer: &Offer) -> u64
             place,
         };
         let is_takable = step.may_take();
-        word = with_bit(word, place, is_takable);
+        word = with_bit(word, &Spot { offer, place }, is_takable);
     }
     word
 }
 
-// The word with one more bit set, where that is asked.
-fn with_bit(word: u64, bit: u8, is_set: bool) -> u64
-    requires { bit < 64 }
+// The word with the bit of a place set too, where that is asked.
+fn with_bit(word: u64, spot: &Spot, is_set: bool) -> u64
     ensures { (p : ℕ) → (bit_at result p ≡ 1)
-        ↔ ((bit_at word p ≡ 1) ⊎ ((p ≡ bit) × (is_set ≡ true))) }
+        ↔ ((bit_at word p ≡ 1) ⊎ ((p ≡ spot.now.place) × (is_set ≡ true))) }
 {
-    if is_set { word | 1 << bit } else { word }
+    let place = spot.place;
+    prove!(place < spot.offer.menu.len());
+    if is_set { word | 1 << place } else { word }
 }

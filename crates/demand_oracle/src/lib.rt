@@ -6,8 +6,10 @@
 // every clause.
 #![tactic(auto)]
 
+mod asked;
 mod below;
 mod draft;
+mod gain;
 mod goods;
 pub mod laws;
 mod multipliers;
@@ -19,6 +21,7 @@ mod spot;
 mod step;
 mod summed_node;
 mod tables;
+mod unit;
 
 pub use oracle::{Workspace, demand, demand_beside, demand_from, demand_with};
 

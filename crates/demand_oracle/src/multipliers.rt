@@ -6,11 +6,12 @@
 // the multiplier at which they meet is tried, and its line takes the place of one of the two, three
 // times. Any multipliers are right: these only make the search short.
 ghost use Rattle.std.specs.Prelude.{◌≤◌, ◌^◌};
+ghost use Rattle.market_units.specs.declared.limits.TheConstants.{MAX_COURSES};
 
 use crate::places::fitting;
 use crate::tables::{MILLION, PLACES, ROWS};
 use bundle_bounds::{Offer, price_of_place};
-use market_units::{MAX_COURSES, MAX_RATINGS, MAX_SECTION_CREDITS};
+use market_units::{MAX_COURSES, MAX_RATINGS};
 
 /// What a token of the price and a credit are counted for, in millionths of a point of utility.
 #[derive(Clone, Copy, Debug)]
@@ -50,6 +51,14 @@ const NO_ITEM: Item = Item {
     credits: 0,
 };
 
+// The items, and how many of them are picked at most.
+#[derive(Clone, Copy)]
+struct Stock<'i> {
+    items: &'i [Item],
+    count: usize,
+    ghost few: { count ≤ MAX_COURSES },
+}
+
 // One of the greatest values at some multipliers, and what its place takes of a resource.
 #[derive(Clone, Copy)]
 struct Pick {
@@ -71,37 +80,34 @@ struct Line {
 pub(crate) fn multipliers_at(
     offer: &Offer,
     hopes: &[[u16; PLACES]; ROWS],
-    lightest: u32,
-) -> Multipliers
-    requires lightest { lightest ≤ MAX_SECTION_CREDITS }
-{
+    lightest: u16,
+) -> Multipliers {
     let menu = offer.menu;
     let mut items = [NO_ITEM; PLACES];
     let len = items_of(offer, hopes, &mut items);
-    let items = &items[..len];
-    let courses = u32::from(menu.courses().min(MAX_COURSES));
-    let count = fitting(courses, u32::from(menu.credits()), lightest) as usize;
+    let credits = u32::from(menu.credits());
+    let count = fitting(menu.courses().min(MAX_COURSES), credits, lightest);
+    let stock = Stock {
+        items: &items[..len],
+        count: usize::from(count),
+    };
     let free = Multipliers {
         money: 0,
         credits: 0,
     };
-    let credits = u32::from(menu.credits());
-    let paid = meeting_multiplier(items, count, Scarce::Money, free, offer.budget.0);
-    meeting_multiplier(items, count, Scarce::Credits, paid, credits)
+    let paid = meeting_multiplier(stock, Scarce::Money, free, offer.budget.0);
+    meeting_multiplier(stock, Scarce::Credits, paid, credits)
 }
 
 // These multipliers with one of the resource at which its rest is just taken, or 0 where all of the
 // greatest values fit.
 fn meeting_multiplier(
-    items: &[Item],
-    count: usize,
+    stock: Stock,
     scarce: Scarce,
     multipliers: Multipliers,
     rest: u32,
-) -> Multipliers
-    requires { count ≤ MAX_COURSES }
-{
-    let mut low = line_at(items, count, scarce, multipliers);
+) -> Multipliers {
+    let mut low = line_at(stock, scarce, multipliers);
     let mut high = Line { worth: 0, taken: 0 };
     let mut met = multipliers;
     for _ in 0..MEETINGS {
@@ -110,7 +116,7 @@ fn meeting_multiplier(
         }
         let multiplier = low.worth.saturating_sub(high.worth) / (low.taken - high.taken);
         met = with_multiplier(multipliers, scarce, multiplier.min(HIGHEST_MULTIPLIER));
-        let line = line_at(items, count, scarce, met);
+        let line = line_at(stock, scarce, met);
         if line.taken > u64::from(rest) {
             low = line;
         } else {
@@ -136,12 +142,13 @@ fn with_multiplier(multipliers: Multipliers, scarce: Scarce, multiplier: u64) ->
 }
 
 // The line of the greatest values at these multipliers.
-fn line_at(items: &[Item], count: usize, scarce: Scarce, multipliers: Multipliers) -> Line
-    requires { count ≤ MAX_COURSES }
-{
+fn line_at(stock: Stock, scarce: Scarce, multipliers: Multipliers) -> Line {
     let mut picks = [NO_PICK; COURSES];
-    for item in items {
-        put(&mut picks[..count], pick_of(item, scarce, multipliers));
+    for item in stock.items {
+        put(
+            &mut picks[..stock.count],
+            pick_of(item, scarce, multipliers),
+        );
     }
     let multiplier = match scarce {
         Scarce::Money => multipliers.money,

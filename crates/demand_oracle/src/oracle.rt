@@ -12,12 +12,13 @@ ghost use Rattle.demand_oracle.specs.{Beside.LeadsThoseWithout, Champions.IsCham
 ghost use Rattle.demand_oracle.specs.Search.{wanted_by, LeadsWanted};
 ghost use Rattle.demand_oracle.specs.SummedNodes.{chosen_of};
 
+use crate::asked::Asked;
 use crate::below::below;
 use crate::goods::Goods;
 use crate::question::Question;
-use crate::reach::{Reach, begun_with};
+use crate::reach::{Reach, begun_with, places_in};
 use crate::spot::Spot;
-use crate::step::{Step, alone};
+use crate::step::{Step, node_of};
 use crate::summed_node::SummedNode;
 use bundle_bounds::Offer;
 use bundle_rules::{Bundle, Menu, prefers};
@@ -91,7 +92,11 @@ pub fn demand(
         budget,
         allowed,
     };
-    search(&mut workspace.frames, &offer, None, None)
+    let asked = Asked {
+        offer: &offer,
+        given: None,
+    };
+    search(&mut workspace.frames, &asked, None)
 }
 
 /// The same, found sooner where this bundle, or what may be taken of it, is nearly the best. Any
@@ -114,7 +119,11 @@ pub fn demand_from(
         budget,
         allowed,
     };
-    search(&mut workspace.frames, &offer, None, Some(first))
+    let asked = Asked {
+        offer: &offer,
+        given: None,
+    };
+    search(&mut workspace.frames, &asked, Some(first))
 }
 
 /// The best bundle with a given section: the feasible one of allowed sections with this one among
@@ -145,7 +154,11 @@ pub fn demand_with(
         allowed,
     };
     let place = place_alone(&offer, section)?;
-    let bundle = search(&mut workspace.frames, &offer, Some(place), None);
+    let asked = Asked {
+        offer: &offer,
+        given: Some(place),
+    };
+    let bundle = search(&mut workspace.frames, &asked, None);
     Some(bundle)
 }
 
@@ -179,7 +192,11 @@ pub fn demand_beside(
         return *first;
     };
     let given = Some(place);
-    let found = search(&mut workspace.frames, &offer, given, Some(first));
+    let asked = Asked {
+        offer: &offer,
+        given,
+    };
+    let found = search(&mut workspace.frames, &asked, Some(first));
     if prefers(menu, first, &found) {
         return *first;
     }
@@ -216,27 +233,23 @@ fn place_alone(offer: &Offer, section: SectionNo) -> Option<u8>
     Some(place)
 }
 
-// The best bundle, of those with the section of a place where one is given, which may be taken
-// alone: what the search below the root leaves. Where a first bundle is told, the search may begin
-// with it, and where both are, it may end with it: with what is as good as all bundles with the
+// What the search below the root leaves. Where a first bundle is told, the search may begin with it,
+// and where a place is given too, it may end with it: with what is as good as all bundles with the
 // section.
-fn search(frames: &mut Frames, offer: &Offer, given: Option<u8>, first: Option<&Bundle>) -> Bundle
-    requires given { IfSome given (λ place. place < length offer.now.menu.now.places) }
-    requires alone { IfSome given
-        (λ place. IsTakable (data_of offer.now)
-        (section_at offer.now.menu.now.places place ∷ [])) }
-    ensures leads { LeadsWanted (data_of offer.now)
-        (wanted_by offer.now.menu.now given) (sections_of result) }
+fn search(frames: &mut Frames, asked: &Asked, first: Option<&Bundle>) -> Bundle
+    ensures leads { LeadsWanted (data_of asked.now.offer.now)
+        (wanted_by asked.now.offer.now.menu.now asked.now.given) (sections_of result) }
     ensures wanted { IfNone first.entry
-        (wanted_by offer.now.menu.now given (sections_of result) ≡ true) }
+        (wanted_by asked.now.offer.now.menu.now asked.now.given (sections_of result) ≡ true) }
 {
+    let offer = asked.offer;
     frames.reach.measure(offer);
     let goods = Goods::of(offer);
     let reach = &frames.reach;
-    let mut champion = first_champion(reach, offer, given, first);
+    let mut champion = first_champion(reach, asked, first);
     let question = Question {
         offer,
-        given,
+        given: asked.given,
         reach,
         goods: &goods,
     };
@@ -244,30 +257,27 @@ fn search(frames: &mut Frames, offer: &Offer, given: Option<u8>, first: Option<&
     champion.node.chosen
 }
 
-// The champion that a search begins with: where a place is given, its section alone, or the first
-// bundle where one is told; and where none is given a node that begins well, of the first bundle
-// where it is worth no less.
-fn first_champion(
-    reach: &Reach,
-    offer: &Offer,
-    given: Option<u8>,
-    first: Option<&Bundle>,
-) -> SummedNode
-    requires given { IfSome given (λ place. place < length offer.now.menu.now.places) }
-    requires alone { IfSome given
-        (λ place. IsTakable (data_of offer.now)
-        (section_at offer.now.menu.now.places place ∷ [])) }
-    ensures champion { IsChampion (data_of offer.now) result }
+// The champion that a search begins with: where a place is given, its section alone, or what may be
+// taken of the first bundle where one is told; and where none is given a node that begins well, or
+// that of the first bundle where it is worth no less.
+fn first_champion(reach: &Reach, asked: &Asked, first: Option<&Bundle>) -> SummedNode
+    ensures champion { IsChampion (data_of asked.now.offer.now) result }
     ensures wanted { IfNone first.entry
-        (wanted_by offer.now.menu.now given (chosen_of result) ≡ true) }
+        (wanted_by asked.now.offer.now.menu.now asked.now.given (chosen_of result) ≡ true) }
 {
-    match given {
-        Some(place) => begun_beside(&Spot { offer, place }, first),
-        None => {
-            let drafted = reach.first_champion(offer);
-            from_first(offer, first, drafted)
-        }
+    let offer = asked.offer;
+    if let Some(place) = asked.given {
+        return begun_beside(&Spot { offer, place }, first);
     }
+    let drafted = begun_with(offer, reach.drafted(offer));
+    let Some(bundle) = first else {
+        return drafted;
+    };
+    let begun = begun_with(offer, places_in(offer.menu, bundle));
+    if begun.utility() >= drafted.utility() {
+        return begun;
+    }
+    drafted
 }
 
 // The section of the given place alone, or what may be taken of the first bundle, where one is
@@ -280,23 +290,9 @@ fn begun_beside(spot: &Spot, first: Option<&Bundle>) -> SummedNode
         (has (chosen_of result)
         (section_at spot.now.offer.now.menu.now.places spot.now.place) ≡ true) }
 {
+    let offer = spot.offer;
     match first {
-        Some(bundle) => begun_with(spot.offer, bundle),
-        None => alone(spot),
+        Some(bundle) => begun_with(offer, places_in(offer.menu, bundle)),
+        None => node_of(spot),
     }
-}
-
-// The node, or that of the first bundle where it is told and worth no less.
-fn from_first(offer: &Offer, first: Option<&Bundle>, summed: SummedNode) -> SummedNode
-    requires { IsChampion (data_of offer.now) summed }
-    ensures { IsChampion (data_of offer.now) result }
-{
-    let Some(bundle) = first else {
-        return summed;
-    };
-    let begun = begun_with(offer, bundle);
-    if begun.utility() >= summed.utility() {
-        return begun;
-    }
-    summed
 }

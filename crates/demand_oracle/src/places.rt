@@ -3,7 +3,7 @@ ghost use Rattle.std.specs.Prelude.{◌≡◌, ◌<◌, ◌≤◌, ◌*◌, ℕ,
 ghost use Rattle.market_units.specs.Totals.{total};
 
 use crate::tables::PLACES;
-use market_units::{MAX_COURSES, MAX_RATINGS, MAX_SECTION_CREDITS};
+use market_units::{MAX_COURSES, MAX_RATINGS};
 
 /// What the adjustments of the chosen places can add: their numbers in a row of the table of hopes,
 /// added up.
@@ -21,13 +21,11 @@ pub(crate) fn hopes_of(row: &[u16; PLACES], chosen: &[u8]) -> u32
 
 /// How many more sections fit, where the lightest has so many credits: never fewer than do, and at
 /// most as many as there are courses left. Without this number flat ratings open a million nodes.
-pub(crate) fn fitting(courses: u32, credits: u32, lightest: u32) -> u32
-    requires courses { courses ≤ MAX_COURSES }
-    requires lightest { lightest ≤ MAX_SECTION_CREDITS }
+pub(crate) fn fitting(courses: u8, credits: u32, lightest: u16) -> u8
     ensures within { result ≤ courses }
     ensures enough { (count : ℕ) → count ≤ courses → count * lightest ≤ credits → count ≤ result }
 {
-    if courses * lightest <= credits {
+    if u32::from(courses) * u32::from(lightest) <= credits {
         return courses;
     }
     fitting(courses - 1, credits, lightest)

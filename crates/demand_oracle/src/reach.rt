@@ -1,13 +1,13 @@
 // The most that can still be reached from a node, looked up.
-ghost use Rattle.std.specs.Prelude.{◌≡◌, ◌↔◌, ◌<◌, ◌≤◌, ◌+◌, ◌*◌, ◌-◌, ◌^◌, ◌-ℤ◌, ◌*ℤ◌, ◌≤ℤ◌, ◌<ℤ◌, pos, neg_ℤ, ℕ, Bool, List, All, IsTrue, length};
+ghost use Rattle.std.specs.Prelude.{◌≡◌, ◌↔◌, ◌<◌, ◌≤◌, ◌+◌, ◌*◌, ◌-◌, ◌^◌, ◌-ℤ◌, ◌*ℤ◌, ◌≤ℤ◌, ◌<ℤ◌, pos, neg_ℤ, ℕ, Bool, List, IsTrue, length};
 ghost use Rattle.std.specs.Ordering.{nat_cmp};
 ghost use Rattle.std.specs.FinSet as set;
 ghost use Rattle.market_units.specs.Totals.{total};
-ghost use Rattle.market_units.specs.declared.limits.TheConstants.{MAX_COURSES, MAX_RATINGS, MAX_SECTION_CREDITS};
+ghost use Rattle.market_units.specs.declared.limits.TheConstants.{MAX_COURSES, MAX_RATINGS};
 ghost use Rattle.market_units.specs.declared.units.Tokens.{Tokens};
 ghost use Rattle.bundle_rules.specs.{Demand.price_in, Menus.IsMenu};
 ghost use Rattle.bundle_bounds.specs.Laws.{IsTakable, IsNode};
-ghost use Rattle.bundle_bounds.specs.{Offers.OfferData, Offers.offer_of, Prunings.MayPrune};
+ghost use Rattle.bundle_bounds.specs.{Offers.OfferData, Offers.offer_of, Offers.places_of, Prunings.MayPrune};
 ghost use Rattle.bundle_bounds.specs.Views.{data_of};
 ghost use Rattle.demand_oracle.specs.{Champions.IsChampion, Covers.IsAdded};
 ghost use Rattle.demand_oracle.specs.SummedNodes.{chosen_of, IsSummed};
@@ -18,9 +18,9 @@ use crate::places::{fitting, hopes_of};
 use crate::step::Step;
 use crate::summed_node::SummedNode;
 use crate::tables::{
-    COUNTS, MILLION, PLACES, ROWS, THOUSAND, Table, UNITS, in_units, lightest, put_hopes, put_most,
-    shift_for,
+    COUNTS, MILLION, PLACES, ROWS, THOUSAND, Table, UNITS, lightest, put_hopes, put_most,
 };
+use crate::unit::Unit;
 use bundle_bounds::Offer;
 use bundle_rules::{Bundle, Menu};
 use market_units::Tokens;
@@ -31,15 +31,13 @@ const ENOUGH: u64 = 1 << 62;
 /// What the places from each one on can still add at one demand.
 #[derive(Drop)]
 pub struct Reach {
-    lightest: u32,
+    lightest: u16,
     hopes: [[u16; PLACES]; ROWS],
     multipliers: Multipliers,
-    // What can be added where money is counted in units of so many tokens, and not at a multiplier.
+    // What can be added where money is counted in units, and not at a multiplier.
     credits: Multipliers,
-    shift: u32,
+    unit: Unit,
     most: Table,
-    ghost light: { lightest ≤ MAX_SECTION_CREDITS },
-    ghost short: { shift < 32 },
 }
 
 /// What is looked up at each place where the same sections are chosen: how many more fit, how many
@@ -68,7 +66,7 @@ impl Reach {
             hopes: [[0; PLACES]; ROWS],
             multipliers: nothing,
             credits: nothing,
-            shift: 0,
+            unit: Unit { shift: 0 },
             most: [[0; UNITS]; ROWS * COUNTS],
         }
     }
@@ -84,8 +82,8 @@ impl Reach {
             money: 0,
             credits: self.multipliers.credits,
         };
-        self.shift = shift_for(offer.budget);
-        put_most(offer, self.credits, self.shift, &self.hopes, &mut self.most);
+        self.unit = Unit::for_budget(offer.budget);
+        put_most(offer, self.credits, self.unit, &self.hopes, &mut self.most);
     }
 
     /// What is looked up in all places for the sections that a node has chosen. The table is one that
@@ -103,13 +101,13 @@ impl Reach {
 
     /// What is looked up where so many courses, so much of the budget and so many credits are left.
     #[inline(always)]
-    pub(crate) fn column_for(&self, courses: u32, budget: u32, credits: u32) -> Column
+    pub(crate) fn column_for(&self, courses: u8, budget: u32, credits: u32) -> Column
         requires courses { courses ≤ MAX_COURSES }
         requires credits { credits ≤ 65535 }
         ensures { IsColumnFor self.now courses budget credits result }
     {
-        let count = fitting(courses, credits, self.lightest) as usize;
-        let units = in_units(budget, self.shift);
+        let count = usize::from(fitting(courses, credits, self.lightest));
+        let units = self.unit.whole_in(budget);
         if count == 0 {
             return Column {
                 count,
@@ -170,41 +168,28 @@ impl Reach {
         is_below(added, lacking + 1) && summed.is_behind(place, champion)
     }
 
-    /// A node that begins well: its sections are chosen one after another, each the one that adds
-    /// most for what it takes, of those that fit. A search that begins with it as its champion
-    /// prunes most nodes at once. The table is one that was measured for the same offer;
+    /// The places of a node that begins well, as bits. They are chosen one after another, each the
+    /// one that adds most for what it takes, of those that fit. A search that begins with it as its
+    /// champion prunes most nodes at once. The table is one that was measured for the same offer;
     /// with another the node may be worth little.
-    pub fn first_champion(&self, offer: &Offer) -> SummedNode
-        ensures { IsChampion (data_of offer.now) result }
-    {
-        let draft = Draft::of(offer, self.multipliers);
-        let mut summed = SummedNode::root();
-        for place in 0..offer.menu.len() {
-            let is_wanted = draft.has(place);
-            let step = Step {
-                offer,
-                summed: &summed,
-                place,
-            };
-            summed = followed(&step, is_wanted);
-        }
-        summed
+    pub fn drafted(&self, offer: &Offer) -> u64 {
+        Draft::of(offer, self.multipliers).chosen
     }
 
-    /// What the adjustments of chosen places and of one more with the places from another one on can
-    /// add.
+    /// What the adjustments of the chosen places and of one more with the places from another one on
+    /// can add.
     #[inline(always)]
-    pub(crate) fn hoped_with(&self, chosen: &[u8], place: u8, next: u8) -> u32
-        requires chosen { All (λ other. other < MAX_RATINGS) chosen.now }
-        requires few { length chosen.now ≤ MAX_COURSES }
-        requires place { place < MAX_RATINGS }
-        requires next { next ≤ MAX_RATINGS }
+    pub(crate) fn hoped_with(&self, step: &Step, next: u8) -> u32
+        requires { next ≤ length step.now.offer.now.menu.now.places }
         ensures { result
-            ≡ total (number_at self.now.hopes next) chosen.now
-            + number_at self.now.hopes next place }
+            ≡ total (number_at self.now.hopes next)
+            (places_of step.now.offer.now.menu.now (chosen_of step.now.summed.now))
+            + number_at self.now.hopes next step.now.place }
     {
+        let menu = step.offer.menu;
+        prove!(next <= menu.len());
         let row = &self.hopes[usize::from(next)];
-        hopes_of(row, chosen) + u32::from(row[usize::from(place)])
+        hopes_of(row, step.summed.places()) + u32::from(row[usize::from(step.place)])
     }
 
     /// A million times the most that can be added to what is hoped for at the node where the places
@@ -224,14 +209,23 @@ impl Reach {
     }
 }
 
-/// A node that has of a bundle what may be taken, place by place. A search that begins with it as
-/// its champion is short where the bundle is nearly the best.
-pub fn begun_with(offer: &Offer, bundle: &Bundle) -> SummedNode
+/// The places of a menu whose sections a bundle has, as bits.
+pub fn places_in(menu: &Menu, bundle: &Bundle) -> u64 {
+    let mut word = 0;
+    for place in 0..menu.len() {
+        word |= u64::from(bundle.has(menu.rated(place).section)) << place;
+    }
+    word
+}
+
+/// A node that has of wanted places, which are bits of a word, what may be taken, place by place. A
+/// search that begins with it as its champion is short where they are nearly the best.
+pub fn begun_with(offer: &Offer, wanted: u64) -> SummedNode
     ensures { IsChampion (data_of offer.now) result }
 {
     let mut summed = SummedNode::root();
     for place in 0..offer.menu.len() {
-        let is_wanted = bundle.has(offer.menu.rated(place).section);
+        let is_wanted = (wanted >> place) & 1 == 1;
         let step = Step {
             offer,
             summed: &summed,

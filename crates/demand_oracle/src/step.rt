@@ -22,7 +22,7 @@ pub(crate) struct Step<'s, 'o> {
 }
 
 /// The node that has the section of a place alone, and has decided no later one.
-pub(crate) fn alone(spot: &Spot) -> SummedNode
+pub(crate) fn node_of(spot: &Spot) -> SummedNode
     ensures summed { IsSummedOf (data_of spot.now.offer.now) result }
     ensures chosen { chosen_of result
         ≡ section_at spot.now.offer.now.menu.now.places spot.now.place ∷ [] }

@@ -83,12 +83,13 @@ impl SummedNode {
     }
 
     /// What they leave of the course cap.
-    pub(crate) fn courses_left(&self, menu: &Menu) -> u32
+    pub(crate) fn courses_left(&self, menu: &Menu) -> u8
         ensures value { result ≡ menu.now.courses - length (chosen_of self.now) }
         ensures high { result ≤ MAX_COURSES }
     {
         prove!(menu.len() <= MOST_PLACES);
-        u32::from(menu.courses()).saturating_sub(self.node.chosen.sections().len() as u32)
+        menu.courses()
+            .saturating_sub(self.node.chosen.sections().len() as u8)
     }
 
     /// Whether the champion has the first section on which it differs from all that completes the

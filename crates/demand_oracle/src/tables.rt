@@ -6,10 +6,13 @@ ghost use Rattle.bundle_bounds.specs.{Offers.allowed_at, Opens.above_zero, Views
 ghost use Rattle.demand_oracle.specs.Reaches.{HoldsHopes, HoldsCovers, IsLightest, AreSmall, IsPlaced, number_at, within_at};
 ghost use Rattle.demand_oracle.specs.Values.{hopes_from, value};
 
+use crate::gain::Gain;
 use crate::multipliers::Multipliers;
 use crate::spot::Spot;
+use crate::unit::Unit;
 use bundle_bounds::{Offer, price_of_place};
-use market_units::{MAX_ADJUSTMENT, MAX_COURSES, MAX_RATINGS, MAX_SECTION_CREDITS, Tokens};
+use bundle_rules::Menu;
+use market_units::{MAX_ADJUSTMENT, MAX_COURSES, MAX_RATINGS, MAX_SECTION_CREDITS};
 
 pub(crate) const ROWS: usize = MAX_RATINGS + 1;
 
@@ -31,40 +34,17 @@ pub(crate) const THOUSAND: u64 = 1_000;
 // in thousandths of a point of utility: a row for each place and count.
 pub(crate) type Table = [[u32; UNITS]; ROWS * COUNTS];
 
-/// So many tokens in whole units, each of which is a power of two of tokens, so that a node divides
-/// by a shift. Prices and what is left are both rounded down, so nothing affordable is left out.
-#[inline(always)]
-pub(crate) fn in_units(tokens: u32, shift: u32) -> u32
-    requires { shift < 32 }
-    ensures { result ≡ tokens / 2 ^ shift }
-{
-    tokens >> shift
-}
-
-/// The least shift at which a budget has fewer units than the table has columns.
-pub(crate) fn shift_for(budget: Tokens) -> u32
-    ensures { result < 32 }
-{
-    for shift in 0..31 {
-        if budget.0 >> shift < UNITS as u32 {
-            return shift;
-        }
-    }
-    31
-}
-
 /// The least credits of an allowed place of the menu; the most that any section may have, where
 /// none is allowed.
-pub(crate) fn lightest(offer: &Offer) -> u32
-    ensures lightest { IsLightest (data_of offer.now) result }
-    ensures high { result ≤ MAX_SECTION_CREDITS }
+pub(crate) fn lightest(offer: &Offer) -> u16
+    ensures { IsLightest (data_of offer.now) result }
 {
     let mut lightest = MAX_SECTION_CREDITS;
     for place in 0..offer.menu.len() {
         let spot = Spot { offer, place };
         lightest = lighter(&spot, lightest);
     }
-    u32::from(lightest)
+    lightest
 }
 
 // The credits of a place, where it is allowed and these are fewer than so many, and else so many.
@@ -130,44 +110,43 @@ fn hope_of(spot: &Spot, earlier: u8) -> u16
 pub(crate) fn put_most(
     offer: &Offer,
     multipliers: Multipliers,
-    shift: u32,
+    unit: Unit,
     hopes: &[[u16; PLACES]; ROWS],
     most: &mut Table,
 )
-    requires shift { shift < 32 }
-    requires hopes { HoldsHopes (data_of offer.now) hopes.now 0 }
-    ensures { HoldsCovers (data_of offer.now) multipliers shift most.new
-        0 }
+    requires { HoldsHopes (data_of offer.now) hopes.now 0 }
+    ensures { HoldsCovers (data_of offer.now) multipliers unit.shift most.new 0 }
 {
+    put_nothing(offer.menu, most);
     let count = offer.menu.len();
-    put_nothing(count, most);
     for place in (0..count).rev() {
         let hoped = hopes[usize::from(place) + 1][usize::from(place)];
         let spot = Spot { offer, place };
-        put_place(&spot, multipliers, shift, hoped, most);
+        put_place(&spot, multipliers, unit, hoped, most);
     }
 }
 
 // Writes that no place is left to add anything.
-fn put_nothing(place: u8, most: &mut Table)
-    requires { place ≤ MAX_RATINGS }
-    ensures { (count units : ℕ) → count ≤ MAX_COURSES → within_at most.new place count units ≡ 0 }
+fn put_nothing(menu: &Menu, most: &mut Table)
+    ensures { (count units : ℕ) → count ≤ MAX_COURSES
+        → within_at most.new (length menu.now.places) count units ≡ 0 }
 {
+    let place = usize::from(menu.len());
     for count in 0..COUNTS {
-        most[usize::from(place) * COUNTS + count] = [0; UNITS];
+        most[place * COUNTS + count] = [0; UNITS];
     }
 }
 
 // Writes the most that so many places from this one on can add, where its adjustments with later
 // ones can add so much.
-fn put_place(spot: &Spot, multipliers: Multipliers, shift: u32, hoped: u16, most: &mut Table)
-    requires shift { shift < 32 }
-    requires small { AreSmall spot.now.offer.now.menu.now.courses most.old (spot.now.place + 1)
+fn put_place(spot: &Spot, multipliers: Multipliers, unit: Unit, hoped: u16, most: &mut Table)
+    requires { AreSmall spot.now.offer.now.menu.now.courses most.old (spot.now.place + 1)
         (length spot.now.offer.now.menu.now.places) }
     ensures covers { hoped
         ≡ hopes_from (data_of spot.now.offer.now) (spot.now.place + 1) spot.now.place
-        → HoldsCovers (data_of spot.now.offer.now) multipliers shift most.old (spot.now.place + 1)
-        → HoldsCovers (data_of spot.now.offer.now) multipliers shift most.new spot.now.place }
+        → HoldsCovers (data_of spot.now.offer.now) multipliers unit.shift most.old
+        (spot.now.place + 1)
+        → HoldsCovers (data_of spot.now.offer.now) multipliers unit.shift most.new spot.now.place }
     ensures small { AreSmall spot.now.offer.now.menu.now.courses most.new spot.now.place
         (length spot.now.offer.now.menu.now.places) }
 {
@@ -175,15 +154,22 @@ fn put_place(spot: &Spot, multipliers: Multipliers, shift: u32, hoped: u16, most
     let menu = offer.menu;
     let place = spot.place;
     prove!(place < menu.len());
-    let courses = menu.courses();
     if !offer.allowed.has(menu.rated(place).section) {
-        put_counts(courses, place, place + 1, 0, UNITS, most);
+        let nothing = Gain {
+            value: 0,
+            cost: UNITS,
+        };
+        put_counts(spot, place + 1, nothing, most);
         return;
     }
     let value = thousandths(value_at(spot, multipliers, hoped));
-    let cost = in_units(price_of_place(menu, offer.prices, place), shift);
+    let cost = unit.whole_in(price_of_place(menu, offer.prices, place));
     let next = next_apart(spot, place + 1);
-    put_counts(courses, place, next, value, cost as usize, most);
+    let gain = Gain {
+        value,
+        cost: cost as usize,
+    };
+    put_counts(spot, next, gain, most);
 }
 
 // What is left of a million times the most that a place can add, where its adjustments with later
@@ -234,46 +220,40 @@ fn thousandths(value: u64) -> u32
 // For each count up to the course cap and for each number of units the greater one of what so many
 // later places can add, and of the value with what one fewer can add from the next place on that
 // does not clash.
-fn put_counts(courses: u8, place: u8, next: u8, value: u32, cost: usize, most: &mut Table)
-    requires courses { courses ≤ MAX_COURSES }
-    requires place { place < next }
-    requires next { next ≤ MAX_RATINGS }
-    requires value { value ≤ 65635001 }
-    requires small { (count units : ℕ) → count < courses → units < 64
+fn put_counts(spot: &Spot, next: u8, gain: Gain, most: &mut Table)
+    requires later { spot.now.place < next }
+    requires on_menu { next ≤ length spot.now.offer.now.menu.now.places }
+    requires small { (count units : ℕ) → count < spot.now.offer.now.menu.now.courses → units < 64
         → within_at most.old next count units ≤ 65635001 * count }
-    ensures { IsPlaced courses value cost place next most.old most.new }
+    ensures { IsPlaced spot.now.offer.now.menu.now.courses gain.value gain.cost spot.now.place next
+        most.old most.new }
 {
-    let row = usize::from(place) * COUNTS;
+    let menu = spot.offer.menu;
+    prove!(next <= menu.len());
+    let row = usize::from(spot.place) * COUNTS;
     let after = row + COUNTS;
     let apart = usize::from(next) * COUNTS;
     most[row] = most[after];
-    for count in 1..usize::from(courses) + 1 {
-        put_row(
-            row + count,
-            after + count,
-            apart + count - 1,
-            value,
-            cost,
-            most,
-        );
+    for count in 1..usize::from(menu.courses()) + 1 {
+        put_row(row + count, after + count, apart + count - 1, gain, most);
     }
 }
 
 // Writes a row of the table: for each number of units the greater one of the number of a row behind
 // it, and of the value with that of another where so many units fewer are left.
 #[inline(always)]
-fn put_row(row: usize, later: usize, apart: usize, value: u32, cost: usize, most: &mut Table)
+fn put_row(row: usize, later: usize, apart: usize, gain: Gain, most: &mut Table)
     requires later { row < later }
     requires apart { row < apart }
     requires later_high { later < 549 }
     requires apart_high { apart < 549 }
-    requires value { value ≤ 65635001 }
     requires small { (units : ℕ) → units < 64 → number_at most.old apart units ≤ 525080008 }
-    ensures dear { (units : ℕ) → units < 64 → units < cost
+    ensures dear { (units : ℕ) → units < 64 → units < gain.cost
         → number_at most.new row units ≡ number_at most.old later units }
-    ensures more { (units : ℕ) → units < 64 → cost ≤ units
+    ensures more { (units : ℕ) → units < 64 → gain.cost ≤ units
         → number_at most.new row units
-        ≡ max (number_at most.old later units) (number_at most.old apart (units - cost) + value) }
+        ≡ max (number_at most.old later units)
+        (number_at most.old apart (units - gain.cost) + gain.value) }
     ensures others { (one units : ℕ) → one ≢ row
         → number_at most.new one units ≡ number_at most.old one units }
 {
@@ -282,8 +262,7 @@ fn put_row(row: usize, later: usize, apart: usize, value: u32, cost: usize, most
     put_most_within(
         &behind[later - first],
         &behind[apart - first],
-        value,
-        cost,
+        gain,
         &mut front[row],
     );
 }
@@ -291,23 +270,17 @@ fn put_row(row: usize, later: usize, apart: usize, value: u32, cost: usize, most
 // Writes for each number of units the greater one of the number of a row, and of the value with
 // that of another where so many units fewer are left.
 #[inline(always)]
-fn put_most_within(
-    later: &[u32; UNITS],
-    apart: &[u32; UNITS],
-    value: u32,
-    cost: usize,
-    most: &mut [u32; UNITS],
-)
-    requires value { value ≤ 65635001 }
-    requires small { (units : ℕ) → units < 64 → slice_index apart.now units ≤ 525080008 }
-    ensures dear { (units : ℕ) → units < 64 → units < cost
+fn put_most_within(later: &[u32; UNITS], apart: &[u32; UNITS], gain: Gain, most: &mut [u32; UNITS])
+    requires { (units : ℕ) → units < 64 → slice_index apart.now units ≤ 525080008 }
+    ensures dear { (units : ℕ) → units < 64 → units < gain.cost
         → slice_index most.new units ≡ slice_index later.now units }
-    ensures more { (units : ℕ) → units < 64 → cost ≤ units
+    ensures more { (units : ℕ) → units < 64 → gain.cost ≤ units
         → slice_index most.new units
-        ≡ max (slice_index later.now units) (slice_index apart.now (units - cost) + value) }
+        ≡ max (slice_index later.now units)
+        (slice_index apart.now (units - gain.cost) + gain.value) }
 {
     *most = *later;
-    for units in cost..UNITS {
-        most[units] = later[units].max(apart[units - cost] + value);
+    for units in gain.cost..UNITS {
+        most[units] = later[units].max(apart[units - gain.cost] + gain.value);
     }
 }

@@ -141,7 +141,8 @@ fn prunings<R: Abort>(rt: &R, alloc: Global, case: &Pruned) -> [bool; 3] {
         budget: case.budget,
         allowed: &all,
     };
-    let champion = begun_with(&offer, &Bundle::of(case.champion).expect(rt, "a bundle"));
+    let bundle = Bundle::of(case.champion).expect(rt, "a bundle");
+    let champion = begun_with(&offer, places_in(&menu, &bundle));
     assert_eq!(rt; champion.node.chosen.sections(), case.champion);
     nodes_pruned(rt, &offer, &champion)
 }
@@ -153,7 +154,8 @@ fn nodes_pruned<R: Abort>(rt: &R, offer: &Offer, champion: &SummedNode) -> [bool
     let mut reach = Reach::empty();
     reach.measure(offer);
     let root = SummedNode::root();
-    let with_first = begun_with(offer, &Bundle::empty().with(SectionNo(0)));
+    let first = Bundle::empty().with(SectionNo(0));
+    let with_first = begun_with(offer, places_in(offer.menu, &first));
     assert_eq!(rt; with_first.node.chosen.sections().len(), 1);
     assert!(rt; with_first.node.place <= 1);
     let begin = Step {
@@ -213,7 +215,7 @@ fn the_numbers_of_a_table(rt: HostRuntime) -> Result<(), Fail> {
     assert_eq!(rt; most[1 * COUNTS + 2][0], 85_002);
     assert_eq!(rt; most[0 * COUNTS + 1][0], 60_001);
     assert_eq!(rt; most[0 * COUNTS + 2][0], 105_002);
-    let champion = reach.first_champion(&offer);
+    let champion = begun_with(&offer, reach.drafted(&offer));
     let first_and_third = [SectionNo(0), SectionNo(2)];
     assert_eq!(rt; champion.node.chosen.sections(), first_and_third.as_slice());
     assert_eq!(rt; champion.utility(), 90);

@@ -2,11 +2,9 @@ use Rattle.std.proofs.Common.{◌≤◌, ◌+◌, ◌-◌, ℕ, length, refl, ap
 use Rattle.std.specs.Prelude.{pos, ◌*ℤ◌, ◌<ℤ◌}
 use Rattle.std.specs.Int.{trailing_zeros}
 use Rattle.std.proofs.lemmas.Int.{ints}
-use Rattle.market_units.specs.Totals.{total}
-use Rattle.bundle_rules.proofs.Feasibility.{places_of_rated, utility_by_place}
+use Rattle.bundle_rules.proofs.Feasibility.{utility_by_place}
 use Rattle.bundle_bounds.proofs.Openings.{node_later}
 use Rattle.demand_oracle.specs.Questions.{offer_asked, wanted_in}
-use Rattle.demand_oracle.specs.Reaches.{number_at}
 use Rattle.demand_oracle.specs.SummedNodes.{chosen_of, with_place_of}
 use Rattle.demand_oracle.proofs.Columns.{column_with, hopes_with}
 use Rattle.demand_oracle.proofs.OpenPlaces.{next_open, pruned_at_next}
@@ -24,24 +22,11 @@ added-added-requires c =
 pub invariant_of-step : goal.invariant_of-step
 invariant_of-step c = record { summed_is = c.requires.summed; undecided = c.requires.undecided; on_menu = c.requires.on_menu }
 
-pub hoped_with-hoped-requires-clause-chosen : goal.hoped_with-hoped-requires-clause-chosen
-hoped_with-hoped-requires-clause-chosen c i d low =
-    let menu = c.args.question.now.offer.now.menu.now in
-    let few : length menu.places ≤ 60 = c.requires.question.menu.places.few in
-    let all =
-    rw (← c.places.ensures.value menu (offer_asked c.args.question.now).price c.requires.summed) at
-    (places_of_rated menu (chosen_of c.args.summed.now) c.requires.summed.rated) in
-    let on = all i d low in omega (arith, on)
-
-pub hoped_with-hoped-requires-clause-place : goal.hoped_with-hoped-requires-clause-place
-hoped_with-hoped-requires-clause-place c = let few : length c.args.question.now.offer.now.menu.now.places ≤ 60 = c.requires.question.menu.places.few in omega arith
-
-pub hoped_with-hoped-requires-clause-next : goal.hoped_with-hoped-requires-clause-next
-hoped_with-hoped-requires-clause-next c =
+pub hoped_with-hoped-requires : goal.hoped_with-hoped-requires
+hoped_with-hoped-requires c =
     let opened =
     next_open (offer_asked c.args.question.now) c.requires.question.menu (c.args.place + 1)
     (with_place_of c.args.question.now.offer.now.menu.now c.args.summed.now c.args.place) c.args.apart (search rules) (omega arith) c.requires.word in
-    let few : length c.args.question.now.offer.now.menu.now.places ≤ 60 = c.requires.question.menu.places.few in
     omega (arith, opened.on_menu)
 
 pub returns : goal.returns
@@ -75,8 +60,6 @@ returns c yes_ =
           is_column node;
       hopes_are =
           c.hoped_with-hoped.ensures
-          ∙ ap (λ cs. total (number_at question.reach.now.hopes next) cs + number_at question.reach.now.hopes next place)
-          (c.places.ensures.value menu offer.price c.requires.summed)
           ∙ hopes_with offer c.requires.question.menu summed c.requires.summed place c.requires.undecided c.requires.on_menu question.reach.now.hopes next
           c.requires.question.reach.hopes on node;
       u_is = c.utility_with-utility.ensures.value ∙ sym (utility_by_place menu chosen);

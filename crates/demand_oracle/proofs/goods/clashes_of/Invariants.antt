@@ -7,5 +7,5 @@ use Rattle.demand_oracle.proofs.goods.clashes_of.Given as goal
 abbrev pub invariant-loop-place : goal.invariant-loop-place
 invariant-loop-place l = record {
   whole : length l.words ≡ 60;
-  filled : (p : ℕ) → p < l.place → bit_at l.alone p ≡ 1 → IsWordOf (Clashes l.menu p) (length l.menu.places) (slice_index l.words p);
+  filled : (p : ℕ) → p < l.place → bit_at l.alone p ≡ 1 → IsWordOf (Clashes l.offer.menu.now p) (length l.offer.menu.now.places) (slice_index l.words p);
 }

@@ -10,17 +10,17 @@ pub below-frames-requires-clause-question : goal.below-frames-requires-clause-qu
 below-frames-requires-clause-question c =
     record {
       menu = c.of-goods.ensures.menu;
-      given = c.requires.given;
+      given = c.args.asked.now.on_menu;
       reach = c.measure.ensures;
       goods = c.of-goods.ensures.goods;
     }
 
 pub below-frames-requires-clause-summed : goal.below-frames-requires-clause-summed
-below-frames-requires-clause-summed c = c.root.ensures.summed c.args.offer.now.menu.now (price_in c.args.offer.now.prices.now)
+below-frames-requires-clause-summed c = c.root.ensures.summed c.args.asked.now.offer.now.menu.now (price_in c.args.asked.now.offer.now.prices.now)
 
 pub returns-clause-leads : goal.returns-clause-leads
 returns-clause-leads c =
-    leads_wanted (data_of c.args.offer.now) c.of-goods.ensures.menu (wanted_by c.args.offer.now.menu.now c.args.given) _
+    leads_wanted (data_of c.args.asked.now.offer.now) c.of-goods.ensures.menu (wanted_by c.args.asked.now.offer.now.menu.now c.args.asked.now.given) _
     _ c.first_champion-champion.ensures.champion.takable (rw (c.root.ensures.place, c.root.ensures.chosen) at c.below-frames.ensures.searched)
 
 after_none : {A P Q : Type 0} → (told : Option A) → (P → Q) → IfNone told P → IfNone told Q
@@ -30,6 +30,6 @@ after_none (Some x) f p = p
 pub returns-clause-wanted : goal.returns-clause-wanted
 returns-clause-wanted c =
     after_none c.args.first
-    (λ fits. wanted_at_end (data_of c.args.offer.now) c.of-goods.ensures.menu
-    (wanted_by c.args.offer.now.menu.now c.args.given) _ _ fits (rw (c.root.ensures.place, c.root.ensures.chosen) at c.below-frames.ensures.searched))
+    (λ fits. wanted_at_end (data_of c.args.asked.now.offer.now) c.of-goods.ensures.menu
+    (wanted_by c.args.asked.now.offer.now.menu.now c.args.asked.now.given) _ _ fits (rw (c.root.ensures.place, c.root.ensures.chosen) at c.below-frames.ensures.searched))
     c.first_champion-champion.ensures.wanted

@@ -5,7 +5,6 @@ use Rattle.demand_oracle.proofs.tables.lightest.Goals as goal
 
 pub loop-place-preserved : goal.loop-place-preserved
 loop-place-preserved c = record {
-  high = omega arith;
   lightest = λ one low on. elim (cases_order one c.loop-place.place) [
     | inl same ↦
         subst (λ n. c.lighter-lightest.result ≤ credits_at c.args.offer.now.menu.now.places n) (sym same)
@@ -17,5 +16,5 @@ loop-place-preserved c = record {
   ];
 }
 
-pub returns-clause-lightest : goal.returns-clause-lightest
-returns-clause-lightest c place low on = rw c.from.ensures (c.loop-place.invariant.lightest place (omega arith) on)
+pub returns : goal.returns
+returns c place low on = c.loop-place.invariant.lightest place (omega arith) on

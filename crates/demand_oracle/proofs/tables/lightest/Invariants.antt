@@ -7,7 +7,6 @@ use Rattle.demand_oracle.proofs.tables.lightest.Given as goal
 -- no allowed place so far has fewer credits
 abbrev pub invariant-loop-place : goal.invariant-loop-place
 invariant-loop-place l = record {
-  high : l.lightest ≤ 100;
   lightest : (one : ℕ) → one < l.place → allowed_at (data_of l.offer) one ≡ true
       → l.lightest ≤ credits_at l.offer.menu.now.places one;
 }

@@ -6,11 +6,11 @@ use Rattle.demand_oracle.proofs.tables.put_counts.Given as goal
 abbrev pub invariant-loop-count : goal.invariant-loop-count
 invariant-loop-count l = record {
   whole : length l.most ≡ 549;
-  none : (units : ℕ) → within_at l.most l.place 0 units ≡ within_at l.initial.most (l.place + 1) 0 units;
-  later : (one units : ℕ) → (l.place + 1) * 9 ≤ one → number_at l.most one units ≡ number_at l.initial.most one units;
-  dear : (one units : ℕ) → one + 1 < l.count → units < 64 → units < l.cost
-      → within_at l.most l.place (one + 1) units ≡ within_at l.initial.most (l.place + 1) (one + 1) units;
-  more : (one units : ℕ) → one + 1 < l.count → units < 64 → l.cost ≤ units
-      → within_at l.most l.place (one + 1) units
-      ≡ max (within_at l.initial.most (l.place + 1) (one + 1) units) (within_at l.initial.most l.next one (units - l.cost) + l.value);
+  none : (units : ℕ) → within_at l.most l.spot.place 0 units ≡ within_at l.initial.most (l.spot.place + 1) 0 units;
+  later : (one units : ℕ) → (l.spot.place + 1) * 9 ≤ one → number_at l.most one units ≡ number_at l.initial.most one units;
+  dear : (one units : ℕ) → one + 1 < l.count → units < 64 → units < l.gain.cost
+      → within_at l.most l.spot.place (one + 1) units ≡ within_at l.initial.most (l.spot.place + 1) (one + 1) units;
+  more : (one units : ℕ) → one + 1 < l.count → units < 64 → l.gain.cost ≤ units
+      → within_at l.most l.spot.place (one + 1) units
+      ≡ max (within_at l.initial.most (l.spot.place + 1) (one + 1) units) (within_at l.initial.most l.next one (units - l.gain.cost) + l.gain.value);
 }

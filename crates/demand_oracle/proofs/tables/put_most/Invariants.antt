@@ -6,6 +6,6 @@ use Rattle.demand_oracle.proofs.tables.put_most.Given as goal
 -- the numbers from the last place down to this one are filled
 abbrev pub invariant-loop-place : goal.invariant-loop-place
 invariant-loop-place l = record {
-  filled : HoldsCovers (data_of l.offer) l.multipliers l.shift l.most l.place;
+  filled : HoldsCovers (data_of l.offer) l.multipliers l.unit.shift l.most l.place;
   small : AreSmall l.offer.menu.now.courses l.most l.place (length l.offer.menu.now.places);
 }

@@ -5,6 +5,6 @@ use Rattle.demand_oracle.proofs.tables.put_most_within.Given as goal
 abbrev pub invariant-loop-units : goal.invariant-loop-units
 invariant-loop-units l = record {
   whole : length l.most ≡ 64;
-  dear : (one : ℕ) → one < l.cost → slice_index l.most one ≡ slice_index l.later one;
-  more : (one : ℕ) → l.cost ≤ one → one < l.units → slice_index l.most one ≡ max (slice_index l.later one) (slice_index l.apart (one - l.cost) + l.value);
+  dear : (one : ℕ) → one < l.gain.cost → slice_index l.most one ≡ slice_index l.later one;
+  more : (one : ℕ) → l.gain.cost ≤ one → one < l.units → slice_index l.most one ≡ max (slice_index l.later one) (slice_index l.apart (one - l.gain.cost) + l.gain.value);
 }

@@ -6,5 +6,5 @@ use Rattle.demand_oracle.proofs.tables.put_nothing.Given as goal
 abbrev pub invariant-loop-count : goal.invariant-loop-count
 invariant-loop-count l = record {
   whole : length l.most ≡ 549;
-  nothing : (count units : ℕ) → count < l.count → within_at l.most l.place count units ≡ 0;
+  nothing : (count units : ℕ) → count < l.count → within_at l.most (length l.menu.places) count units ≡ 0;
 }

@@ -1,6 +1,5 @@
 use Rattle.std.proofs.Common.{◌≤◌, ◌*◌, ◌+◌, ◌/◌, ◌^◌, ap, subst, sym, ◌∙◌, arith, length}
 use Rattle.bundle_bounds.specs.Views.{data_of}
-use Rattle.demand_oracle.specs.Reaches.{IsPlaced}
 use Rattle.demand_oracle.proofs.Hoping.{allowed_read}
 use Rattle.demand_oracle.proofs.Covering.{covers_placed, covers_not_placed, small_placed}
 use Rattle.demand_oracle.proofs.tables.put_place.Goals as goal
@@ -12,17 +11,15 @@ returns-then-not-has-clause-covers c is holds =
     let k = c.args.spot.now.place in
     let off =
     allowed_read menu c.args.spot.now.offer.now.prices.now c.args.spot.now.offer.now.budget.0 c.args.spot.now.offer.now.allowed.now k c.rated.result.now c.rated.ensures.value ∙ sym c.has.ensures ∙ c.if-not-has.true in
-    let placed = subst (λ n. IsPlaced n 0 64 k (k + 1) c.args.most.now c.put_counts.new.most) c.courses-courses.ensures c.put_counts.ensures in
-    covers_not_placed offer c.args.multipliers c.args.shift k (k + 1) 0 64 c.args.most.now c.put_counts.new.most c.len.ensures.menu.caps.courses_cap
-    c.args.spot.now.on_menu placed off (omega arith) holds
+    covers_not_placed offer c.args.multipliers c.args.unit.shift k (k + 1) 0 64 c.args.most.now c.put_counts.new.most c.len.ensures.menu.caps.courses_cap
+    c.args.spot.now.on_menu c.put_counts.ensures off (omega arith) holds
 
 pub returns-then-not-has-clause-small : goal.returns-then-not-has-clause-small
 returns-then-not-has-clause-small c =
     let menu = c.args.spot.now.offer.now.menu.now in
     let k = c.args.spot.now.place in
-    let placed = subst (λ n. IsPlaced n 0 64 k (k + 1) c.args.most.now c.put_counts.new.most) c.courses-courses.ensures c.put_counts.ensures in
     small_placed menu.courses 0 64 k (k + 1) (length menu.places) c.args.most.now c.put_counts.new.most c.len.ensures.menu.caps.courses_cap (omega arith)
-    c.args.spot.now.on_menu (omega arith) (omega arith) placed c.requires.small
+    c.args.spot.now.on_menu (omega arith) (omega arith) c.put_counts.ensures c.requires
 
 pub returns-clause-covers : goal.returns-clause-covers
 returns-clause-covers c is holds =
@@ -30,13 +27,12 @@ returns-clause-covers c is holds =
     let offer = data_of c.args.spot.now.offer.now in
     let k = c.args.spot.now.place in
     let v = c.thousandths-value.result in
-    let cost = c.in_units-cost.result in
+    let cost = c.whole_in-cost.result in
     let next = c.next_apart-next.result in
-    let placed = subst (λ n. IsPlaced n v cost k next c.args.most.now c.put_counts-2.new.most) c.courses-courses.ensures c.put_counts-2.ensures in
     let high = subst (λ n. n ≤ 1000 * v) (c.value_at.ensures.value is) c.thousandths-value.ensures.value in
-    let costs = c.in_units-cost.ensures ∙ ap (λ n. n / 2 ^ c.args.shift) c.price_of_place.ensures.value in
-    covers_placed offer c.args.multipliers c.args.shift k next v cost c.args.most.now c.put_counts-2.new.most c.len.ensures.menu.caps.courses_cap c.args.spot.now.on_menu
-    c.next_apart-next.ensures.within c.next_apart-next.ensures.from placed
+    let costs = c.whole_in-cost.ensures ∙ ap (λ n. n / 2 ^ c.args.unit.shift) c.price_of_place.ensures.value in
+    covers_placed offer c.args.multipliers c.args.unit.shift k next v cost c.args.most.now c.put_counts-2.new.most c.len.ensures.menu.caps.courses_cap c.args.spot.now.on_menu
+    c.next_apart-next.ensures.within c.next_apart-next.ensures.from c.put_counts-2.ensures
     c.next_apart-next.ensures.between high costs holds
 
 pub returns-clause-small : goal.returns-clause-small
@@ -44,8 +40,7 @@ returns-clause-small c =
     let menu = c.args.spot.now.offer.now.menu.now in
     let k = c.args.spot.now.place in
     let v = c.thousandths-value.result in
-    let cost = c.in_units-cost.result in
+    let cost = c.whole_in-cost.result in
     let next = c.next_apart-next.result in
-    let placed = subst (λ n. IsPlaced n v cost k next c.args.most.now c.put_counts-2.new.most) c.courses-courses.ensures c.put_counts-2.ensures in
     small_placed menu.courses v cost k next (length menu.places) c.args.most.now c.put_counts-2.new.most c.len.ensures.menu.caps.courses_cap
-    c.thousandths-value.ensures.high c.args.spot.now.on_menu c.next_apart-next.ensures.from c.next_apart-next.ensures.within placed c.requires.small
+    c.thousandths-value.ensures.high c.args.spot.now.on_menu c.next_apart-next.ensures.from c.next_apart-next.ensures.within c.put_counts-2.ensures c.requires

@@ -38,9 +38,9 @@ returns-clause-value c offer chosen is_menu on_menu reach column node bundle may
           let most : ℕ = within_at self.most k at.count at.units in
           let capped : at.count ≤ offer.menu.courses = (let within : at.count ≤ offer.menu.courses - length chosen = column.within in omega arith) in
           let covered =
-          subst (λ n. CoversWithin offer multipliers self.shift k at.count n most) has.units
+          subst (λ n. CoversWithin offer multipliers self.unit.shift k at.count n most) has.units
           (reach.covers k at.count at.units (omega arith) on_menu capped at.low) in
-          let sound = reach_within_is_sound offer multipliers self.shift k chosen bundle at.count most is_menu node may completes fits covered in
+          let sound = reach_within_is_sound offer multipliers self.unit.shift k chosen bundle at.count most is_menu node may completes fits covered in
           let p : ℕ = multipliers.money * budget_left offer cs in
           let l : ℕ = multipliers.credits * credits_left offer cs in
           let sound' : (pos 1000000 *ℤ u) ≤ℤ (h +ℤ pos ((p + l) + 1000 * most)) = sound in

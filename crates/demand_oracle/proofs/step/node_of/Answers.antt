@@ -1,6 +1,6 @@
 use Rattle.std.proofs.Common.{arith}
 use Rattle.bundle_rules.specs.Demand.{price_in}
-use Rattle.demand_oracle.proofs.step.alone.Goals as goal
+use Rattle.demand_oracle.proofs.step.node_of.Goals as goal
 
 pub invariant_of-step : goal.invariant_of-step
 invariant_of-step c = record {
