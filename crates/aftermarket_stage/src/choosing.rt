@@ -9,7 +9,7 @@ ghost use Rattle.aftermarket_stage.specs.Runs.{IsBestAt};
 
 use crate::terms::Terms;
 use budget_draw::raised;
-use bundle_rules::{Bundle, Rated};
+use bundle_rules::{Bundle, Menu, Rated};
 use demand_oracle::{Workspace, demand_from};
 use market_units::{MAX_SECTIONS, NoMemory, SectionNo, SectionSet};
 use std::alloc::Global;
@@ -64,7 +64,7 @@ impl Chooser {
             self.new.known.items }
     {
         let menu = &terms.crowd.menus[place];
-        if self.is_settled(menu.places(), allowed, place) {
+        if self.is_settled(menu, allowed, place) {
             return held[place];
         }
         let budget = raised(terms.crowd.budgets[place], terms.raise);
@@ -83,13 +83,13 @@ impl Chooser {
 
     // Whether the held bundle of the student at this place is known to be the best of sections
     // among which are all of these that are on its menu.
-    fn is_settled(&self, places: &[Rated], allowed: &SectionSet, place: usize) -> bool
-        requires place { place < length self.now.known.items }
-        requires low { All (λ rated. rated.section.0 < MAX_SECTIONS) places.now }
-        ensures { IsTrue result → IsSettled self.now.known.items place places.now allowed.now }
+    fn is_settled(&self, menu: &Menu, allowed: &SectionSet, place: usize) -> bool
+        requires { place < length self.now.known.items }
+        ensures { IsTrue result
+            → IsSettled self.now.known.items place menu.now.places allowed.now }
     {
         match self.known[place] {
-            Some(known) => none_new(places, &known, allowed),
+            Some(known) => none_new(menu.places(), &known, allowed),
             None => false,
         }
     }

@@ -5,7 +5,6 @@
 #![tactic(auto)]
 
 mod choosing;
-mod counts;
 pub mod laws;
 mod passes;
 mod terms;

@@ -5,13 +5,12 @@ ghost use Rattle.demand_api.specs.{Asking.AreSectionPrices, Crowds.demands, Crow
 ghost use Rattle.demand_api.specs.Views.{data_of};
 ghost use Rattle.aftermarket_stage.specs.After.{terms_in, terms_of, turns_of};
 ghost use Rattle.aftermarket_stage.specs.HeldChoices.{Stands};
-ghost use Rattle.aftermarket_stage.specs.{Passes.IsAftermarket, Runs.HasTurned, Runs.HaveTurned};
+ghost use Rattle.aftermarket_stage.specs.{Passes.IsAftermarket, Runs.HaveTurned};
 ghost use Rattle.aftermarket_stage.specs.Turns.{after_turns};
 ghost use Rattle.held_seats.specs.Choices.{AreHeldWithin};
 ghost use Rattle.held_seats.specs.Floors.{held_on};
 
 use crate::choosing::Chooser;
-use crate::counts::narrowed;
 use crate::terms::Terms;
 use crate::{After, Turn};
 use budget_draw::after_order;
@@ -92,7 +91,7 @@ pub fn aftermarket(
 }
 
 impl Stage {
-    // One pass of turns in this order; whether it changed a bundle.
+    // One pass of turns in this order, one of each student; whether it changed a bundle.
     fn run_pass(&mut self, terms: &Terms, order: &[StudentNo], pass: u64) -> Result<bool, NoMemory>
         requires order { All (λ student. student.0 < length terms.now.crowd.now.menus.items)
             order.now }
@@ -108,38 +107,22 @@ impl Stage {
     {
         let mut changed = false;
         for student in order {
-            changed |= self.take_turn(terms, pass, *student)?;
+            let place = usize::from(student.0);
+            let allowed = self.floor.choices(place);
+            let held = &self.floor.held;
+            let bundle = self.chooser.best_at(terms, &allowed, held, place);
+            self.turns.push(Turn {
+                pass,
+                student: *student,
+                allowed,
+                bundle,
+            })?;
+            changed |= self.floor.give(terms.seats, place, bundle);
         }
         Ok(changed)
     }
 
-    // One turn of a student; whether it changed the student's bundle.
-    fn take_turn(&mut self, terms: &Terms, pass: u64, student: StudentNo) -> Result<bool, NoMemory>
-        requires student { student.0 < length terms.now.crowd.now.menus.items }
-        requires stands { Stands (terms_in terms.now) self.old.floor
-            self.old.chooser.known.items }
-        ensures turn { IfOk result
-            (λ changed. HasTurned (terms_in terms.now) pass student.0
-            (held_on self.old.floor) (held_on self.new.floor) self.old.turns.items
-            self.new.turns.items changed) }
-        ensures stands { IfOk result
-            (λ changed. Stands (terms_in terms.now) self.new.floor
-            self.new.chooser.known.items) }
-    {
-        let place = usize::from(student.0);
-        let allowed = self.floor.choices(place);
-        let held = &self.floor.held;
-        let bundle = self.chooser.best_at(terms, &allowed, held, place);
-        self.turns.push(Turn {
-            pass,
-            student,
-            allowed,
-            bundle,
-        })?;
-        Ok(self.floor.give(terms.seats, place, bundle))
-    }
-
-    // What the turns come to.
+    // What the turns come to. Each count is of students, so it fits 16 bits.
     fn close(self, alloc: Global, passes: u64) -> Result<After, NoMemory>
         requires { All (λ count. count ≤ MAX_STUDENTS) self.floor.used.items }
         ensures turns { IfOk result (λ after. after.turns.items ≡ self.turns.items) }
@@ -149,7 +132,10 @@ impl Stage {
     {
         let turns = self.turns;
         let floor = self.floor;
-        let used = narrowed(alloc, &floor.used)?;
+        let mut used = Vec::with_capacity(alloc, floor.used.len())?;
+        for count in &floor.used {
+            used.push(*count as u16)?;
+        }
         Ok(After {
             turns,
             passes,

@@ -13,10 +13,10 @@ use student_roll::Roll;
 // The budget of a base, what is carried over, and a rank.
 fn budget_at(base: u32, carry: u32, spread: u8, rank: usize) -> Tokens
     requires tokens { base + carry ≤ MAX_BASE }
-    requires spread { spread ≤ MAX_SPREAD }
     requires rank { rank < MAX_STUDENTS }
     ensures budget { result.0 ≡ base + carry + spread * rank }
-    ensures range { result.0 ≤ MAX_BASE + MAX_SPREAD * (MAX_STUDENTS - 1) }
+    ensures range { spread ≤ MAX_SPREAD
+        → result.0 ≤ MAX_BASE + MAX_SPREAD * (MAX_STUDENTS - 1) }
 {
     Tokens(base + carry + u32::from(spread) * rank as u32)
 }

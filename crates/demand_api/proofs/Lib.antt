@@ -9,3 +9,4 @@ pub mod Takers
 pub mod Pairs
 pub mod Uncounting
 pub mod Holders
+pub mod Within

@@ -201,10 +201,10 @@ counts_done crowd price i found past are =
     ∙ ap (λ n. map (count crowd price) (places_from 0 n)) same
 
 -- a count has room for one bundle more
-pub counts_room : (n : ℕ) (bundles : List (List ℕ)) (i : ℕ) (found lent : List ℕ) (sections : List SectionNo) (bundle : List ℕ)
-    → AreCounts n (take i bundles) found → lent ≡ found → i ≤ 2000
+pub counts_fit : (n : ℕ) (bundles : List (List ℕ)) (i : ℕ) (found lent : List ℕ) (sections : List SectionNo) (bundle : List ℕ)
+    → AreCounts n (take i bundles) found → lent ≡ found → i < 2147483648
     → ordinals sections ≡ bundle → IsBundle bundle → All (λ n. n + length sections < 4294967296) lent
-counts_room n bundles i found lent sections bundle are same few listed is k d low =
+counts_fit n bundles i found lent sections bundle are same few listed is k d low =
     let size : length found ≡ n = are.len in
     let short : length sections ≤ 8 = sections_few sections bundle listed is in
     let low_found : k < length found = rw same at low in
@@ -212,6 +212,11 @@ counts_room n bundles i found lent sections bundle are same few listed is k d lo
     let here : slice_index found k ≡ holders k (take i bundles) = are.each k (omega arith) in
     let read : slice_index_or lent k d ≡ slice_index found k = rw same (index_same found k d low_found) in
     omega arith
+
+pub counts_room : (n : ℕ) (bundles : List (List ℕ)) (i : ℕ) (found lent : List ℕ) (sections : List SectionNo) (bundle : List ℕ)
+    → AreCounts n (take i bundles) found → lent ≡ found → i ≤ 2000
+    → ordinals sections ≡ bundle → IsBundle bundle → All (λ n. n + length sections < 4294967296) lent
+counts_room n bundles i found lent sections bundle are same few = counts_fit n bundles i found lent sections bundle are same (omega (arith, few))
 
 -- what was lent and written comes back
 pub lent_back : {A : Type 0} (len : ℕ) (new old : List A) → len ≡ length new → take len (new ++ drop (length new) old) ≡ new

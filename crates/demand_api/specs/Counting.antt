@@ -1,5 +1,5 @@
 -- Counts by section, and what one bundle adds to them.
-use Rattle.std.specs.Prelude.{ℕ, ◌≡◌, ◌<◌, ◌+◌, List, length, slice_index, if◌then◌else◌}
+use Rattle.std.specs.Prelude.{ℕ, ◌≡◌, ◌<◌, ◌+◌, true, List, [], length, slice_index, slice_index_or, if◌then◌else◌}
 use Rattle.market_units.specs.Members.{has}
 use Rattle.demand_api.specs.Crowds.{holders}
 
@@ -7,6 +7,10 @@ use Rattle.demand_api.specs.Crowds.{holders}
 abbrev pub HasCounted : List ℕ → List ℕ → List ℕ → ℕ → Type 0
 HasCounted before after bundle s =
     slice_index after s ≡ slice_index before s + (if has bundle s then 1 else 0)
+
+-- each bundle is one of sections below this number
+abbrev pub AreWithin : ℕ → List (List ℕ) → Type 0
+AreWithin sections bundles = (i s : ℕ) → has (slice_index_or bundles i []) s ≡ true → s < sections
 
 -- each section's count so far
 pub record AreCounts (sections : ℕ) (bundles : List (List ℕ)) (counts : List ℕ) : Type 0 where

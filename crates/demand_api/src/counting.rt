@@ -1,9 +1,31 @@
 // Counts of all sections at once.
-ghost use Rattle.std.specs.Prelude.{◌≡◌, ◌<◌, ◌≤◌, ◌+◌, ◌^◌, ℕ, All, length, slice_index};
-ghost use Rattle.bundle_rules.specs.{Ordinals.ordinals, Sets.IsAscending};
-ghost use Rattle.demand_api.specs.Counting.{HasCounted};
+ghost use Rattle.std.specs.Prelude.{◌≡◌, ◌<◌, ◌≤◌, ◌+◌, ◌^◌, ℕ, All, IfOk, length, map, slice_index};
+ghost use Rattle.bundle_rules.specs.{Bundles.sections_of, Ordinals.ordinals, Sets.IsAscending};
+ghost use Rattle.demand_api.specs.Counting.{AreCounts, AreWithin, HasCounted};
 
-use market_units::SectionNo;
+use bundle_rules::Bundle;
+use market_units::{NoMemory, SectionNo};
+use std::alloc::Global;
+
+/// How many of these bundles have each section, by ordinal. The bundles have no sections beyond the
+/// given number of sections, and there are so few that each count fits its type. The one error is
+/// the want of memory.
+pub fn count_bundles(
+    alloc: Global,
+    sections: usize,
+    bundles: &[Bundle],
+) -> Result<Vec<u32>, NoMemory>
+    requires few { length bundles.now < 2 ^ 31 }
+    requires within { AreWithin sections (map sections_of bundles.now) }
+    ensures { IfOk result
+        (λ counts. AreCounts sections (map sections_of bundles.now) counts.items) }
+{
+    let mut counts = vec![in alloc; 0u32; sections]?;
+    for bundle in bundles {
+        count_bundle(&mut counts, bundle.sections());
+    }
+    Ok(counts)
+}
 
 /// Adds one to the count of each section of a bundle. The sections are ascending and have a count,
 /// and no count is so great that it could pass its type.

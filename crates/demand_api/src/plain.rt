@@ -12,13 +12,23 @@ use bundle_rules::{Bundle, best_plain};
 use market_units::{NoMemory, SectionNo, SectionSet, StudentNo, Tokens};
 use std::alloc::Global;
 
+/// A crowd, and prices at which it is asked.
+#[derive(Clone, Copy)]
+pub(crate) struct Priced<'a> {
+    pub(crate) crowd: &'a Crowd,
+    /// By ordinal of the section.
+    pub(crate) prices: &'a [Tokens],
+    pub(crate) ghost priced: { ArePricesFor (data_of crowd.now) prices.now },
+}
+
 // What the student at this place takes, with all sections allowed.
-fn demand(crowd: &Crowd, prices: &[Tokens], allowed: &SectionSet, place: usize) -> Bundle
-    requires prices { ArePricesFor (data_of crowd.now) prices.now }
-    requires allowed { (s : ℕ) → set.contains allowed.now s ≡ nat_lt s crowd.now.sections }
-    requires range { place < length crowd.now.menus.items }
-    ensures { sections_of result ≡ demand_of (data_of crowd.now) (price_in prices.now) place }
+fn demand(asked: &Priced, allowed: &SectionSet, place: usize) -> Bundle
+    requires allowed { (s : ℕ) → set.contains allowed.now s ≡ nat_lt s asked.now.crowd.now.sections }
+    requires range { place < length asked.now.crowd.now.menus.items }
+    ensures { sections_of result
+        ≡ demand_of (data_of asked.now.crowd.now) (price_in asked.now.prices.now) place }
 {
+    let Priced { crowd, prices } = *asked;
     best_plain(&crowd.menus[place], prices, crowd.budgets[place], allowed)
 }
 
@@ -26,21 +36,19 @@ fn demand(crowd: &Crowd, prices: &[Tokens], allowed: &SectionSet, place: usize) 
 /// error is that memory was not given.
 pub(crate) fn bundles(
     alloc: Global,
-    crowd: &Crowd,
-    prices: &[Tokens],
+    asked: &Priced,
     students: &[StudentNo],
 ) -> Result<Vec<Bundle>, NoMemory>
-    requires prices { ArePricesFor (data_of crowd.now) prices.now }
-    requires range { All (λ student. student.0 < length crowd.now.menus.items) students.now }
+    requires { All (λ student. student.0 < length asked.now.crowd.now.menus.items) students.now }
     ensures { IfOk result
         (λ bundles. map sections_of bundles.items
-        ≡ map (λ student. demand_of (data_of crowd.now) (price_in prices.now) student.0)
-        students.now) }
+        ≡ map (λ student. demand_of (data_of asked.now.crowd.now) (price_in asked.now.prices.now)
+        student.0) students.now) }
 {
-    let allowed = SectionSet::full(crowd.sections);
+    let allowed = SectionSet::full(asked.crowd.sections);
     let mut bundles = Vec::new(alloc);
     for student in students {
-        let bundle = demand(crowd, prices, &allowed, usize::from(student.0));
+        let bundle = demand(asked, &allowed, usize::from(student.0));
         bundles.push(bundle)?;
     }
     Ok(bundles)
@@ -48,33 +56,31 @@ pub(crate) fn bundles(
 
 /// For each section, how many students take it at these prices. The only error is that memory was
 /// not given.
-pub(crate) fn counts_at(
-    alloc: Global,
-    crowd: &Crowd,
-    prices: &[Tokens],
-) -> Result<Vec<u32>, NoMemory>
-    requires prices { ArePricesFor (data_of crowd.now) prices.now }
+pub(crate) fn counts_at(alloc: Global, asked: &Priced) -> Result<Vec<u32>, NoMemory>
     ensures { IfOk result
-        (λ found. found.items ≡ counts (data_of crowd.now) (price_in prices.now)) }
+        (λ found. found.items
+        ≡ counts (data_of asked.now.crowd.now) (price_in asked.now.prices.now)) }
 {
+    let crowd = asked.crowd;
     let allowed = SectionSet::full(crowd.sections);
     let mut counts = vec![in alloc; 0u32; usize::from(crowd.sections)]?;
     for place in 0..crowd.menus.len() {
-        let bundle = demand(crowd, prices, &allowed, place);
+        let bundle = demand(asked, &allowed, place);
         count_bundle(&mut counts, bundle.sections());
     }
     Ok(counts)
 }
 
 /// How many students take the section at these prices.
-pub(crate) fn count_of(crowd: &Crowd, prices: &[Tokens], section: SectionNo) -> u32
-    requires prices { ArePricesFor (data_of crowd.now) prices.now }
-    ensures { result ≡ count (data_of crowd.now) (price_in prices.now) section.0 }
+pub(crate) fn count_of(asked: &Priced, section: SectionNo) -> u32
+    ensures { result
+        ≡ count (data_of asked.now.crowd.now) (price_in asked.now.prices.now) section.0 }
 {
+    let crowd = asked.crowd;
     let allowed = SectionSet::full(crowd.sections);
     let mut count = 0;
     for place in 0..crowd.menus.len() {
-        if demand(crowd, prices, &allowed, place).has(section) {
+        if demand(asked, &allowed, place).has(section) {
             count += 1;
         }
     }

@@ -3,7 +3,7 @@ ghost use Rattle.std.specs.Prelude.{◌≡◌};
 ghost use Rattle.std.specs.Arc.{arc_value};
 ghost use Rattle.demand_api.specs.Views.{data_of};
 
-use crate::plain::{bundles, count_of, counts_at};
+use crate::plain::{Priced, bundles, count_of, counts_at};
 use crate::{Crowd, Demands};
 use bundle_rules::Bundle;
 use market_units::{NoMemory, SectionNo, StudentNo, Tokens};
@@ -53,7 +53,7 @@ impl Demands for PlainDemands {
         let crowd: &Crowd = &self.crowd;
         let mut found = Vec::new(alloc);
         for prices in batch {
-            let counts = counts_at(alloc, crowd, prices)?;
+            let counts = counts_at(alloc, &Priced { crowd, prices })?;
             found.push(counts)?;
         }
         Ok(found)
@@ -67,7 +67,8 @@ impl Demands for PlainDemands {
         students: &[StudentNo],
     ) -> Result<Vec<Bundle>, NoMemory> {
         self.asked = self.asked.saturating_add(1);
-        bundles(alloc, &self.crowd, prices, students)
+        let crowd: &Crowd = &self.crowd;
+        bundles(alloc, &Priced { crowd, prices }, students)
     }
 
     fn exceeds<R: Threads + Wait + Sync>(
@@ -79,6 +80,7 @@ impl Demands for PlainDemands {
         limit: u32,
     ) -> Result<bool, NoMemory> {
         self.asked = self.asked.saturating_add(1);
-        Ok(count_of(&self.crowd, prices, section) > limit)
+        let crowd: &Crowd = &self.crowd;
+        Ok(count_of(&Priced { crowd, prices }, section) > limit)
     }
 }

@@ -16,7 +16,7 @@ use Rattle.bundle_rules.specs.Ordinals.{ordinals}
 use Rattle.bundle_rules.specs.Places.{places_from}
 use Rattle.bundle_rules.specs.Existence.Members.{has-cases}
 use Rattle.demand_api.specs.Crowds.{holders}
-use Rattle.demand_api.specs.Counting.{AreCounts, HasCounted}
+use Rattle.demand_api.specs.Counting.{AreCounts, AreWithin, HasCounted}
 use Rattle.demand_api.proofs.Takers.{listed_in, holders_few, index_same, lent_back, listed_by_place}
 use Rattle.held_seats.specs.Choices.{is_free, may_choose}
 use Rattle.held_seats.specs.Floors.{AreBelow}
@@ -136,6 +136,13 @@ listed_at held i item low is = ap sections_of is ∙ sym (get_or-map sections_of
 pub below_item : (n : ℕ) (held : List Bundle) (i : ℕ) (item : Bundle) → AreBelow n (map sections_of held) → i < length held → item ≡ slice_index_or held i item
     → (s : ℕ) → has (sections_of item) s ≡ true → s < n
 below_item n held i item below low is = below_at n (map sections_of held) i (sections_of item) below (there_at held i item low is)
+
+-- bundles that are each of sections below a number are so at each place
+pub below_within : (n : ℕ) (bundles : List (List ℕ)) → AreBelow n bundles → AreWithin n bundles
+below_within n [] below i s in_it = absurd (false≢true in_it)
+below_within n (x ∷ xs) below zero s in_it = below 0 x (omega arith) s in_it
+below_within n (x ∷ xs) below (suc i) s in_it =
+    below_within n xs (λ k d low. below (suc k) d (let h : suc k < suc (length xs) = omega arith in h)) i s in_it
 
 -- a greater bound
 pub below_more : (n m : ℕ) (bundles : List (List ℕ)) → n ≤ m → AreBelow n bundles → AreBelow m bundles

@@ -1,34 +1,10 @@
-// How many students hold each section, and which sections are free.
-ghost use Rattle.std.specs.Prelude.{◌≡◌, ◌<◌, ◌≤◌, ◌||◌, ℕ, IfOk, All, length, map, nat_lt, slice_index, if◌then◌else◌};
+// Which sections are free.
+ghost use Rattle.std.specs.Prelude.{◌≡◌, ◌<◌, ◌≤◌, ◌||◌, ℕ, All, length, nat_lt, slice_index, if◌then◌else◌};
 ghost use Rattle.std.specs.FinSet as set;
 ghost use Rattle.market_units.specs.{Members.has, declared.limits.TheConstants.MAX_SECTIONS};
-ghost use Rattle.bundle_rules.specs.{Bundles.sections_of, Ordinals.ordinals};
-ghost use Rattle.demand_api.specs.Counting.{AreCounts};
-ghost use Rattle.held_seats.specs.Floors.{AreBelow};
+ghost use Rattle.bundle_rules.specs.Ordinals.{ordinals};
 
-use bundle_rules::Bundle;
-use demand_api::count_bundle;
-use market_units::{MAX_STUDENTS, NoMemory, SectionNo, SectionSet};
-use std::alloc::Global;
-
-/// How many of these bundles have each section, by ordinal. The only error is that memory was
-/// wanted and not given.
-pub(crate) fn count_all(
-    alloc: Global,
-    sections: usize,
-    bundles: &[Bundle],
-) -> Result<Vec<u32>, NoMemory>
-    requires few { length bundles.now ≤ MAX_STUDENTS }
-    requires below { AreBelow sections (map sections_of bundles.now) }
-    ensures { IfOk result
-        (λ counts. AreCounts sections (map sections_of bundles.now) counts.items) }
-{
-    let mut counts = vec![in alloc; 0u32; sections]?;
-    for bundle in bundles {
-        count_bundle(&mut counts, bundle.sections());
-    }
-    Ok(counts)
-}
+use market_units::{SectionNo, SectionSet};
 
 /// How many students hold each section, and how many seats it has, by ordinal. There are at most
 /// 400 sections.

@@ -6,9 +6,9 @@ ghost use Rattle.bundle_rules.specs.Bundles.{sections_of};
 ghost use Rattle.held_seats.specs.Choices.{may_choose};
 ghost use Rattle.held_seats.specs.Floors.{AreBelow, IsFloor, held_on};
 
-use crate::counts::{Filled, count_all, free_sections, freed, with_all};
+use crate::counts::{Filled, free_sections, freed, with_all};
 use bundle_rules::Bundle;
-use demand_api::{count_bundle, uncount_bundle};
+use demand_api::{count_bundle, count_bundles, uncount_bundle};
 use market_units::{MAX_SECTIONS, MAX_STUDENTS, NoMemory, SectionSet};
 use std::alloc::Global;
 
@@ -33,7 +33,7 @@ impl Floor {
         ensures held { IfOk result (λ floor. held_on floor ≡ map sections_of bundles.now) }
         ensures floor { IfOk result (λ floor. IsFloor seats.now floor) }
     {
-        let used = count_all(alloc, seats.len(), bundles)?;
+        let used = count_bundles(alloc, seats.len(), bundles)?;
         let filled = Filled {
             counts: &used,
             seats,

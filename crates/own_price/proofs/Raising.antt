@@ -13,14 +13,14 @@ use Rattle.bundle_rules.specs.Menus.{wishes_of}
 use Rattle.bundle_rules.specs.Places.{places_from}
 use Rattle.bundle_rules.specs.Demand.{price_in}
 use Rattle.bundle_rules.proofs.BestValue.{best-is, best-only}
-use Rattle.demand_api.specs.Crowds.{Student, CrowdData, top, demand, demands, demand_of}
+use Rattle.demand_api.specs.Crowds.{Student, CrowdData, IsCrowd, top, demand, demands, demand_of}
 use Rattle.demand_api.specs.Prices.{IsRaised}
 use Rattle.demand_api.specs.Asking.{ArePricesFor}
 use Rattle.demand_api.proofs.Keeping.{best_without_stays}
 use Rattle.demand_api.proofs.Halving.{price_kept, price_written}
 use Rattle.demand_api.proofs.Takers.{demand_within}
 use Rattle.own_price.specs.Holding.{HeldData, Holds}
-use Rattle.own_price.specs.Kept.{AreWithin}
+use Rattle.demand_api.specs.Counting.{AreWithin}
 use Rattle.own_price.specs.Exchanges.{exchanged, IsListed, AreHolders}
 use Rattle.own_price.proofs.Exchanging.{exchanged_wanted}
 
@@ -133,6 +133,13 @@ all_count students n are = sym (length-map students (λ student. student.0)) ∙
     long : (first m : ℕ) → length (places_from first m) ≡ m
     long first zero = refl
     long first (suc m) = omega (arith, long (suc first) m)
+
+-- and so at most 2,000 bundles are told
+pub all_few : (crowd : CrowdData) (price : ℕ → ℕ) (students : List StudentNo) (others : List Bundle) (n : ℕ) → IsCrowd crowd → n ≡ length crowd.students
+    → map (λ student. student.0) students ≡ places_from 0 n → map sections_of others ≡ map (λ student. demand_of crowd price student.0) students
+    → length others ≤ 2000
+all_few crowd price students others n is long are told =
+    omega (arith, is.few, long, all_count students n are, others_length crowd price students others told)
 
 pub all_range : (students : List StudentNo) (n m : ℕ) → map (λ student. student.0) students ≡ places_from 0 n → m ≡ n → All (λ student. student.0 < m) students
 all_range students n m are same = rw same (subst (λ t. All (λ student. student.0 < t) students) (let e : 0 + n ≡ n = omega arith in e) (below students 0 n are))

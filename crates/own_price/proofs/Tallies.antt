@@ -14,22 +14,8 @@ use Rattle.demand_api.specs.Crowds.{holders}
 use Rattle.demand_api.specs.Counting.{AreCounts, HasCounted}
 use Rattle.demand_api.proofs.Holders.{holders_set}
 use Rattle.demand_api.proofs.Takers.{holders_few, listed_in, sections_few, index_same}
-use Rattle.own_price.specs.Kept.{AreWithin, IsTally}
-
--- the sections of the bundle at a place
-pub read_at : (bundles : List Bundle) (i : ℕ) (bundle : Bundle) → i < length bundles → bundle ≡ slice_index_or bundles i bundle
-    → slice_index_or (map sections_of bundles) i [] ≡ sections_of bundle
-read_at bundles i bundle low is = get_or-map sections_of bundles i bundle [] low ∙ ap sections_of (sym is)
-
--- sections of a bundle at a place are below the number
-pub within_at : (n : ℕ) (bundles : List Bundle) (i : ℕ) (bundle : Bundle) → AreWithin n (map sections_of bundles) → i < length bundles
-    → bundle ≡ slice_index_or bundles i bundle → (s : ℕ) → has (sections_of bundle) s ≡ true → s < n
-within_at n bundles i bundle within low is s has_it = within i s (ap (λ b. has b s) (read_at bundles i bundle low is) ∙ has_it)
-
-pub sections_below : (n m : ℕ) (sections : List SectionNo) (bundle : List ℕ) → ordinals sections ≡ bundle → ((s : ℕ) → has bundle s ≡ true → s < n) → m ≡ n
-    → All (λ section. section.0 < m) sections
-sections_below n m sections bundle listed within same k d low =
-    rw same (within (slice_index_or sections k d).0 (ap (λ b. has b (slice_index_or sections k d).0) (sym listed) ∙ listed_in sections k d low))
+use Rattle.demand_api.proofs.Within.{read_at, within_at}
+use Rattle.own_price.specs.Kept.{IsTally}
 
 -- 1 for true, 0 for false
 abbrev one_if : Bool → ℕ
@@ -112,16 +98,6 @@ tally_exchanged n bundles counts mid after i bundle other old new tally low is h
           let apart : j ≢ i = λ e. grind (arith, nat_tests) in
           tally.within j s (ap (λ b. has b s) (sym (get_or-set_other (map sections_of bundles) i j (sections_of other) [] apart)) ∙ has_it)
     ]
-
--- a tally of all bundles
-pub tally_done : (n : ℕ) (bundles : List Bundle) (i : ℕ) (counts : List ℕ) → length bundles ≤ 2000 → AreWithin n (map sections_of bundles) → length bundles ≤ i
-    → AreCounts n (take i (map sections_of bundles)) counts → IsTally n bundles counts
-tally_done n bundles i counts few within past are = record {
-  few = few;
-  within = within;
-  len = are.len;
-  each = λ s in_range. are.each s in_range ∙ ap (holders s) (take_all i (map sections_of bundles) (rw (length-map bundles sections_of) past));
-}
 
 -- no count passes the number of bundles
 pub count_few : (n : ℕ) (bundles : List Bundle) (counts : List ℕ) (s d : ℕ) → IsTally n bundles counts → s < n → slice_index_or counts s d ≤ 2000

@@ -2,13 +2,13 @@
 ghost use Rattle.std.specs.Prelude.{◌≡◌, ◌<◌, ◌≤◌, IfOk, IfErr, length, map, slice_set};
 ghost use Rattle.bundle_rules.specs.{Bundles.sections_of, Demand.price_in};
 ghost use Rattle.demand_api.specs.{Asking.ArePricesFor, Crowds.IsCrowd, Crowds.top, Crowds.holders};
-ghost use Rattle.own_price.specs.Holding.{Holds};
+ghost use Rattle.own_price.specs.{Exchanges.AreHolders, Holding.Holds};
 
-use crate::exchange::{exchange_all, tally};
-use crate::holders::{all_students, holders};
+use crate::exchange::exchange_all;
+use crate::students::all_students;
 use bundle_rules::Bundle;
-use demand_api::Demands;
-use market_units::{MAX_STUDENTS, NoMemory, SectionNo, Tokens};
+use demand_api::{Demands, count_bundles};
+use market_units::{MAX_STUDENTS, NoMemory, SectionNo, StudentNo, Tokens};
 use std::alloc::Global;
 use std::marker::Model;
 use std::sync::Wait;
@@ -55,7 +55,7 @@ impl Held {
     {
         let students = all_students(alloc, demands.students())?;
         let bundles = demands.bundles(rt, alloc, prices, &students)?;
-        let counts = tally(alloc, prices.len(), &bundles)?;
+        let counts = count_bundles(alloc, prices.len(), &bundles)?;
         let prices = prices.to_vec(alloc)?;
         Ok(Held {
             prices,
@@ -108,7 +108,7 @@ impl Held {
         ensures bundles { IfOk result (λ done. Holds (D.crowd demands.old) self.new) }
         ensures unchanged { IfErr result (λ error. self.new ≡ self.old) }
     {
-        let students = holders(alloc, &self.bundles, section)?;
+        let students = self.holders(alloc, section)?;
         let place = usize::from(section.0);
         let before = self.prices[place];
         self.prices[place] = price;
@@ -122,5 +122,20 @@ impl Held {
                 Err(NoMemory)
             }
         }
+    }
+    // The students whose bundle has the section, in file order. One pass over the bundles is little
+    // beside the holders' demands, and a table of holders would want memory while bundles are
+    // exchanged.
+    fn holders(&self, alloc: Global, section: SectionNo) -> Result<Vec<StudentNo>, NoMemory>
+        ensures { IfOk result
+            (λ students. AreHolders section.0 self.now.bundles students.items) }
+    {
+        let mut students = Vec::new(alloc);
+        for place in 0..self.bundles.len() {
+            if self.bundles[place].has(section) {
+                students.push(StudentNo(place as u16))?;
+            }
+        }
+        Ok(students)
     }
 }

@@ -6,9 +6,9 @@
 
 mod exchange;
 mod held;
-mod holders;
 pub mod laws;
 mod least;
+mod students;
 
 pub use held::Held;
 pub use least::least_price;

@@ -1,28 +1,27 @@
 // Vectors in which every price makes a step.
-ghost use Rattle.std.specs.Prelude.{◌≡◌, ◌≤◌, pos, nat_abs, ◌*ℤ◌, ◌++◌, IfOk, map, slice_index};
-ghost use Rattle.clearing_error.specs.Errors.{excess};
-ghost use Rattle.price_neighbours.specs.Neighbours.{stepped_price, stepped};
+ghost use Rattle.std.specs.Prelude.{◌≡◌, ◌≤◌, pos, nat_abs, ◌+ℤ◌, ◌*ℤ◌, ◌++◌, IfOk, map, slice_index};
+ghost use Rattle.price_neighbours.specs.Neighbours.{cut, stepped};
 
 use crate::taken::Taken;
 use clearing_error::excess;
-use market_units::{MAX_STUDENTS, NoMemory, Tokens};
+use market_units::{NoMemory, Tokens};
 use std::alloc::Global;
 
-// So many times the section's excess.
-fn change(count: u32, seats: u16, step: u32) -> i64
-    requires { count ≤ MAX_STUDENTS }
-    ensures value { result ≡ pos step *ℤ excess count seats }
+// So many times an excess.
+fn change(excess: i32, step: u32) -> i64
+    requires { nat_abs excess ≤ 65535 }
+    ensures value { result ≡ pos step *ℤ excess }
     ensures small { nat_abs result ≤ 281470681677825 }
 {
-    i64::from(step) * i64::from(excess(count, seats))
+    i64::from(step) * i64::from(excess)
 }
 
-// The price plus so many times the section's excess, cut to the range 0 to the top.
-fn stepped_price(top: Tokens, price: Tokens, count: u32, seats: u16, step: u32) -> Tokens
-    requires { count ≤ MAX_STUDENTS }
-    ensures { result.0 ≡ stepped_price top.0 price.0 count seats step }
+// The price with a change, cut to the range 0 to the top.
+fn changed(top: Tokens, price: Tokens, change: i64) -> Tokens
+    requires { nat_abs change ≤ 281470681677825 }
+    ensures { result.0 ≡ cut top.0 (pos price.0 +ℤ change) }
 {
-    let moved = i64::from(price.0) + change(count, seats, step);
+    let moved = i64::from(price.0) + change;
     Tokens(moved.clamp(0, i64::from(top.0)) as u32)
 }
 
@@ -40,8 +39,8 @@ fn stepped(alloc: Global, top: Tokens, taken: &Taken, step: u32) -> Result<Vec<T
     } = *taken;
     let mut moved = Vec::with_capacity(alloc, prices.len())?;
     for place in 0..prices.len() {
-        let price = stepped_price(top, prices[place], counts[place], seats[place], step);
-        moved.push(price)?;
+        let excess = excess(counts[place], seats[place]);
+        moved.push(changed(top, prices[place], change(excess, step)))?;
     }
     Ok(moved)
 }

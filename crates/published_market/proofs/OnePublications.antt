@@ -5,7 +5,7 @@ use Rattle.std.specs.List.{AllZip}
 use Rattle.market_units.specs.declared.units.Tokens.{Tokens}
 use Rattle.bundle_rules.specs.Demand.{price_in}
 use Rattle.demand_api.specs.Crowds.{CrowdData, Student}
-use Rattle.tabu_search.specs.Laws.{NotBothAreSearched, OneIsFound, OneLeastError as OneSearchedError}
+use Rattle.tabu_search.specs.Laws.{NotBothAreSearched, OneIsFound, OneSearchedError}
 use Rattle.tabu_search.specs.Search.{FindsNone}
 use Rattle.oversubscription_stage.specs.Rounds.{IsSettled}
 use Rattle.aftermarket_stage.specs.Laws.{OneAftermarket}

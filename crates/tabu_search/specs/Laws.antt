@@ -32,8 +32,8 @@ OneIsFound =
     → (one ≡ other) × (error ≡ error') × (turns ≡ turns')
 
 -- and where none are found, there is only one least error
-abbrev pub OneLeastError : Type 0
-OneLeastError =
+abbrev pub OneSearchedError : Type 0
+OneSearchedError =
     (crowd : CrowdData) (seats : List ℕ) (settings : Settings) (least least' : ℕ)
     → FindsNone crowd seats settings least → FindsNone crowd seats settings least' → least ≡ least'
 

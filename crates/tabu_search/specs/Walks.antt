@@ -16,6 +16,11 @@ pub record IsVisit (crowd : CrowdData) (seats : List ℕ) (visit : Visit) : Type
   pub counts : visit.counts.items ≡ counts_at crowd visit.prices.items
   pub error : visit.error ≡ error_at crowd seats visit.prices.items
 
+-- a crowd, with one seat number for each section
+pub record IsSeated (crowd : CrowdData) (seats : List ℕ) : Type 0 where
+  pub known : IsCrowd crowd
+  pub each : length seats ≡ crowd.sections
+
 -- the visit with which a search of this crowd starts, that to the price 0 for each section; there is
 -- one seat number for each section
 pub record IsStart (crowd : CrowdData) (seats : List ℕ) (visit : Visit) : Type 0 where

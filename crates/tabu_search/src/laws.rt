@@ -1,5 +1,5 @@
 //! What holds of the search: each call here does nothing, and its contract is a law.
-ghost use Rattle.tabu_search.specs.Laws.{SearchEnds, NotBothAreSearched, OneIsFound, OneLeastError, VisitedArePrices};
+ghost use Rattle.tabu_search.specs.Laws.{SearchEnds, NotBothAreSearched, OneIsFound, OneSearchedError, VisitedArePrices};
 
 /// The search finds prices, or finds none with some least error.
 pub fn search_ends()
@@ -18,7 +18,7 @@ pub fn one_is_found()
 
 /// Where it finds none, there is only one least error.
 pub fn one_least_error()
-    ensures { OneLeastError }
+    ensures { OneSearchedError }
 {}
 
 /// Each visited vector has a price for each section, each at most the top.

@@ -1,7 +1,7 @@
 // A visit to a vector of prices.
-ghost use Rattle.std.specs.Prelude.{◌≡◌, IfOk, length};
-ghost use Rattle.demand_api.specs.{Asking.ArePricesFor, Crowds.IsCrowd};
-ghost use Rattle.tabu_search.specs.Walks.{IsVisit};
+ghost use Rattle.std.specs.Prelude.{◌≡◌, IfOk};
+ghost use Rattle.demand_api.specs.Asking.{ArePricesFor};
+ghost use Rattle.tabu_search.specs.Walks.{IsSeated, IsVisit};
 
 use clearing_error::error;
 use demand_api::Demands;
@@ -27,8 +27,7 @@ pub(crate) fn visit_at<R: Threads + Wait + Sync, D: Demands>(
     seats: &[u16],
     prices: Vec<Tokens>,
 ) -> Result<Visit, NoMemory>
-    requires known { IsCrowd (D.crowd demands.old) }
-    requires seats { length seats.now ≡ (D.crowd demands.old).sections }
+    requires seated { IsSeated (D.crowd demands.old) seats.now }
     requires prices { ArePricesFor (D.crowd demands.old) prices.items }
     ensures crowd { D.crowd demands.new ≡ D.crowd demands.old }
     ensures prices { IfOk result (λ visit. visit.prices.items ≡ prices.items) }

@@ -109,15 +109,14 @@ impl Walk {
     /// Whether another turn follows: the error of the current vector is above the accepted one, and
     /// fewer turns were made than the settings allow.
     pub(crate) fn goes_on(&self, settings: &Settings) -> bool
-        ensures value { IsTrue result ↔ (settings.now.accept < self.now.current.error)
+        ensures { IsTrue result ↔ (settings.now.accept < self.now.current.error)
             × (self.now.turns < settings.now.turns) }
-        ensures room { IsTrue result → self.now.turns + 1 < 2 ^ 32 }
     {
         self.current.error > settings.accept && self.turns < settings.turns
     }
 
-    /// Makes one turn: moves to the chosen neighbour or, where there is none, to the drawn prices
-    /// of the next restart.
+    /// Makes one turn, where the settings allow another: moves to the chosen neighbour or, where
+    /// there is none, to the drawn prices of the next restart.
     pub(crate) fn turn<R: Threads + Wait + Sync, D: Demands>(
         self,
         rt: &R,
@@ -127,11 +126,12 @@ impl Walk {
         settings: &Settings,
     ) -> Result<Walk, NoMemory>
         requires walk { IsWalk (D.crowd demands.old) seats.now settings.now self }
-        requires turns { self.turns + 1 < 2 ^ 32 }
+        requires turns { self.turns < settings.now.turns }
         ensures crowd { D.crowd demands.new ≡ D.crowd demands.old }
         ensures walk { IfOk result (IsWalk (D.crowd demands.old) seats.now settings.now) }
         ensures turns { IfOk result (λ walk. walk.turns ≡ self.turns + 1) }
     {
+        prove!(self.turns < settings.turns);
         match self.chosen(rt, alloc, demands, seats, settings)? {
             Some(visit) => {
                 let stale = self.stale_after(visit.error);

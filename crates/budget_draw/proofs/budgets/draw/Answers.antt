@@ -57,7 +57,7 @@ loop-student-preserved c =
       range =
           rw pushed
           (All-push (λ (budget : Tokens). budget.0 ≤ 997951) c.loop-student.drawn.items c.budget_at.result c.loop-student.invariant.range
-          c.budget_at.ensures.range);
+          (c.budget_at.ensures.range c.requires));
     }
 
 pub returns-clause-budgets : goal.returns-clause-budgets

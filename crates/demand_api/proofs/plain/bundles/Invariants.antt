@@ -8,5 +8,5 @@ use Rattle.demand_api.proofs.plain.bundles.Given as goal
 abbrev pub invariant-loop-student : goal.invariant-loop-student
 invariant-loop-student l =
     map sections_of l.bundles.items
-    ≡ map (λ student. demand_of (data_of l.crowd) (price_in l.prices) student.0)
+    ≡ map (λ student. demand_of (data_of l.asked.crowd.now) (price_in l.asked.prices.now) student.0)
     (take l.student-index l.students)

@@ -6,5 +6,5 @@ use Rattle.demand_api.proofs.plain.count_of.Given as goal
 
 abbrev pub invariant-loop-place : goal.invariant-loop-place
 invariant-loop-place l =
-    (l.count ≡ holders l.section.0 (take l.place (demands (data_of l.crowd) (price_in l.prices))))
+    (l.count ≡ holders l.section.0 (take l.place (demands (data_of l.asked.crowd.now) (price_in l.asked.prices.now))))
     × (l.count ≤ l.place)

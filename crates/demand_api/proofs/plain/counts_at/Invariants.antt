@@ -7,4 +7,4 @@ use Rattle.demand_api.proofs.plain.counts_at.Given as goal
 
 abbrev pub invariant-loop-place : goal.invariant-loop-place
 invariant-loop-place l =
-    AreCounts l.crowd.sections (take l.place (demands (data_of l.crowd) (price_in l.prices))) l.counts.items
+    AreCounts l.asked.crowd.now.sections (take l.place (demands (data_of l.asked.crowd.now) (price_in l.asked.prices.now))) l.counts.items

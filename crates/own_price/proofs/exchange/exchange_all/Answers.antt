@@ -4,7 +4,8 @@ use Rattle.market_units.specs.Members.{has}
 use Rattle.bundle_rules.specs.Bundles.{sections_of}
 use Rattle.bundle_rules.specs.Ordinals.{ordinals}
 use Rattle.own_price.specs.Exchanges.{exchanged}
-use Rattle.own_price.proofs.Tallies.{within_at, sections_below, sections_some, tally_room, tally_exchanged}
+use Rattle.demand_api.proofs.Within.{within_at, sections_below}
+use Rattle.own_price.proofs.Tallies.{sections_some, tally_room, tally_exchanged}
 use Rattle.own_price.proofs.Exchanging.{exchanged_more}
 use Rattle.own_price.proofs.exchange.exchange_all.Goals as goal
 

@@ -22,13 +22,13 @@ long g c = length_counts (g.D.Demands.crowd c.args.demands.now) (price_in c.args
 pub error-error-requires-clause-counts : goal.error-error-requires-clause-counts
 error-error-requires-clause-counts g c =
     rw c.deref-3.ensures.value
-    (counts_few (g.D.Demands.crowd c.args.demands.now) (price_in c.args.prices.items) c.in_ok-counts.counts.items c.requires.known (counted g c))
+    (counts_few (g.D.Demands.crowd c.args.demands.now) (price_in c.args.prices.items) c.in_ok-counts.counts.items c.requires.seated.known (counted g c))
 
 pub error-error-requires-clause-few : goal.error-error-requires-clause-few
-error-error-requires-clause-few g c = rw c.deref-3.ensures.value (let size = long g c in omega (arith, size, c.requires.known.sections))
+error-error-requires-clause-few g c = rw c.deref-3.ensures.value (let size = long g c in omega (arith, size, c.requires.seated.known.sections))
 
 pub error-error-requires-clause-seats : goal.error-error-requires-clause-seats
-error-error-requires-clause-seats g c = c.requires.seats ∙ sym (long g c) ∙ ap length (sym c.deref-3.ensures.value)
+error-error-requires-clause-seats g c = c.requires.seated.each ∙ sym (long g c) ∙ ap length (sym c.deref-3.ensures.value)
 
 pub error-error-requires-clause-prices : goal.error-error-requires-clause-prices
 error-error-requires-clause-prices g c =

@@ -1,4 +1,4 @@
-use Rattle.std.proofs.Common.{◌<◌, ◌≤◌, length, map, All, arith, rules}
+use Rattle.std.proofs.Common.{◌<◌, ◌≤◌, length, map, All, arith, refl, rules}
 use Rattle.std.specs.FinSet as set
 use Rattle.bundle_rules.specs.Bundles.{sections_of}
 use Rattle.market_units.specs.declared.units.Tokens.{Tokens}
@@ -9,16 +9,13 @@ use Rattle.aftermarket_stage.proofs.Crowding.{best_found, menu_priced}
 use Rattle.aftermarket_stage.proofs.Knowing.{known_asked, known_kept, settled_best}
 use Rattle.aftermarket_stage.proofs.choosing.Chooser.best_at.Goals as goal
 
-pub is_settled-requires-clause-low : goal.is_settled-requires-clause-low
-is_settled-requires-clause-low c = rw c.places.ensures.value (λ k d low. (c.places.ensures.menu.places.each k d low).section)
-
 pub returns-then-is_settled-clause-best : goal.returns-then-is_settled-clause-best
 returns-then-is_settled-clause-best c =
     let low : c.args.place < length c.args.held.now = omega (arith, c.requires.place, c.requires.students) in
     settled_best c.args.terms.now.crowd.now c.args.terms.now.seats.now c.args.terms.now.prices.now c.args.terms.now.raise c.args.place
     (map sections_of c.args.held.now) c.args.self.now.known.items
-    c.index-menu.result.now c.places.result.now c.args.allowed.now (sections_of c.index-held-place.result)
-    c.requires.place c.index-menu.ensures c.places.ensures.value
+    c.index-menu.result.now c.index-menu.result.now.places c.args.allowed.now (sections_of c.index-held-place.result)
+    c.requires.place c.index-menu.ensures refl
     (there_at c.args.held.now c.args.place c.index-held-place.result low c.index-held-place.is) c.requires.held c.requires.known
     (c.is_settled.ensures c.if-is_settled.true)
 

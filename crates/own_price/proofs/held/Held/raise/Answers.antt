@@ -13,8 +13,8 @@ pub bundles-requires-clause-range : goal.bundles-requires-clause-range
 bundles-requires-clause-range g c =
     let crowd = g.D.Demands.crowd c.args.demands.now in
     let held = subst (λ held. Holds crowd held) (sym c.self.view_is) c.requires.held in
-    let are = subst (λ bs. AreHolders c.args.section.0 (map sections_of bs) c.in_ok-students.students.items) c.deref.ensures.value c.in_ok-students.ensures in
-    rw c.deref-3.ensures.value
+    let are = subst (λ held. AreHolders c.args.section.0 held.bundles c.in_ok-students.students.items) (sym c.self.view_is) c.in_ok-students.ensures in
+    rw c.deref-2.ensures.value
     (subst (λ n. All (λ student. student.0 < n) c.in_ok-students.students.items)
     (ap length held.bundles ∙ students_demands crowd (price_in c.self.inside.prices.items)) are.range)
 
@@ -22,20 +22,20 @@ pub exchange_all-requires-clause-same : goal.exchange_all-requires-clause-same
 exchange_all-requires-clause-same g c =
     let crowd = g.D.Demands.crowd c.args.demands.now in
     let told =
-    subst (λ ss. map sections_of c.in-Ok.bundles.items ≡ map (λ student. demand_of crowd (price_in c.deref-2.result.now) student.0) ss)
-    c.deref-3.ensures.value c.in-Ok.ensures.value in
+    subst (λ ss. map sections_of c.in-Ok.bundles.items ≡ map (λ student. demand_of crowd (price_in c.deref.result.now) student.0) ss)
+    c.deref-2.ensures.value c.in-Ok.ensures.value in
     rw (c.deref-in-Ok-2.ensures.value, c.deref-in-Ok.ensures.value)
-    (others_length crowd (price_in c.deref-2.result.now) c.in_ok-students.students.items c.in-Ok.bundles.items told)
+    (others_length crowd (price_in c.deref.result.now) c.in_ok-students.students.items c.in-Ok.bundles.items told)
 
 pub exchange_all-requires-clause-within : goal.exchange_all-requires-clause-within
 exchange_all-requires-clause-within g c =
     let crowd = g.D.Demands.crowd c.args.demands.now in
     let held = subst (λ held. Holds crowd held) (sym c.self.view_is) c.requires.held in
     let told =
-    subst (λ ss. map sections_of c.in-Ok.bundles.items ≡ map (λ student. demand_of crowd (price_in c.deref-2.result.now) student.0) ss)
-    c.deref-3.ensures.value c.in-Ok.ensures.value in
+    subst (λ ss. map sections_of c.in-Ok.bundles.items ≡ map (λ student. demand_of crowd (price_in c.deref.result.now) student.0) ss)
+    c.deref-2.ensures.value c.in-Ok.ensures.value in
     rw (c.deref-in-Ok-2.ensures.value, c.deref_mut-in-Ok.ensures.value)
-    (others_within crowd (price_in c.deref-2.result.now) c.in_ok-students.students.items c.in-Ok.bundles.items (length c.self.inside.counts.items) told
+    (others_within crowd (price_in c.deref.result.now) c.in_ok-students.students.items c.in-Ok.bundles.items (length c.self.inside.counts.items) told
     (c.self.invariant.len ∙ held.prices.same))
 
 pub returns-in-Ok-clause-bundles : goal.returns-in-Ok-clause-bundles
@@ -47,11 +47,11 @@ returns-in-Ok-clause-bundles g c =
     let held = subst (λ held. Holds crowd held) (sym c.self.view_is) c.requires.held in
     let up : price_in prices c.args.section.0 ≤ c.args.price.0 =
     subst (λ held. price_in held.prices c.args.section.0 ≤ c.args.price.0) (sym c.self.view_is) c.requires.up in
-    let are = subst (λ bs. AreHolders c.args.section.0 (map sections_of bs) students) c.deref.ensures.value c.in_ok-students.ensures in
+    let are = subst (λ held. AreHolders c.args.section.0 held.bundles students) (sym c.self.view_is) c.in_ok-students.ensures in
     let asked =
-    subst (λ ss. map sections_of others ≡ map (λ student. demand_of crowd (price_in c.deref-2.result.now) student.0) ss) c.deref-3.ensures.value
+    subst (λ ss. map sections_of others ≡ map (λ student. demand_of crowd (price_in c.deref.result.now) student.0) ss) c.deref-2.ensures.value
     c.in-Ok.ensures.value in
-    let priced = subst (λ ps. map sections_of others ≡ map (λ student. demand_of crowd (price_in ps) student.0) students) c.deref-2.ensures.value asked in
+    let priced = subst (λ ps. map sections_of others ≡ map (λ student. demand_of crowd (price_in ps) student.0) students) c.deref.ensures.value asked in
     let told =
     subst (λ place. map sections_of others ≡ map (λ student. demand_of crowd (price_in (slice_set prices place c.args.price)) student.0) students)
     c.from-place.ensures priced in

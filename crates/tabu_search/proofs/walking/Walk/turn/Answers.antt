@@ -1,9 +1,9 @@
-use Rattle.std.proofs.Common.{length, ◌≤◌, ◌+◌, ◌∙◌, sym, subst, refl, arith}
+use Rattle.std.proofs.Common.{length, ◌<◌, ◌≤◌, ◌+◌, ◌∙◌, sym, subst, refl, rules, arith}
 use Rattle.demand_api.specs.Crowds.{top}
 use Rattle.demand_api.specs.Asking.{ArePricesFor}
 use Rattle.demand_api.proofs.Counts.{top_some}
 use Rattle.tabu_search.specs.Visits.{chosen, after_turns}
-use Rattle.tabu_search.specs.Walks.{IsNext, IsVisit}
+use Rattle.tabu_search.specs.Walks.{IsNext, IsSeated, IsVisit}
 use Rattle.tabu_search.proofs.Courses.{drawn_are}
 use Rattle.tabu_search.proofs.Walks.{drawn_is, walk_few, walk_answer, walk_moves, walk_restarts}
 use Rattle.tabu_search.proofs.walking.Walk.turn.Goals as goal
@@ -11,16 +11,22 @@ use Rattle.tabu_search.proofs.walking.Walk.turn.Goals as goal
 pub stale_after-stale-requires : goal.stale_after-stale-requires
 stale_after-stale-requires g c =
     let few = walk_few (g.D.Demands.crowd c.args.demands.now) c.args.seats.now c.args.settings.now c.args.self c.requires.walk in
-    omega (arith, few.0, c.requires.turns)
+    let room : c.args.self.turns + 1 < 4294967296 = search rules in
+    omega (arith, few.0, room)
 
 pub overflow_add-restart : goal.overflow_add-restart
 overflow_add-restart g c =
     let few = walk_few (g.D.Demands.crowd c.args.demands.now) c.args.seats.now c.args.settings.now c.args.self c.requires.walk in
-    omega (arith, few.1, c.requires.turns)
+    let room : c.args.self.turns + 1 < 4294967296 = search rules in
+    omega (arith, few.1, room)
 
 pub drawn_prices-requires : goal.drawn_prices-requires
 drawn_prices-requires g c =
     let some : 1 ≤ top (g.D.Demands.crowd c.args.demands.now) = top_some (g.D.Demands.crowd c.args.demands.now) in omega (arith, some, c.requires.walk.top)
+
+pub visit_at-requires-clause-seated : goal.visit_at-requires-clause-seated
+visit_at-requires-clause-seated g c κs within =
+    subst (λ k. IsSeated k c.args.seats.now) (sym c.chosen.ensures.crowd) (record { known = c.requires.walk.known; each = c.requires.walk.seated })
 
 pub visit_at-requires-clause-prices : goal.visit_at-requires-clause-prices
 visit_at-requires-clause-prices g c κs within =

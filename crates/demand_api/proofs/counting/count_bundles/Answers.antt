@@ -1,9 +1,9 @@
 use Rattle.std.proofs.Common.{◌<◌, length, map, sym, arith, rules}
 use Rattle.std.proofs.lemmas.List.{length-map}
 use Rattle.bundle_rules.specs.Bundles.{sections_of}
-use Rattle.demand_api.proofs.Takers.{counts_room, counts_more}
-use Rattle.own_price.proofs.Tallies.{read_at, within_at, sections_below}
-use Rattle.own_price.proofs.exchange.tally.Goals as goal
+use Rattle.demand_api.proofs.Takers.{counts_fit, counts_more}
+use Rattle.demand_api.proofs.Within.{read_at, within_at, sections_below}
+use Rattle.demand_api.proofs.counting.count_bundles.Goals as goal
 
 pub count_bundle-requires-clause-range : goal.count_bundle-requires-clause-range
 count_bundle-requires-clause-range c =
@@ -15,7 +15,7 @@ pub count_bundle-requires-clause-room : goal.count_bundle-requires-clause-room
 count_bundle-requires-clause-room c =
     let low : c.loop-bundle.bundle-index < length c.args.bundles.now = search rules in
     let few = c.requires.few in
-    counts_room c.args.sections (map sections_of c.args.bundles.now) c.loop-bundle.bundle-index c.loop-bundle.counts.items c.deref_mut.result.now
+    counts_fit c.args.sections (map sections_of c.args.bundles.now) c.loop-bundle.bundle-index c.loop-bundle.counts.items c.deref_mut.result.now
     c.sections.result.now (sections_of c.bundle-item.result)
     c.loop-bundle.invariant c.deref_mut.ensures.value (omega (arith, few, low)) c.sections.ensures.value c.sections.ensures.bundle
 

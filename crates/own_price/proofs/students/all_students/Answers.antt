@@ -1,6 +1,6 @@
 use Rattle.std.proofs.Common.{refl, rules}
 use Rattle.own_price.proofs.Raising.{students_more}
-use Rattle.own_price.proofs.holders.all_students.Goals as goal
+use Rattle.own_price.proofs.students.all_students.Goals as goal
 
 pub loop-student-preserved : goal.loop-student-preserved
 loop-student-preserved c =

@@ -1,5 +1,0 @@
-use Rattle.std.proofs.Common.{take, ◌≡◌}
-use Rattle.aftermarket_stage.proofs.counts.narrowed.Given as goal
-
-abbrev pub invariant-loop-count : goal.invariant-loop-count
-invariant-loop-count l = l.narrow.items ≡ take l.count-index l.counts
