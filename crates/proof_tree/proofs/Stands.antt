@@ -1,6 +1,7 @@
 -- Each waiting node has its stem, after each step of the walk.
-use Rattle.std.proofs.Common.{◌≡◌, ◌≢◌, ◌<◌, ◌≤◌, ◌+◌, ◌++◌, ℕ, true, List, [], ◌∷◌, length, get_or, length-append, sym, ap, subst, ◌∙◌, arith, inl, inr}
+use Rattle.std.proofs.Common.{◌≡◌, ◌≢◌, ◌<◌, ◌≤◌, ◌+◌, ◌++◌, ℕ, true, List, [], ◌∷◌, length, get_or, slice_set, length-append, sym, ap, subst, ◌∙◌, arith, inl, inr}
 use Rattle.std.proofs.lemmas.Bool.{cases_lt}
+use Rattle.std.proofs.lemmas.List.{get_or-set_same, get_or-set_other, length-set}
 use Rattle.bundle_rules.specs.Bundles.{sections_of}
 use Rattle.bundle_rules.specs.Menus.{IsMenu, section_at, wishes_of}
 use Rattle.bundle_bounds.specs.declared.nodes.Node.{Node}
@@ -12,6 +13,8 @@ use Rattle.bundle_bounds.specs.Stems.{IsStem}
 use Rattle.bundle_bounds.proofs.Openings.{open_facts, takable_where_open}
 use Rattle.proof_tree.specs.declared.walk.Walk.{Walk}
 use Rattle.proof_tree.specs.Standing.{IsStemAt, HaveStems}
+use Rattle.proof_tree.specs.Steps.{MayWait, waiting_of}
+use Rattle.proof_tree.proofs.Stepping.{count_within}
 
 -- other stems are behind the waiting ones
 pub stems_behind : (offer : OfferData) (champion : List ℕ) (walk : Walk) (stems : List Stem) → HaveStems offer champion walk → length stems ≡ length walk.stems
@@ -23,6 +26,24 @@ stems_behind offer champion walk stems have size same = record {
       λ i d low e. subst (IsStem offer champion (get_or walk.waiting i d).place (sections_of (get_or walk.waiting i d).chosen)) (sym (same i e low))
       (have.each i d low e);
 }
+
+-- a stem is written at an index
+pub stem_set : (offer : OfferData) (champion : List ℕ) (stems : List Stem) (at k : ℕ) (chosen : List ℕ) (stem : Stem) → at < length stems
+    → IsStem offer champion k chosen stem → IsStemAt offer champion (slice_set stems at stem) at k chosen
+stem_set offer champion stems at k chosen stem low is = λ d. subst (IsStem offer champion k chosen) (sym (get_or-set_same stems at stem d low)) is
+
+-- and another one stays
+pub stem_other : (offer : OfferData) (champion : List ℕ) (stems : List Stem) (at j k : ℕ) (chosen : List ℕ) (stem : Stem) → j ≢ at
+    → IsStemAt offer champion stems j k chosen → IsStemAt offer champion (slice_set stems at stem) j k chosen
+stem_other offer champion stems at j k chosen stem apart is = λ d.
+    subst (IsStem offer champion k chosen) (sym (get_or-set_other stems at j stem d apart)) (is d)
+
+-- one is written behind the waiting ones
+pub stems_set : (offer : OfferData) (champion : List ℕ) (walk : Walk) (at : ℕ) (stem : Stem) → HaveStems offer champion walk → walk.count ≤ at
+    → HaveStems offer champion (record walk { stems = slice_set walk.stems at stem })
+stems_set offer champion walk at stem have behind =
+    stems_behind offer champion walk (slice_set walk.stems at stem) have (length-set walk.stems at stem)
+    (λ i d low. get_or-set_other walk.stems at i stem d (λ same. absurd (omega arith)))
 
 -- the last of the waiting nodes is taken
 pub stems_less : (offer : OfferData) (champion : List ℕ) (walk less : Walk) → HaveStems offer champion walk → less.stems ≡ walk.stems → less.waiting ≡ walk.waiting
@@ -79,4 +100,13 @@ few_where_open offer k chosen menu node low opened =
     let few : length (chosen ++ section_at offer.menu.places k ∷ []) ≤ offer.menu.courses = takable.feasible.courses in
     let cap : offer.menu.courses ≤ 8 = menu.caps.courses_cap in
     let whole : length (chosen ++ section_at offer.menu.places k ∷ []) ≡ length chosen + 1 = length-append chosen (section_at offer.menu.places k ∷ []) in
+    omega arith
+
+-- so there is a place behind the node's own stem
+pub room_behind : (offer : OfferData) (walk : Walk) (node : Node) → IsMenu offer.menu → MayWait offer (node ∷ waiting_of walk) → length walk.waiting ≡ 9
+    → node.place < length offer.menu.places → is_open offer (places_of offer.menu (sections_of node.chosen)) node.place ≡ true → walk.count + 1 < 9
+room_behind offer walk node menu waits whole low opened =
+    let chosen : length (sections_of node.chosen) < 8 = few_where_open offer node.place (sections_of node.chosen) menu waits.2 low opened in
+    let few : walk.count ≤ length (sections_of node.chosen) =
+    count_within walk.waiting walk.count (length (sections_of node.chosen)) whole waits.0 (omega arith) in
     omega arith
