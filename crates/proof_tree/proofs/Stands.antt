@@ -46,25 +46,19 @@ stems_set offer champion walk at stem have behind =
     (λ i d low. get_or-set_other walk.stems at i stem d (λ same. absurd (omega arith)))
 
 -- the last of the waiting nodes is taken
-pub stems_less : (offer : OfferData) (champion : List ℕ) (walk less : Walk) → HaveStems offer champion walk → less.stems ≡ walk.stems → less.waiting ≡ walk.waiting
-    → walk.count ≡ less.count + 1 → HaveStems offer champion less
-stems_less offer champion walk less have stems waiting count = record {
-  whole = ap length stems ∙ have.whole;
-  each = λ i d low e.
-      subst (λ (ns : List Node). IsStem offer champion (get_or ns i d).place (sections_of (get_or ns i d).chosen) (get_or less.stems i e)) (sym waiting)
-      (subst (λ (ss : List Stem). IsStem offer champion (get_or walk.waiting i d).place (sections_of (get_or walk.waiting i d).chosen) (get_or ss i e))
-      (sym stems) (have.each i d (omega arith) e));
-}
+pub stems_less : (offer : OfferData) (champion : List ℕ) (walk less : Walk) → HaveStems offer champion walk
+    → walk ≡ record less { count = less.count + 1 } → HaveStems offer champion less
+stems_less offer champion walk less have is =
+    let had = subst (HaveStems offer champion) is have in
+    record { whole = had.whole; each = λ i d low. had.each i d (omega arith) }
 
-pub stem_taken : (offer : OfferData) (champion : List ℕ) (walk less : Walk) (node : Node) → HaveStems offer champion walk → less.stems ≡ walk.stems
-    → walk.count ≡ less.count + 1 → node ≡ get_or walk.waiting less.count node
+pub stem_taken : (offer : OfferData) (champion : List ℕ) (walk less : Walk) (node : Node) → HaveStems offer champion walk
+    → walk ≡ record less { count = less.count + 1 } → node ≡ get_or less.waiting less.count node
     → IsStemAt offer champion less.stems less.count node.place (sections_of node.chosen)
-stem_taken offer champion walk less node have stems count is = λ e.
-    subst (λ (n : Node). IsStem offer champion n.place (sections_of n.chosen) (get_or less.stems less.count e)) (sym is)
-    (subst
-    (λ (ss : List Stem). IsStem offer champion (get_or walk.waiting less.count node).place (sections_of (get_or walk.waiting less.count node).chosen)
-    (get_or ss less.count e))
-    (sym stems) (have.each less.count node (omega arith) e))
+stem_taken offer champion walk less node have is here = λ e.
+    let had = subst (HaveStems offer champion) is have in
+    subst (λ (n : Node). IsStem offer champion n.place (sections_of n.chosen) (get_or less.stems less.count e)) (sym here)
+    (had.each less.count node (omega arith) e)
 
 -- one more node waits, whose stem stands there
 pub stems_more : (offer : OfferData) (champion : List ℕ) (walk more : Walk) (node : Node) → HaveStems offer champion walk → more.stems ≡ walk.stems

@@ -92,11 +92,9 @@ impl Walk {
         requires { self.old.count ≤ MAX_COURSES + 1 }
         ensures some { IfSome result (λ node. waiting_of self.old ≡ node ∷ waiting_of self.new) }
         ensures few { OnSome result (self.new.count ≤ MAX_COURSES) }
-        ensures one { OnSome result (self.old.count ≡ self.new.count + 1) }
+        ensures one { OnSome result (self.old ≡ record self.new { count = self.new.count + 1 }) }
         ensures node { IfSome result
-            (λ node. node ≡ slice_index_or self.old.waiting self.new.count node) }
-        ensures nodes { self.new.waiting ≡ self.old.waiting }
-        ensures stems { self.new.stems ≡ self.old.stems }
+            (λ node. node ≡ slice_index_or self.new.waiting self.new.count node) }
         ensures none { IfNone result (waiting_of self.old ≡ []) }
         ensures same { IfNone result (self.new ≡ self.old) }
     {

@@ -1,4 +1,4 @@
-use Rattle.std.proofs.Common.{◌≡◌, ◌≤◌, length, ap, subst, ◌∙◌, arith}
+use Rattle.std.proofs.Common.{◌≡◌, ◌≤◌, length, ap, subst, arith}
 use Rattle.bundle_rules.specs.Bundles.{sections_of}
 use Rattle.bundle_bounds.specs.Offers.{places_of}
 use Rattle.proof_tree.specs.Claims.{offer_in, champion_in, champions_places}
@@ -18,7 +18,7 @@ sign_at-requires c =
     let claim = c.args.claim.now in
     record {
       stem =
-          stem_taken (offer_in claim) (champion_in claim) c.args.self.now c.take.new.self c.in-Some.node c.requires.stems c.take.ensures.stems
+          stem_taken (offer_in claim) (champion_in claim) c.args.self.now c.take.new.self c.in-Some.node c.requires.stems
           c.in-Some.ensures.one c.in-Some.ensures.node c.index-self-at.result;
     }
 
@@ -30,14 +30,15 @@ pub put_below-requires-clause-stems : goal.put_below-requires-clause-stems
 put_below-requires-clause-stems c =
     let claim = c.args.claim.now in
     stems_set (offer_in claim) (champion_in claim) c.take.new.self c.take.new.self.count c.sign_at.new.stem
-    (stems_less (offer_in claim) (champion_in claim) c.args.self.now c.take.new.self c.requires.stems c.take.ensures.stems c.take.ensures.nodes
-    c.in-Some.ensures.one)
+    (stems_less (offer_in claim) (champion_in claim) c.args.self.now c.take.new.self c.requires.stems c.in-Some.ensures.one)
     (omega arith)
 
 pub put_below-requires-clause-stem : goal.put_below-requires-clause-stem
 put_below-requires-clause-stem c =
     let claim = c.args.claim.now in
-    let whole : length c.take.new.self.stems ≡ 9 = ap length c.take.ensures.stems ∙ c.requires.stems.whole in
+    let left =
+    stems_less (offer_in claim) (champion_in claim) c.args.self.now c.take.new.self c.requires.stems c.in-Some.ensures.one in
+    let whole : length c.take.new.self.stems ≡ 9 = left.whole in
     let few : c.take.new.self.count ≤ 8 = c.in-Some.ensures.few in
     stem_set (offer_in claim) (champion_in claim) c.take.new.self.stems c.take.new.self.count c.in-Some.node.place (sections_of c.in-Some.node.chosen)
     c.sign_at.new.stem (omega arith) c.sign_at.ensures.stem
@@ -46,8 +47,7 @@ pub returns-in_default-sign_at-clause-stems : goal.returns-in_default-sign_at-cl
 returns-in_default-sign_at-clause-stems c =
     let claim = c.args.claim.now in
     stems_set (offer_in claim) (champion_in claim) c.take.new.self c.take.new.self.count c.sign_at.new.stem
-    (stems_less (offer_in claim) (champion_in claim) c.args.self.now c.take.new.self c.requires.stems c.take.ensures.stems c.take.ensures.nodes
-    c.in-Some.ensures.one)
+    (stems_less (offer_in claim) (champion_in claim) c.args.self.now c.take.new.self c.requires.stems c.in-Some.ensures.one)
     (omega arith)
 
 pub returns-clause-step : goal.returns-clause-step
