@@ -1,8 +1,6 @@
 // The check.
 ghost use Rattle.std.specs.Prelude.{◌≡◌, ◌≤◌, ◌<◌, ◌^◌, ◌-◌, IfOk, IfErr, OnOk, length, map};
-ghost use Rattle.market_certificate.specs.Finding.{Finds, OnDefect};
-ghost use Rattle.market_certificate.specs.{Publications.IsPublication, Tables.tables_of};
-ghost use Rattle.market_certificate.specs.Texts.{ArePublished, IsPublished, text_of};
+ghost use Rattle.market_certificate.specs.Publications.{IsPublication};
 ghost use Rattle.market_certificate.specs.Views.{publication_of};
 ghost use Rattle.published_parts.specs.{Holdings.demanded, Markets.market_of, Markets.tables_in};
 ghost use Rattle.published_parts.specs.Views.{market_in};
@@ -15,14 +13,15 @@ ghost use Rattle.demand_api.specs.Views.{data_of};
 use crate::allocation::check_allocation;
 use crate::budgets::check_budgets;
 use crate::bundles::check_bundles;
+use crate::orders::replay;
 use crate::printed::Printed;
 use crate::seats::{check_seats, check_used};
-use crate::terms::terms_after;
+use crate::terms::terms_at;
 use crate::turns::check_turns;
 use crate::{Accepted, CheckEnd};
 use course_catalog::Catalog;
 use held_seats::Floor;
-use market_certificate::{Publication, TextRefusal, read_publication};
+use market_certificate::{Publication, read_publication};
 use market_settings::Settings;
 use market_units::{MAX_RAISE, MAX_SPREAD, NoMemory};
 use published_parts::Market;
@@ -107,33 +106,13 @@ pub fn accept(
 {
     let _few_sections = market.catalog.len();
     let _few_students = market.roll.len();
-    let publication = publication_in(alloc, market.catalog, market.roll, text)?;
+    let publication = {
+        // The text, which may be the greater part of all that is held, is let go at the end of
+        // this block, before the check makes anything of its own.
+        let text = text;
+        read_publication(alloc, market.catalog, market.roll, &text)?
+    };
     accept_publication(alloc, market, streams, publication)
-}
-
-// The publication that the text is, or its first defect. The text, which may be the greater part of
-// all that is held, is let go here, before the check makes anything of its own.
-fn publication_in(
-    alloc: Global,
-    catalog: &Catalog,
-    roll: &Roll,
-    text: Vec<u8>,
-) -> Result<Publication, TextRefusal>
-    requires { length text.items < 2 ^ 32 - 1 }
-    ensures publication { IfOk result
-        (λ publication. IsPublication (tables_of catalog.now roll.now)
-        (publication_of publication)) }
-    ensures text { IfOk result
-        (λ publication. text.items
-        ≡ text_of (tables_of catalog.now roll.now) (publication_of publication)) }
-    ensures defect { IfErr result
-        (λ refusal. OnDefect refusal
-        (Finds (ArePublished (tables_of catalog.now roll.now)) 1 text.items)) }
-    ensures refused { IfErr result
-        (λ refusal. OnDefect refusal
-        (λ _ _. ¬ IsPublished (tables_of catalog.now roll.now) text.items)) }
-{
-    read_publication(alloc, catalog, roll, &text)
 }
 
 // The publication, where the certificate holds of it, with the students' menus and budgets against
@@ -158,7 +137,8 @@ fn accept_publication(
         (IsFirstOf (market_in market.now) (map (λ stream. stream.items) streams.now)
         (publication_of publication))) }
 {
-    let terms = terms_after(alloc, market, streams, &publication.order)?;
+    let desk = replay(alloc, market, streams, &publication.order)?;
+    let terms = terms_at(alloc, market, desk)?;
     let printed = Printed {
         terms: &terms,
         publication: &publication,

@@ -1,17 +1,15 @@
 // What a publication is checked by.
-ghost use Rattle.std.specs.Prelude.{◌≡◌, ◌<◌, ◌-◌, ◌^◌, IfOk, IfErr, length, map};
-ghost use Rattle.market_units.specs.declared.units.NoMemory.{NoMemory};
-ghost use Rattle.published_parts.specs.{Crowds.IsCrowdAfter, Views.market_in};
-ghost use Rattle.certificate_checker.specs.{Findings.OnFound, Orders.IsOrderFinding};
+ghost use Rattle.std.specs.Prelude.{◌≡◌, IfOk};
+ghost use Rattle.preference_desk.specs.DeskView.{names_of, entries_of};
+ghost use Rattle.published_parts.specs.{Crowds.IsCrowdIn, Markets.names_in, Views.market_in};
 ghost use Rattle.certificate_checker.specs.{Terms.terms_in, Views.terms_of};
 
-use crate::CheckEnd;
-use crate::orders::replay;
 use demand_api::Crowd;
 use market_crowd::make_crowd;
+use market_units::NoMemory;
+use preference_desk::Desk;
 use published_parts::Market;
 use std::alloc::Global;
-use utility_language::Command;
 
 /// What a publication is checked by.
 #[derive(Drop)]
@@ -24,24 +22,15 @@ pub(crate) struct Terms {
     pub raise: u8,
 }
 
-/// What a check goes by in a market whose sessions' commands were taken in this order. Else a
-/// finding on the first entry at which the order does not merge the streams, or want of memory.
-pub(crate) fn terms_after(
-    alloc: Global,
-    market: &Market,
-    streams: &[Vec<Command>],
-    order: &[u8],
-) -> Result<Terms, CheckEnd>
-    requires { length order.now < 2 ^ 32 - 1 }
+/// What a check goes by in a market whose sessions' commands were posted at this desk, which is let
+/// go. The error is want of memory.
+pub(crate) fn terms_at(alloc: Global, market: &Market, desk: Desk) -> Result<Terms, NoMemory>
+    requires { names_of desk ≡ names_in (market_in market.now) }
     ensures terms { IfOk result
         (λ terms. terms_of terms ≡ terms_in (market_in market.now) (terms_of terms).crowd) }
     ensures crowd { IfOk result
-        (λ terms. IsCrowdAfter (market_in market.now) (map (λ stream. stream.items) streams.now)
-        order.now (terms_of terms).crowd) }
-    ensures fails { IfErr result
-        (λ end. OnFound end (IsOrderFinding (map (λ stream. stream.items) streams.now) order.now)) }
+        (λ terms. IsCrowdIn (market_in market.now) (entries_of desk) (terms_of terms).crowd) }
 {
-    let desk = replay(alloc, market, streams, order)?;
     let crowd = make_crowd(
         alloc,
         market.catalog,

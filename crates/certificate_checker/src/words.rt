@@ -1,15 +1,14 @@
 // The line that tells a finding, made without memory.
-ghost use Rattle.std.specs.Prelude.{◌≡◌, ◌<◌, ◌≤◌, ◌+◌, ◌++◌, length};
+ghost use Rattle.std.specs.Prelude.{◌≡◌, ◌≤◌, ◌+◌, ◌++◌, length};
 ghost use Rattle.std.specs.Fmt.{decimal};
-ghost use Rattle.course_catalog.specs.Sections.{section_names};
-ghost use Rattle.market_certificate.specs.Tables.{name_at, tables_of};
-ghost use Rattle.student_roll.specs.Students.{names_of};
+ghost use Rattle.market_units.specs.Name.{name_bytes};
+ghost use Rattle.market_certificate.specs.Tables.{tables_of};
 ghost use Rattle.certificate_checker.specs.Words.{IsNamedIn, defect_words, fault_words, finding_line, finding_words, line_words};
 
 use crate::{Finding, TurnFault};
 use course_catalog::Catalog;
 use market_certificate::LineFault;
-use market_units::{SectionNo, StudentNo};
+use market_units::Name;
 use proof_tree::TreeDefect;
 use status_line::Line;
 use student_roll::Roll;
@@ -37,15 +36,15 @@ fn with_finding(line: Line, catalog: &Catalog, roll: &Roll, finding: Finding) ->
             line.with(line_fault(kind))
         }
         Finding::Journal { at } => with_count(line.with(b"journal at "), at),
-        Finding::Budget { student } => with_student(line.with(b"budget "), roll, student),
+        Finding::Budget { student } => with_name(line.with(b"budget "), roll.name(student)),
         Finding::Unaffordable { student } => {
-            with_student(line.with(b"student "), roll, student).with(b" unaffordable")
+            with_name(line.with(b"student "), roll.name(student)).with(b" unaffordable")
         }
         Finding::Infeasible { student } => {
-            with_student(line.with(b"student "), roll, student).with(b" infeasible")
+            with_name(line.with(b"student "), roll.name(student)).with(b" infeasible")
         }
         Finding::Tree { student, defect } => {
-            let line = with_student(line.with(b"student "), roll, student).with(b" ");
+            let line = with_name(line.with(b"student "), roll.name(student)).with(b" ");
             with_defect(line, defect)
         }
         Finding::Seats {
@@ -53,7 +52,7 @@ fn with_finding(line: Line, catalog: &Catalog, roll: &Roll, finding: Finding) ->
             used,
             seats,
         } => {
-            let line = with_section(line.with(b"seats "), catalog, section).with(b" ");
+            let line = with_name(line.with(b"seats "), catalog.name(section)).with(b" ");
             with_count(with_count(line, used).with(b" of "), u32::from(seats))
         }
         Finding::Turn { turn, fault } => {
@@ -63,8 +62,8 @@ fn with_finding(line: Line, catalog: &Catalog, roll: &Roll, finding: Finding) ->
         Finding::NotQuiet { turns } => {
             with_count(line.with(b"not quiet after "), turns).with(b" turns")
         }
-        Finding::Allocation { student } => with_student(line.with(b"final "), roll, student),
-        Finding::Used { section } => with_section(line.with(b"used "), catalog, section),
+        Finding::Allocation { student } => with_name(line.with(b"final "), roll.name(student)),
+        Finding::Used { section } => with_name(line.with(b"used "), catalog.name(section)),
     }
 }
 
@@ -120,22 +119,11 @@ fn with_count(line: Line, count: u32) -> Line
     line.with_number(u64::from(count))
 }
 
-// The line with the name of a student behind it.
-fn with_student(line: Line, roll: &Roll, student: StudentNo) -> Line
+// The line with a name behind it.
+fn with_name(line: Line, name: Name) -> Line
     requires room { length line ≤ 60 }
-    requires named { student.0 < length roll.now.students }
-    ensures words { result ≡ line ++ name_at (names_of roll.now.students) student.0 }
+    ensures words { result ≡ line ++ name_bytes name }
     ensures short { length result ≤ length line + 32 }
 {
-    line.with(roll.name(student).bytes())
-}
-
-// The line with the name of a section behind it.
-fn with_section(line: Line, catalog: &Catalog, section: SectionNo) -> Line
-    requires room { length line ≤ 60 }
-    requires named { section.0 < length catalog.now.sections }
-    ensures words { result ≡ line ++ name_at (section_names catalog.now.sections) section.0 }
-    ensures short { length result ≤ length line + 32 }
-{
-    line.with(catalog.name(section).bytes())
+    line.with(name.bytes())
 }

@@ -1,5 +1,5 @@
 // The excess of a section, and the clearing error of all.
-ghost use Rattle.std.specs.Prelude.{◌≡◌, ◌≤◌, nat_abs, All, length};
+ghost use Rattle.std.specs.Prelude.{◌≡◌, ◌≤◌, All, length};
 ghost use Rattle.clearing_error.specs.Errors.{excess, part, squared, error};
 
 use market_units::{MAX_SECTIONS, MAX_STUDENTS, Tokens};
@@ -37,16 +37,8 @@ fn squared_part(count: u32, seats: u16, price: Tokens) -> u64
     ensures value { result ≡ squared (part count seats price.0) }
     ensures small { result ≤ 4294836225 }
 {
-    let distance = u64::from(part(count, seats, price).unsigned_abs());
-    distance * distance
-}
-
-// What a section adds to the error, before it is squared.
-fn part(count: u32, seats: u16, price: Tokens) -> i32
-    requires { count ≤ MAX_STUDENTS }
-    ensures value { result ≡ part count seats price.0 }
-    ensures small { nat_abs result ≤ 65535 }
-{
     let excess = excess(count, seats);
-    if price.0 > 0 { excess } else { excess.max(0) }
+    let part = if price.0 > 0 { excess } else { excess.max(0) };
+    let distance = u64::from(part.unsigned_abs());
+    distance * distance
 }

@@ -1,6 +1,7 @@
 -- Each waiting node has its stem, after each step of the walk.
-use Rattle.std.proofs.Common.{◌≡◌, ◌≢◌, ◌<◌, ◌≤◌, ◌+◌, ◌++◌, ℕ, true, List, [], ◌∷◌, length, get_or, length-append, sym, ap, subst, ◌∙◌, arith, inl, inr}
+use Rattle.std.proofs.Common.{◌≡◌, ◌≢◌, ◌<◌, ◌≤◌, ◌+◌, ◌++◌, ℕ, true, List, [], ◌∷◌, length, get_or, slice_set, length-append, sym, ap, subst, ◌∙◌, arith, inl, inr}
 use Rattle.std.proofs.lemmas.Bool.{cases_lt}
+use Rattle.std.proofs.lemmas.List.{get_or-set_same, get_or-set_other, length-set}
 use Rattle.bundle_rules.specs.Bundles.{sections_of}
 use Rattle.bundle_rules.specs.Menus.{IsMenu, section_at, wishes_of}
 use Rattle.bundle_bounds.specs.declared.nodes.Node.{Node}
@@ -12,6 +13,8 @@ use Rattle.bundle_bounds.specs.Stems.{IsStem}
 use Rattle.bundle_bounds.proofs.Openings.{open_facts, takable_where_open}
 use Rattle.proof_tree.specs.declared.walk.Walk.{Walk}
 use Rattle.proof_tree.specs.Standing.{IsStemAt, HaveStems}
+use Rattle.proof_tree.specs.Steps.{MayWait, waiting_of}
+use Rattle.proof_tree.proofs.Stepping.{count_within}
 
 -- other stems are behind the waiting ones
 pub stems_behind : (offer : OfferData) (champion : List ℕ) (walk : Walk) (stems : List Stem) → HaveStems offer champion walk → length stems ≡ length walk.stems
@@ -24,26 +27,38 @@ stems_behind offer champion walk stems have size same = record {
       (have.each i d low e);
 }
 
--- the last of the waiting nodes is taken
-pub stems_less : (offer : OfferData) (champion : List ℕ) (walk less : Walk) → HaveStems offer champion walk → less.stems ≡ walk.stems → less.waiting ≡ walk.waiting
-    → walk.count ≡ less.count + 1 → HaveStems offer champion less
-stems_less offer champion walk less have stems waiting count = record {
-  whole = ap length stems ∙ have.whole;
-  each = λ i d low e.
-      subst (λ (ns : List Node). IsStem offer champion (get_or ns i d).place (sections_of (get_or ns i d).chosen) (get_or less.stems i e)) (sym waiting)
-      (subst (λ (ss : List Stem). IsStem offer champion (get_or walk.waiting i d).place (sections_of (get_or walk.waiting i d).chosen) (get_or ss i e))
-      (sym stems) (have.each i d (omega arith) e));
-}
+-- a stem is written at an index
+pub stem_set : (offer : OfferData) (champion : List ℕ) (stems : List Stem) (at k : ℕ) (chosen : List ℕ) (stem : Stem) → at < length stems
+    → IsStem offer champion k chosen stem → IsStemAt offer champion (slice_set stems at stem) at k chosen
+stem_set offer champion stems at k chosen stem low is = λ d. subst (IsStem offer champion k chosen) (sym (get_or-set_same stems at stem d low)) is
 
-pub stem_taken : (offer : OfferData) (champion : List ℕ) (walk less : Walk) (node : Node) → HaveStems offer champion walk → less.stems ≡ walk.stems
-    → walk.count ≡ less.count + 1 → node ≡ get_or walk.waiting less.count node
+-- and another one stays
+pub stem_other : (offer : OfferData) (champion : List ℕ) (stems : List Stem) (at j k : ℕ) (chosen : List ℕ) (stem : Stem) → j ≢ at
+    → IsStemAt offer champion stems j k chosen → IsStemAt offer champion (slice_set stems at stem) j k chosen
+stem_other offer champion stems at j k chosen stem apart is = λ d.
+    subst (IsStem offer champion k chosen) (sym (get_or-set_other stems at j stem d apart)) (is d)
+
+-- one is written behind the waiting ones
+pub stems_set : (offer : OfferData) (champion : List ℕ) (walk : Walk) (at : ℕ) (stem : Stem) → HaveStems offer champion walk → walk.count ≤ at
+    → HaveStems offer champion (record walk { stems = slice_set walk.stems at stem })
+stems_set offer champion walk at stem have behind =
+    stems_behind offer champion walk (slice_set walk.stems at stem) have (length-set walk.stems at stem)
+    (λ i d low. get_or-set_other walk.stems at i stem d (λ same. absurd (omega arith)))
+
+-- the last of the waiting nodes is taken
+pub stems_less : (offer : OfferData) (champion : List ℕ) (walk less : Walk) → HaveStems offer champion walk
+    → walk ≡ record less { count = less.count + 1 } → HaveStems offer champion less
+stems_less offer champion walk less have is =
+    let had = subst (HaveStems offer champion) is have in
+    record { whole = had.whole; each = λ i d low. had.each i d (omega arith) }
+
+pub stem_taken : (offer : OfferData) (champion : List ℕ) (walk less : Walk) (node : Node) → HaveStems offer champion walk
+    → walk ≡ record less { count = less.count + 1 } → node ≡ get_or less.waiting less.count node
     → IsStemAt offer champion less.stems less.count node.place (sections_of node.chosen)
-stem_taken offer champion walk less node have stems count is = λ e.
-    subst (λ (n : Node). IsStem offer champion n.place (sections_of n.chosen) (get_or less.stems less.count e)) (sym is)
-    (subst
-    (λ (ss : List Stem). IsStem offer champion (get_or walk.waiting less.count node).place (sections_of (get_or walk.waiting less.count node).chosen)
-    (get_or ss less.count e))
-    (sym stems) (have.each less.count node (omega arith) e))
+stem_taken offer champion walk less node have is here = λ e.
+    let had = subst (HaveStems offer champion) is have in
+    subst (λ (n : Node). IsStem offer champion n.place (sections_of n.chosen) (get_or less.stems less.count e)) (sym here)
+    (had.each less.count node (omega arith) e)
 
 -- one more node waits, whose stem stands there
 pub stems_more : (offer : OfferData) (champion : List ℕ) (walk more : Walk) (node : Node) → HaveStems offer champion walk → more.stems ≡ walk.stems
@@ -79,4 +94,13 @@ few_where_open offer k chosen menu node low opened =
     let few : length (chosen ++ section_at offer.menu.places k ∷ []) ≤ offer.menu.courses = takable.feasible.courses in
     let cap : offer.menu.courses ≤ 8 = menu.caps.courses_cap in
     let whole : length (chosen ++ section_at offer.menu.places k ∷ []) ≡ length chosen + 1 = length-append chosen (section_at offer.menu.places k ∷ []) in
+    omega arith
+
+-- so there is a place behind the node's own stem
+pub room_behind : (offer : OfferData) (walk : Walk) (node : Node) → IsMenu offer.menu → MayWait offer (node ∷ waiting_of walk) → length walk.waiting ≡ 9
+    → node.place < length offer.menu.places → is_open offer (places_of offer.menu (sections_of node.chosen)) node.place ≡ true → walk.count + 1 < 9
+room_behind offer walk node menu waits whole low opened =
+    let chosen : length (sections_of node.chosen) < 8 = few_where_open offer node.place (sections_of node.chosen) menu waits.2 low opened in
+    let few : walk.count ≤ length (sections_of node.chosen) =
+    count_within walk.waiting walk.count (length (sections_of node.chosen)) whole waits.0 (omega arith) in
     omega arith

@@ -1,14 +1,11 @@
 -- The stems of the nodes that wait.
-use Rattle.std.specs.Prelude.{ℕ, ◌+◌, ◌<◌, ◌≡◌, ⊤, List, [], ◌∷◌, ◌++◌, length, slice_index_or}
+use Rattle.std.specs.Prelude.{ℕ, ◌+◌, ◌<◌, ◌≡◌, List, length, slice_index_or}
 use Rattle.market_units.specs.declared.limits.TheConstants.{MAX_COURSES}
 use Rattle.bundle_rules.specs.Bundles.{sections_of}
-use Rattle.bundle_rules.specs.Menus.{section_at}
 use Rattle.bundle_bounds.specs.declared.nodes.Node.{Node}
 use Rattle.bundle_bounds.specs.declared.stems.Stem.{Stem}
 use Rattle.bundle_bounds.specs.Offers.{OfferData}
 use Rattle.bundle_bounds.specs.Stems.{IsStem}
-use Rattle.proof_tree.specs.declared.signs.Sign.{Sign}
-use Rattle.proof_tree.specs.declared.signs.Sign.TheVariants.{Forced, Open, Passed}
 use Rattle.proof_tree.specs.declared.walk.Walk.{Walk}
 
 -- the stem at this index is at this node, for the champion
@@ -22,17 +19,3 @@ pub record HaveStems (offer : OfferData) (champion : List ℕ) (walk : Walk) : T
   pub each : (i : ℕ) (d : Node) → i < walk.count
       → IsStemAt offer champion walk.stems i (slice_index_or walk.waiting i d).place
       (sections_of (slice_index_or walk.waiting i d).chosen)
-
--- the stems of the nodes below a node of this sign, from this index on: without the next place, and
--- behind that with it, or one of them alone
-abbrev pub AreStanding : OfferData → List ℕ → Node → Sign → List Stem → ℕ → Type 0
-AreStanding offer champion node Forced stems at =
-    IsStemAt offer champion stems at (node.place + 1)
-    (sections_of node.chosen ++ section_at offer.menu.places node.place ∷ [])
-AreStanding offer champion node Open stems at =
-    IsStemAt offer champion stems at (node.place + 1) (sections_of node.chosen)
-    × IsStemAt offer champion stems (at + 1) (node.place + 1)
-    (sections_of node.chosen ++ section_at offer.menu.places node.place ∷ [])
-AreStanding offer champion node Passed stems at =
-    IsStemAt offer champion stems at (node.place + 1) (sections_of node.chosen)
-AreStanding offer champion node sign stems at = ⊤

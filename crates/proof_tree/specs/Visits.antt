@@ -3,6 +3,7 @@ use Rattle.std.specs.Prelude.{ℕ, List}
 use Rattle.bundle_rules.specs.Bundles.{sections_of}
 use Rattle.bundle_bounds.specs.declared.stems.Stem.{Stem}
 use Rattle.bundle_bounds.specs.Offers.{places_of}
+use Rattle.bundle_bounds.specs.Stems.{IsStem}
 use Rattle.proof_tree.specs.declared.signs.Sign.{Sign}
 use Rattle.proof_tree.specs.declared.visit.Visit.{Visit}
 use Rattle.proof_tree.specs.Claims.{offer_in, champion_in, champions_places}
@@ -30,7 +31,13 @@ HasNoSignAt visit =
     HasNoSign (offer_in visit.claim) visit.claim.required (champions_places visit.claim)
     visit.node.place (chosen_at visit)
 
--- the stem at this index is at the node
+-- the stem is at the node
+abbrev pub IsStemThere : Visit → Stem → Type 0
+IsStemThere visit stem =
+    IsStem (offer_in visit.claim) (champion_in visit.claim) visit.node.place
+    (sections_of visit.node.chosen) stem
+
+-- and stands at this index
 abbrev pub HasStemAt : Visit → List Stem → ℕ → Type 0
 HasStemAt visit stems at =
     IsStemAt (offer_in visit.claim) (champion_in visit.claim) stems at visit.node.place

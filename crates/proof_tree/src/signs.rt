@@ -1,9 +1,9 @@
 // The canonical sign of a node.
-ghost use Rattle.std.specs.Prelude.{◌≡◌, ◌≢◌, ◌<◌, ◌↔◌, ℕ, List, Some, IsTrue, IfSome, IfNone, length, slice_index_or};
+ghost use Rattle.std.specs.Prelude.{◌≡◌, ◌↔◌, ℕ, List, Some, IsTrue, IfSome, IfNone, length};
 ghost use Rattle.bundle_rules.specs.{Bundles.sections_of, Menus.IsMenu};
-ghost use Rattle.bundle_bounds.specs.{Offers.OfferData, Opens.is_open, declared.stems.Stem.Stem};
+ghost use Rattle.bundle_bounds.specs.{Offers.OfferData, Opens.is_open};
 ghost use Rattle.proof_tree.specs.{Claims.offer_in, Claims.champion_in, Trees.IsSign, Trees.GoesOn};
-ghost use Rattle.proof_tree.specs.Visits.{HasNoSignAt, HasStemAt, IsShutAt, IsSignAt};
+ghost use Rattle.proof_tree.specs.Visits.{HasNoSignAt, IsShutAt, IsSignAt, IsStemThere};
 
 use crate::visit::Visit;
 use crate::walk::PLACES;
@@ -87,15 +87,12 @@ fn is_place(required: Option<u8>, place: u8) -> bool
 }
 
 /// The canonical sign of a node, or `None` where it has none: all places are decided, the chosen
-/// sections are not the champion, and no bound prunes it. The stem at this index is that of the
-/// node, and keeps what is computed.
+/// sections are not the champion, and no bound prunes it. The stem is that of the node, and keeps
+/// what is computed.
 #[inline(always)]
-pub(crate) fn sign_at(visit: &Visit, stems: &mut [Stem], at: usize) -> Option<Sign>
-    requires at { at < length stems.old }
-    requires stem { HasStemAt visit.now stems.old at }
-    ensures stem { HasStemAt visit.now stems.new at }
-    ensures others { (i : ℕ) (d : Stem) → i ≢ at
-        → slice_index_or stems.new i d ≡ slice_index_or stems.old i d }
+pub(crate) fn sign_at(visit: &Visit, stem: &mut Stem) -> Option<Sign>
+    requires stem { IsStemThere visit.now stem.old }
+    ensures stem { IsStemThere visit.now stem.new }
     ensures menu { IsMenu (offer_in visit.now.claim).menu }
     ensures some { IfSome result (IsSignAt visit.now) }
     ensures none { IfNone result (HasNoSignAt visit.now) }
@@ -108,13 +105,13 @@ pub(crate) fn sign_at(visit: &Visit, stems: &mut [Stem], at: usize) -> Option<Si
     if is_shut(visit) {
         return Some(Sign::Shut);
     }
-    let pruning = stems[at].pruning(claim.offer, claim.champion, &visit.node);
+    let pruning = stem.pruning(claim.offer, claim.champion, &visit.node);
     if let Some(leaf) = pruning {
         return Some(Sign::Pruned(leaf));
     }
     if visit.node.place >= claim.offer.menu.len() {
         return None;
     }
-    let is_next_open = stems[at].is_next_open(claim.offer, claim.champion, &visit.node);
+    let is_next_open = stem.is_next_open(claim.offer, claim.champion, &visit.node);
     Some(next_sign(claim.required, &visit.node, is_next_open))
 }

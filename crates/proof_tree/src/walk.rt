@@ -1,10 +1,9 @@
 // The walk of a tree: its nodes one after another, each with its canonical sign.
-ghost use Rattle.std.specs.Prelude.{◌≡◌, ◌≢◌, ◌<◌, ◌≤◌, ◌+◌, ◌++◌, ◌∷◌, [], ℕ, List, true, IfSome, IfNone, OnSome, length, slice_index_or};
-ghost use Rattle.bundle_bounds.specs.{Offers.OfferData, Opens.is_open, declared.nodes.Node.Node};
-ghost use Rattle.bundle_rules.specs.Bundles.{sections_of};
-ghost use Rattle.bundle_rules.specs.Menus.{MenuData, section_at};
+ghost use Rattle.std.specs.Prelude.{◌≡◌, ◌≢◌, ◌<◌, ◌≤◌, ◌+◌, ◌++◌, ◌∷◌, [], ℕ, IfSome, IfNone, OnSome, length, slice_index_or};
+ghost use Rattle.bundle_bounds.specs.{Offers.OfferData, declared.nodes.Node.Node};
+ghost use Rattle.bundle_rules.specs.Menus.{MenuData};
 ghost use Rattle.proof_tree.specs.Claims.{offer_in, champion_in, champions_places};
-ghost use Rattle.proof_tree.specs.Standing.{HaveStems, AreStanding};
+ghost use Rattle.proof_tree.specs.Standing.{HaveStems};
 ghost use Rattle.proof_tree.specs.{Steps.AreWaiting, Steps.MayWait, Steps.IsStep, Texts.IsShort};
 ghost use Rattle.proof_tree.specs.Visits.{chosen_at, HasStemAt, IsSignAt};
 ghost use Rattle.proof_tree.specs.{Walks.below, declared.signs.Sign.Sign};
@@ -12,7 +11,7 @@ ghost use Rattle.proof_tree.specs.declared.walk.Step.TheVariants.{Signed};
 
 use crate::claim::Claim;
 use crate::signs::{Sign, sign_at};
-use crate::standing::{pass_at, put_back, take_at};
+use crate::standing::with_next;
 use crate::visit::Visit;
 use bundle_bounds::{Node, Stem};
 use bundle_rules::Bundle;
@@ -81,45 +80,11 @@ impl Walk {
             node,
         };
         let at = self.count;
-        let Some(sign) = sign_at(&visit, &mut self.stems, at) else {
+        let Some(sign) = sign_at(&visit, &mut self.stems[at]) else {
             return Step::Unsigned;
         };
-        self.stand_below(&visit, sign);
         self.put_below(&visit, sign);
         Step::Signed(sign)
-    }
-
-    // The stems of the nodes below a node stand behind those of the nodes that wait.
-    #[inline(always)]
-    fn stand_below(&mut self, visit: &Visit, sign: Sign)
-        requires few { self.old.count ≤ MAX_COURSES }
-        requires count { self.old.count ≤ length (sections_of visit.now.node.chosen) }
-        requires sign { IsSignAt visit.now sign }
-        requires stems { HaveStems (offer_in visit.now.claim) (champion_in visit.now.claim)
-            self.old }
-        requires stem { HasStemAt visit.now self.old.stems self.old.count }
-        ensures count { self.new.count ≡ self.old.count }
-        ensures same { self.new.waiting ≡ self.old.waiting }
-        ensures stems { HaveStems (offer_in visit.now.claim) (champion_in visit.now.claim)
-            self.new }
-        ensures below { AreStanding (offer_in visit.now.claim) (champion_in visit.now.claim)
-            visit.now.node sign self.new.stems self.new.count }
-    {
-        prove!(visit.claim.offer.menu.len() <= PLACES);
-        let at = self.count;
-        let stems = &mut self.stems;
-        match sign {
-            Sign::Champion | Sign::Shut | Sign::Pruned(_) => {}
-            Sign::Forced => {
-                take_at(stems, at, visit);
-                put_back(stems, at);
-            }
-            Sign::Open => {
-                take_at(stems, at, visit);
-                pass_at(stems, at, visit);
-            }
-            Sign::Passed => pass_at(stems, at, visit),
-        }
     }
 
     // Takes the next node, and `None` exactly where none waits.
@@ -127,11 +92,9 @@ impl Walk {
         requires { self.old.count ≤ MAX_COURSES + 1 }
         ensures some { IfSome result (λ node. waiting_of self.old ≡ node ∷ waiting_of self.new) }
         ensures few { OnSome result (self.new.count ≤ MAX_COURSES) }
-        ensures one { OnSome result (self.old.count ≡ self.new.count + 1) }
+        ensures one { OnSome result (self.old ≡ record self.new { count = self.new.count + 1 }) }
         ensures node { IfSome result
-            (λ node. node ≡ slice_index_or self.old.waiting self.new.count node) }
-        ensures nodes { self.new.waiting ≡ self.old.waiting }
-        ensures stems { self.new.stems ≡ self.old.stems }
+            (λ node. node ≡ slice_index_or self.new.waiting self.new.count node) }
         ensures none { IfNone result (waiting_of self.old ≡ []) }
         ensures same { IfNone result (self.new ≡ self.old) }
     {
@@ -157,7 +120,8 @@ impl Walk {
         self.count += 1;
     }
 
-    // Lets the nodes below a node wait. Their stems stand behind those of the nodes that wait.
+    // Lets the nodes below a node wait, whose stem is behind those of the nodes that wait: theirs
+    // stand there then.
     #[inline(always)]
     fn put_below(&mut self, visit: &Visit, sign: Sign)
         requires few { self.old.count ≤ MAX_COURSES }
@@ -165,8 +129,7 @@ impl Walk {
         requires sign { IsSignAt visit.now sign }
         requires stems { HaveStems (offer_in visit.now.claim) (champion_in visit.now.claim)
             self.old }
-        requires standing { AreStanding (offer_in visit.now.claim) (champion_in visit.now.claim)
-            visit.now.node sign self.old.stems self.old.count }
+        requires stem { HasStemAt visit.now self.old.stems self.old.count }
         ensures may_wait { AreWaiting (offer_in visit.now.claim) self.new }
         ensures stems { HaveStems (offer_in visit.now.claim) (champion_in visit.now.claim)
             self.new }
@@ -174,52 +137,32 @@ impl Walk {
             ≡ below sign visit.now.node.place (chosen_at visit.now)
             ++ spots_of (offer_in visit.now.claim).menu (waiting_of self.old) }
     {
-        prove!(visit.claim.offer.menu.len() <= PLACES);
+        let claim = &visit.claim;
+        prove!(claim.offer.menu.len() <= PLACES);
+        let at = self.count;
+        let without = Node {
+            place: visit.node.place + 1,
+            chosen: visit.node.chosen,
+        };
         match sign {
             Sign::Champion => {}
             Sign::Shut => {}
             Sign::Pruned(_) => {}
-            Sign::Forced => self.put(with_next(visit)),
-            Sign::Open => {
-                self.put(without_next(visit));
-                self.put(with_next(visit));
+            Sign::Forced => {
+                let with = with_next(visit, &mut self.stems, at);
+                self.stems[at] = self.stems[at + 1];
+                self.put(with);
             }
-            Sign::Passed => self.put(without_next(visit)),
+            Sign::Open => {
+                let with = with_next(visit, &mut self.stems, at);
+                self.stems[at].pass(claim.offer, claim.champion, &visit.node);
+                self.put(without);
+                self.put(with);
+            }
+            Sign::Passed => {
+                self.stems[at].pass(claim.offer, claim.champion, &visit.node);
+                self.put(without);
+            }
         }
-    }
-}
-
-// The node with the section of the next place, which is open.
-fn with_next(visit: &Visit) -> Node
-    requires left { visit.now.node.place < length (offer_in visit.now.claim).menu.places }
-    requires open { is_open (offer_in visit.now.claim) (chosen_at visit.now) visit.now.node.place
-        ≡ true }
-    ensures room { length (sections_of visit.now.node.chosen) < MAX_COURSES }
-    ensures place { result.place ≡ visit.now.node.place + 1 }
-    ensures chosen { sections_of result.chosen
-        ≡ sections_of visit.now.node.chosen
-        ++ section_at (offer_in visit.now.claim).menu.places visit.now.node.place ∷ [] }
-{
-    let node = visit.node;
-    let menu = visit.claim.offer.menu;
-    prove!(node.place < menu.len());
-    let rated = menu.rated(node.place);
-    Node {
-        place: node.place + 1,
-        chosen: node.chosen.with(rated.section),
-    }
-}
-
-// The node without it.
-fn without_next(visit: &Visit) -> Node
-    requires { visit.now.node.place < length (offer_in visit.now.claim).menu.places }
-    ensures place { result.place ≡ visit.now.node.place + 1 }
-    ensures chosen { sections_of result.chosen ≡ sections_of visit.now.node.chosen }
-{
-    let node = visit.node;
-    prove!(node.place < visit.claim.offer.menu.len());
-    Node {
-        place: node.place + 1,
-        chosen: node.chosen,
     }
 }

@@ -6,7 +6,7 @@ use Rattle.bundle_rules.specs.Existence.Places.{section_at-is}
 use Rattle.bundle_bounds.proofs.Openings.{open_facts, takable_where_open}
 use Rattle.proof_tree.specs.Claims.{offer_in}
 use Rattle.proof_tree.specs.Visits.{chosen_at}
-use Rattle.proof_tree.proofs.walk.with_next.Goals as goal
+use Rattle.proof_tree.proofs.standing.with_next.Goals as goal
 
 pub with-requires-clause-room : goal.with-requires-clause-room
 unfolding wishes_of
