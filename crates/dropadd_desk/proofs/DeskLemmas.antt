@@ -1,6 +1,6 @@
 -- What the desk's calls find and make.
-use Rattle.std.proofs.Common.{ℕ, zero, suc, ◌≡◌, ◌<◌, ◌≤◌, ◌+◌, ◌++◌, ◌==◌, ◌∙◌, Bool, true, false, List, [], ◌∷◌, length, take, drop, get_or, arith, refl, sym, ap, subst, inl, inr, Some, None}
-use Rattle.std.specs.Prelude.{position, slice_get, nat_lt, option_map, Option, All}
+use Rattle.std.proofs.Common.{ℕ, zero, suc, ◌≡◌, ◌<◌, ◌≤◌, ◌+◌, ◌++◌, ◌==◌, ◌&&◌, ◌∙◌, Bool, true, false, List, [], ◌∷◌, length, take, drop, get_or, arith, refl, sym, ap, subst, inl, inr, Some, None}
+use Rattle.std.specs.Prelude.{position, slice_get, nat_lt, not, is_some, option_map, Option, All}
 use Rattle.std.specs.List.{before_first, after_first, find, list_any, position_or_len, remove_range}
 use Rattle.std.proofs.lemmas.Bool.{cases_Bool, true≢false, lt-ltb, le-ltb, ltb-true, ltb-false, eqb-true}
 use Rattle.std.proofs.lemmas.List.{length-take-le, drop_all, take_all}
@@ -138,6 +138,12 @@ stands_not i list e = nowhere list (no_place_is (λ other. other == i) list e)
       | inr other ↦ let low : suc (length xs) ≤ 1 + position_or_len (λ other. other == i) xs = rw other at past in rw other (nowhere xs (omega arith))
     ]
 
+-- what stands against a section, in its order
+abbrev pub against : Option ℕ → Bool → Bool → Option HallReply
+against clash credits courses =
+    first_of
+    (option_map (λ (t : ℕ). reply.Clash (record { 0 = t })) clash ∷ where_so credits reply.Credits ∷ where_so courses reply.Courses ∷ [])
+
 -- the refusals, in their order
 abbrev pub refused : Bool → Bool → Option ℕ → Bool → Bool → Option HallReply
 refused holds waits clash credits courses =
@@ -151,19 +157,37 @@ refused_holding a b o d e p = rw p refl
 pub refused_waiting : (a b : Bool) (o : Option ℕ) (d e : Bool) → a ≡ false → b ≡ true → Some reply.Waiting ≡ refused a b o d e
 refused_waiting a b o d e p q = rw (p, q) refl
 
-pub refused_clash : (a b : Bool) (o : Option ℕ) (d e : Bool) (with' : SectionNo) → a ≡ false → b ≡ false → o ≡ Some with'.0
-    → Some (reply.Clash with') ≡ refused a b o d e
-refused_clash a b o d e with' p q r = rw (p, q, r) refl
+pub refused_later : (a b : Bool) (o : Option ℕ) (d e : Bool) (answer : Option HallReply) → a ≡ false → b ≡ false → answer ≡ against o d e
+    → answer ≡ refused a b o d e
+refused_later a b o d e answer p q r = rw (p, q) r
 
-pub refused_credits : (a b : Bool) (o : Option ℕ) (d e : Bool) → a ≡ false → b ≡ false → o ≡ None → d ≡ true → Some reply.Credits ≡ refused a b o d e
-refused_credits a b o d e p q r t = rw (p, q, r, t) refl
+-- what stands against a section is a clash, the credits or the number of sections
+pub against_clash : (o : Option ℕ) (d e : Bool) (with' : SectionNo) → o ≡ Some with'.0 → Some (reply.Clash with') ≡ against o d e
+against_clash o d e with' r = rw r refl
 
-pub refused_courses : (a b : Bool) (o : Option ℕ) (d e : Bool) → a ≡ false → b ≡ false → o ≡ None → d ≡ false → e ≡ true
-    → Some reply.Courses ≡ refused a b o d e
-refused_courses a b o d e p q r t u = rw (p, q, r, t, u) refl
+pub against_credits : (o : Option ℕ) (d e : Bool) → o ≡ None → d ≡ true → Some reply.Credits ≡ against o d e
+against_credits o d e r t = rw (r, t) refl
 
-pub refused_none : (a b : Bool) (o : Option ℕ) (d e : Bool) → a ≡ false → b ≡ false → o ≡ None → d ≡ false → e ≡ false → None ≡ refused a b o d e
-refused_none a b o d e p q r t u = rw (p, q, r, t, u) refl
+pub against_courses : (o : Option ℕ) (d e : Bool) → o ≡ None → d ≡ false → e ≡ true → Some reply.Courses ≡ against o d e
+against_courses o d e r t u = rw (r, t, u) refl
+
+pub against_none : (o : Option ℕ) (d e : Bool) → o ≡ None → d ≡ false → e ≡ false → None ≡ against o d e
+against_none o d e r t u = rw (r, t, u) refl
+
+-- and a section fits where none of them does
+pub fits_where : (o : Option ℕ) (d e : Bool) → not (is_some (against o d e)) ≡ (not (is_some o) && not d && not e)
+fits_where (Some t) d e = refl
+fits_where None true e = refl
+fits_where None false true = refl
+fits_where None false false = refl
+
+pub fits_told : (o : Option ℕ) (d e : Bool) (answer : Option HallReply) (none : Bool) → answer ≡ against o d e → is_some answer ≡ not none
+    → (not (is_some o) && not d && not e) ≡ none
+fits_told o d e answer none p q = sym (fits_where o d e) ∙ ap (λ a. not (is_some a)) (sym p) ∙ ap not q ∙ twice none
+  where
+    twice : (b : Bool) → not (not b) ≡ b
+    twice true = refl
+    twice false = refl
 
 -- what the steps are in each case
 module _ (market : Market) (state : HallState) where

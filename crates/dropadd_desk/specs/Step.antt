@@ -44,6 +44,14 @@ first_of [] = None
 first_of (None ∷ more) = first_of more
 first_of (Some answer ∷ more) = Some answer
 
+-- the first thing that stands against it that a student who holds this set takes the section too
+abbrev pub obstacle : Market → ℕ → ℕ → List ℕ → Option HallReply
+obstacle market i s set = first_of (
+    option_map (λ (t : ℕ). reply.Clash (record { 0 = t })) (lowest_clash market s set)
+    ∷ where_so (exceeds_credits market i s set) reply.Credits
+    ∷ where_so (exceeds_courses market i set) reply.Courses
+    ∷ [])
+
 -- why a student can not have a section, where something stands against it
 abbrev pub refusal : Market → HallState → ℕ → ℕ → Option HallReply
 refusal market state i s = let held = held_by state i in first_of (

@@ -17,8 +17,7 @@ use student_roll::Roll;
 
 /// The names of the students, in file order, for looking a name up.
 pub(crate) fn student_names(alloc: Global, roll: &Roll) -> Result<IndexSet<Name>, NoMemory>
-    ensures names { IfOk result (λ names. map name_bytes names.keys ≡ names_of roll.now.students) }
-    ensures roll { IfOk result (λ names. IsRoll roll.now) }
+    ensures { IfOk result (λ names. map name_bytes names.keys ≡ names_of roll.now.students) }
 {
     let students = roll.len();
     let mut names = IndexSet::new(alloc);
@@ -30,10 +29,9 @@ pub(crate) fn student_names(alloc: Global, roll: &Roll) -> Result<IndexSet<Name>
 
 /// The names of the sections, in file order, for looking a name up.
 pub(crate) fn section_names(alloc: Global, catalog: &Catalog) -> Result<IndexSet<Name>, NoMemory>
-    ensures names { IfOk result
+    ensures { IfOk result
         (λ names. map name_bytes names.keys
         ≡ map (λ (section : Section). section.name) catalog.now.sections) }
-    ensures catalog { IfOk result (λ names. IsCatalog catalog.now) }
 {
     let sections = catalog.len();
     let mut names = IndexSet::new(alloc);

@@ -38,7 +38,8 @@ impl HallDesk {
     ghost use Rattle.dropadd_desk.specs.HallView.{Becomes, HasOutcome, market_of, state_of, room_of};
     ghost use Rattle.dropadd_desk.specs.Halls.{opening};
     ghost use Rattle.dropadd_desk.specs.Market.{AreKnown, section_count, student_count, section_named, student_named};
-    ghost use Rattle.dropadd_desk.specs.Step.{add, by_names, drop, given, IsUnknown, has_free_seat, held_by, leave, pass_on, refusal, step, waiting_for, with_held};
+    ghost use Rattle.dropadd_desk.specs.Step.{given, IsUnknown, held_by, pass_on, refusal, step, waiting_for};
+    ghost use Rattle.dropadd_desk.specs.declared.command.HallCommand.TheVariants.{Add, Drop, Leave};
     ghost use Rattle.demand_api.specs.Crowds.{holders};
 
     /// A desk for the sections of the catalogue and the students of the roll, with room for so many
@@ -118,18 +119,9 @@ impl HallDesk {
     {
         self.left -= 1;
         match request {
-            HallCommand::Add { student, section } => match self.find(&student, &section) {
-                Ok((student, section)) => self.add(student, section),
-                Err(reply) => reply,
-            },
-            HallCommand::Drop { student, section } => match self.find(&student, &section) {
-                Ok((student, section)) => self.give_up(student, section),
-                Err(reply) => reply,
-            },
-            HallCommand::Leave { student, section } => match self.find(&student, &section) {
-                Ok((student, section)) => self.leave(student, section),
-                Err(reply) => reply,
-            },
+            HallCommand::Add { student, section } => self.add(&student, &section),
+            HallCommand::Drop { student, section } => self.give_up(&student, &section),
+            HallCommand::Leave { student, section } => self.leave(&student, &section),
             HallCommand::Unreadable => HallReply::Unreadable,
         }
     }
@@ -156,12 +148,15 @@ impl HallDesk {
         Ok((student, section))
     }
 
-    // The student wants the section.
-    fn add(&mut self, student: StudentNo, section: SectionNo) -> HallReply
-        requires { AreKnown (market_of self.old) student.0 section.0 }
+    // The student of this name wants the section of this name.
+    fn add(&mut self, student: &Name, section: &Name) -> HallReply
         ensures { HasOutcome self.old self.new result
-            (add (market_of self.old) (state_of self.old) student.0 section.0) }
+            (step (market_of self.old) (state_of self.old) (Add student.now section.now)) }
     {
+        let (student, section) = match self.find(student, section) {
+            Ok(known) => known,
+            Err(reply) => return reply,
+        };
         if let Some(answer) = self.refusal(student, section) {
             return answer;
         }
@@ -190,16 +185,7 @@ impl HallDesk {
         if self.waiting(section).contains(&student.0) {
             return Some(HallReply::Waiting);
         }
-        if let Some(with) = self.rules.lowest_clash(section, &held) {
-            return Some(HallReply::Clash { with });
-        }
-        if self.rules.exceeds_credits(student, section, &held) {
-            return Some(HallReply::Credits);
-        }
-        if self.rules.exceeds_courses(student, &held) {
-            return Some(HallReply::Courses);
-        }
-        None
+        self.rules.obstacle(student, section, &held)
     }
 
     // The student, who neither holds the section nor waits for it and has room for it, holds it
@@ -217,12 +203,15 @@ impl HallDesk {
         self.floor.give(self.rules.seats(), place, bundle);
     }
 
-    // The student gives the section up.
-    fn give_up(&mut self, student: StudentNo, section: SectionNo) -> HallReply
-        requires { AreKnown (market_of self.old) student.0 section.0 }
+    // The student of this name gives up the section of this name.
+    fn give_up(&mut self, student: &Name, section: &Name) -> HallReply
         ensures { HasOutcome self.old self.new result
-            (drop (market_of self.old) (state_of self.old) student.0 section.0) }
+            (step (market_of self.old) (state_of self.old) (Drop student.now section.now)) }
     {
+        let (student, section) = match self.find(student, section) {
+            Ok(known) => known,
+            Err(reply) => return reply,
+        };
         let place = usize::from(student.0);
         let held = self.floor.held[place];
         if !held.has(section) {
@@ -268,19 +257,23 @@ impl HallDesk {
         let waiting = self.waiting(section);
         for (place, student) in waiting.iter().enumerate() {
             let student = StudentNo(*student);
-            if self.rules.fits(student, section, &self.bundle(student)) {
+            let held = self.bundle(student);
+            if self.rules.obstacle(student, section, &held).is_none() {
                 return Some(place);
             }
         }
         None
     }
 
-    // The student waits for the section no longer.
-    fn leave(&mut self, student: StudentNo, section: SectionNo) -> HallReply
-        requires { AreKnown (market_of self.old) student.0 section.0 }
+    // The student of this name waits no longer for the section of this name.
+    fn leave(&mut self, student: &Name, section: &Name) -> HallReply
         ensures { HasOutcome self.old self.new result
-            (leave (state_of self.old) student.0 section.0) }
+            (step (market_of self.old) (state_of self.old) (Leave student.now section.now)) }
     {
+        let (student, section) = match self.find(student, section) {
+            Ok(known) => known,
+            Err(reply) => return reply,
+        };
         let list = usize::from(section.0);
         let Some(place) = place_of(self.lists.items(list), student.0) else {
             return HallReply::NotWaiting;

@@ -94,7 +94,8 @@ impl WaitingLists {
     {
         let front = self.fronts[list];
         let row = self.region.row_mut(RowId(front.row));
-        close_up(row, start, end, usize::from(front.len));
+        // What stands behind the place `end` is moved to the place `start`.
+        row.copy_within(end..usize::from(front.len), start);
         self.fronts[list] = Front {
             row: front.row,
             len: front.len - (end - start) as u16,
@@ -114,16 +115,4 @@ fn put(cells: &mut [u16], place: usize, item: u16)
     ensures { cells.new ≡ slice_set cells.old place item }
 {
     cells[place] = item;
-}
-
-// Moves what stands behind the place `end`, up to `len`, to the place `start`.
-fn close_up(cells: &mut [u16], start: usize, end: usize, len: usize)
-    requires order { start ≤ end }
-    requires within { end ≤ len }
-    requires inside { len ≤ length cells.old }
-    ensures length { length cells.new ≡ length cells.old }
-    ensures front { take (len - (end - start)) cells.new
-        ≡ remove_range (take len cells.old) start end }
-{
-    cells.copy_within(end..len, start);
 }

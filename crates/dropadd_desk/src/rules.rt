@@ -1,21 +1,14 @@
 // What a desk keeps of a market.
-ghost use Rattle.std.specs.Prelude.{◌≡◌, ◌<◌, ◌≤◌, ◌+◌, ◌*◌, [], ℕ, true, false, IfOk, IfSome, IsTrue, All, length, map, option_map, slice_index_or, take};
-ghost use Rattle.market_units.specs.{Members.has, Name.name_bytes, Totals.total};
-ghost use Rattle.std.specs.Ordering.{nat_cmp};
-ghost use Rattle.std.specs.FinSet as set;
-ghost use Rattle.std.specs.List.{find};
-ghost use Rattle.bundle_rules.specs.{Bundles.sections_of, Ordinals.ordinals};
-ghost use Rattle.course_catalog.specs.Sections.{Section, section_at, sections_clash};
-ghost use Rattle.student_roll.specs.Students.{Student};
+ghost use Rattle.std.specs.Prelude.{◌≡◌, ◌<◌, ℕ, true, None, IfOk, IfSome, length, option_map};
+ghost use Rattle.market_units.specs.Members.{has};
+ghost use Rattle.bundle_rules.specs.Bundles.{sections_of};
 
 use crate::copies::{caps_of, clashes_of, credits_of, section_names, student_names};
+use crate::reply::HallReply;
 use bundle_rules::Bundle;
 use course_catalog::Catalog;
 use indexmap::IndexSet;
-use market_units::{
-    MAX_COURSES, MAX_SECTION_CREDITS, MAX_SECTIONS, Name, NoMemory, SectionNo, SectionSet,
-    StudentNo,
-};
+use market_units::{MAX_COURSES, Name, NoMemory, SectionNo, SectionSet, StudentNo};
 use std::alloc::Global;
 use std::marker::Model;
 use std::snapshot::Snapshot;
@@ -53,9 +46,9 @@ impl Model for MarketRules {
 }
 
 impl MarketRules {
-    ghost use Rattle.dropadd_desk.specs.Fits.{credits_of, fits, lowest_clash, exceeds_credits, exceeds_courses};
     ghost use Rattle.dropadd_desk.specs.Kept.{IsMarket};
     ghost use Rattle.dropadd_desk.specs.Market.{AreKnown, section_count, student_count, section_named, student_named, seats_in};
+    ghost use Rattle.dropadd_desk.specs.Step.{obstacle};
 
     /// What a desk keeps of this catalogue and this roll. The only error is that memory was wanted
     /// and not given.
@@ -66,6 +59,9 @@ impl MarketRules {
     ) -> Result<MarketRules, NoMemory>
         ensures { IfOk result (λ rules. rules ≡ record { catalog = catalog.now; roll = roll.now }) }
     {
+        // Their contracts say what holds of every catalogue and every roll.
+        let _sections = catalog.len();
+        let _students = roll.len();
         Ok(MarketRules {
             students: student_names(alloc, roll)?,
             caps: caps_of(alloc, roll)?,
@@ -106,86 +102,37 @@ impl MarketRules {
         &self.seats
     }
 
-    /// The lowest section of the bundle that clashes with the section; `None` where none does.
-    pub(crate) fn lowest_clash(&self, section: SectionNo, held: &Bundle) -> Option<SectionNo>
-        requires section { section.0 < section_count self.now }
-        requires within { (s : ℕ) → has (sections_of held.now) s ≡ true
-            → s < section_count self.now }
-        ensures { option_map (λ with. with.0) result
-            ≡ lowest_clash self.now section.0 (sections_of held.now) }
-    {
-        let clashes = self.clashes[usize::from(section.0)];
-        first_in(&clashes, held.sections())
-    }
-
-    /// Whether the credits of the bundle and the section together exceed the student's cap.
-    pub(crate) fn exceeds_credits(
+    /// The first thing that stands against it that the student, who holds this bundle, takes the
+    /// section too: a clash, the cap on credits, the cap on sections; `None` where nothing does.
+    /// Seats are not looked at.
+    pub(crate) fn obstacle(
         &self,
         student: StudentNo,
         section: SectionNo,
         held: &Bundle,
-    ) -> bool
+    ) -> Option<HallReply>
         requires known { AreKnown self.now student.0 section.0 }
         requires within { (s : ℕ) → has (sections_of held.now) s ≡ true
             → s < section_count self.now }
-        ensures { result ≡ exceeds_credits self.now student.0 section.0 (sections_of held.now) }
+        ensures obstacle { result ≡ obstacle self.now student.0 section.0 (sections_of held.now) }
+        ensures room { result ≡ None → length (sections_of held.now) < MAX_COURSES }
     {
-        let credits = self.sum_credits(held.sections()) + self.credits[usize::from(section.0)];
-        credits > self.caps[usize::from(student.0)].credits
-    }
-
-    /// Whether one section more than the bundle has is one too many for the student's cap.
-    pub(crate) fn exceeds_courses(&self, student: StudentNo, held: &Bundle) -> bool
-        requires { student.0 < student_count self.now }
-        ensures exceeds { result ≡ exceeds_courses self.now student.0 (sections_of held.now) }
-        ensures room { result ≡ false → length (sections_of held.now) < MAX_COURSES }
-    {
-        held.sections().len() + 1 > usize::from(self.caps[usize::from(student.0)].courses)
-    }
-
-    /// Whether the student, who holds this bundle, could take the section too: there is no clash,
-    /// and the caps are kept. Seats are not looked at.
-    pub(crate) fn fits(&self, student: StudentNo, section: SectionNo, held: &Bundle) -> bool
-        requires known { AreKnown self.now student.0 section.0 }
-        requires within { (s : ℕ) → has (sections_of held.now) s ≡ true
-            → s < section_count self.now }
-        ensures fits { result ≡ fits self.now student.0 section.0 (sections_of held.now) }
-        ensures room { result ≡ true → length (sections_of held.now) < MAX_COURSES }
-    {
-        if self.lowest_clash(section, held).is_some() {
-            return false;
+        let clashes = self.clashes[usize::from(section.0)];
+        let mut credits = self.credits[usize::from(section.0)];
+        let sections = held.sections();
+        'held: for other in sections {
+            if clashes.has(*other) {
+                return Some(HallReply::Clash { with: *other });
+            }
+            credits += self.credits[usize::from(other.0)];
         }
-        if self.exceeds_credits(student, section, held) {
-            return false;
+        let caps = self.caps[usize::from(student.0)];
+        if credits > caps.credits {
+            return Some(HallReply::Credits);
         }
-        !self.exceeds_courses(student, held)
-    }
-
-    // The credits of these sections together.
-    fn sum_credits(&self, sections: &[SectionNo]) -> u16
-        requires few { length sections.now ≤ MAX_COURSES }
-        requires within { All (λ section. section.0 < section_count self.now) sections.now }
-        ensures sum { result ≡ credits_of self.now (ordinals sections.now) }
-        ensures few { result ≤ MAX_SECTION_CREDITS * MAX_COURSES }
-    {
-        let mut sum = 0;
-        for section in sections {
-            sum += self.credits[usize::from(section.0)];
+        if sections.len() + 1 > usize::from(caps.courses) {
+            return Some(HallReply::Courses);
         }
-        sum
+        None
     }
-}
-
-// The first of the sections that is in the set.
-fn first_in(wanted: &SectionSet, sections: &[SectionNo]) -> Option<SectionNo>
-    requires { All (λ section. section.0 < MAX_SECTIONS) sections.now }
-    ensures { option_map (λ section. section.0) result
-        ≡ find (λ s. set.contains wanted.now s) (ordinals sections.now) }
-{
-    for section in sections {
-        if wanted.has(*section) {
-            return Some(*section);
-        }
-    }
-    None
 }

@@ -1,8 +1,17 @@
 -- Limits that are passed, and the first of them.
-use Rattle.std.proofs.Common.{ℕ, ◌≡◌, ◌<◌, ◌≤◌, ◌+◌, List, ◌∷◌, length, refl, arith, inl, inr}
+use Rattle.std.proofs.Common.{ℕ, ◌≡◌, ◌<◌, ◌≤◌, ◌+◌, ◌++◌, ◌∙◌, List, [], ◌∷◌, Some, length, take, get_or, ap, sym, refl, arith, inl, inr}
+use Rattle.std.specs.Prelude.{slice_get}
 use Rattle.std.proofs.lemmas.Bool.{cases_lt}
+use Rattle.std.proofs.lemmas.List.{map_more}
 use Rattle.market_units.specs.Totals.{total}
-use Rattle.bundle_rules.specs.Menus.{MenuData, wishes_of}
+use Rattle.market_units.specs.declared.units.SectionNo.{SectionNo}
+use Rattle.market_units.specs.declared.units.Tokens.{Tokens}
+use Rattle.market_units.proofs.Sums.{total-append}
+use Rattle.bundle_rules.specs.declared.menu.Rated.{Rated}
+use Rattle.bundle_rules.specs.Demand.{price_in}
+use Rattle.bundle_rules.specs.Menus.{MenuData, credits_at, place_in, section_at, wishes_of}
+use Rattle.bundle_rules.specs.Ordinals.{ordinals}
+use Rattle.bundle_rules.specs.Existence.Places.{credits_at-is, section_at-place_in}
 use Rattle.bundle_rules.specs.Wishes.{Wishes}
 use Rattle.explain_desk.specs.declared.limits.Limit.{Limit}
 use Rattle.explain_desk.specs.declared.limits.Limit.TheVariants.{Price, Credits, Courses}
@@ -97,3 +106,24 @@ credit_cap_is menu = refl
 pub course_cap_is : (menu : MenuData) → menu.courses ≡ (wishes_of menu).course_cap
 unfolding wishes_of
 course_cap_is menu = refl
+
+-- the price and the credits of a section, as they are read at its place
+pub price_told : (menu : MenuData) (prices : List Tokens) (section place price : ℕ) → price ≡ price_in prices (section_at menu.places place)
+    → place ≡ place_in menu.places section → place_in menu.places section < length menu.places → price ≡ price_in prices section
+price_told menu prices section place price told is low =
+    told ∙ ap (λ k. price_in prices (section_at menu.places k)) is ∙ ap (price_in prices) (section_at-place_in menu.places section low)
+
+pub credits_told : (menu : MenuData) (section place credits : ℕ) (rated : Rated) → credits ≡ rated.credits → slice_get menu.places place ≡ Some rated
+    → place ≡ place_in menu.places section → credits ≡ (wishes_of menu).credits section
+unfolding wishes_of
+credits_told menu section place credits rated told at is =
+    told ∙ sym (credits_at-is menu.places place rated at) ∙ ap (credits_at menu.places) is
+
+-- one section more in a sum
+pub sum_more : (f : ℕ → ℕ) (xs : List SectionNo) (i : ℕ) (d : SectionNo) (n : ℕ) → i < length xs → n ≡ f (get_or xs i d).0
+    → total f (ordinals (take i xs)) + n ≡ total f (ordinals (take (i + 1) xs))
+sum_more f xs i d n low is =
+    let all = total-append f (ordinals (take i xs)) ((get_or xs i d).0 ∷ []) in
+    let whole : total f (ordinals (take (i + 1) xs)) ≡ total f (ordinals (take i xs) ++ (get_or xs i d).0 ∷ []) =
+    ap (total f) (map_more (λ (section : SectionNo). section.0) xs i d low) in
+    omega (arith, all, whole, is)

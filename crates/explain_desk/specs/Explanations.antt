@@ -1,7 +1,8 @@
 -- What a student is told of a section.
-use Rattle.std.specs.Prelude.{ℕ, ◌≡◌, List, Option, Some, IfSome, is_some, nat_lt}
+use Rattle.std.specs.Prelude.{ℕ, ◌≡◌, ◌<◌, ◌≤◌, All, List, Option, Some, IfSome, is_some, nat_lt}
+use Rattle.market_units.specs.declared.limits.TheConstants.{MAX_SECTIONS}
 use Rattle.market_units.specs.declared.units.Tokens.{Tokens}
-use Rattle.bundle_rules.specs.Demand.{price_in}
+use Rattle.bundle_rules.specs.Demand.{HasPrices, price_in}
 use Rattle.bundle_rules.specs.Given.{IsBestWith}
 use Rattle.bundle_rules.specs.Menus.{MenuData, place_in, wishes_of}
 use Rattle.bundle_bounds.specs.Offers.{OfferData}
@@ -20,6 +21,13 @@ offer_of_all menu prices budget sections =
       allowed = λ s. nat_lt s
           sections;
     }
+
+-- all of so many sections can be offered to a student with this menu at these prices: they are at
+-- most 400, those of the menu are among them, and each of these has a price
+pub record CanBeOffered (menu : MenuData) (prices : List Tokens) (sections : ℕ) : Type 0 where
+  pub priced : HasPrices menu prices
+  pub few : sections ≤ MAX_SECTIONS
+  pub within : All (λ rated. rated.section.0 < sections) menu.places
 
 -- the best bundle with the section, and the text of its forced tree
 pub record IsProvedWith (offer : OfferData) (section : ℕ) (proved : Proved) : Type 0 where

@@ -1,13 +1,13 @@
 // Whether a text is the forced tree of a bundle with a section.
-ghost use Rattle.std.specs.Prelude.{◌≡◌, ◌↔◌, ◌<◌, ◌≤◌, true, All, Some, IsOk, IfErr};
+ghost use Rattle.std.specs.Prelude.{◌≡◌, ◌↔◌, ◌≤◌, true, Some, IsOk, IfErr};
 ghost use Rattle.market_units.specs.{Members.has, Totals.total};
-ghost use Rattle.bundle_rules.specs.{Bundles.sections_of, Demand.HasPrices, Demand.price_in};
+ghost use Rattle.bundle_rules.specs.{Bundles.sections_of, Demand.price_in};
 ghost use Rattle.bundle_rules.specs.{Menus.place_in, Menus.wishes_of, Wishes.IsFeasible};
 ghost use Rattle.proof_tree.specs.Defects.{FirstFailsAt};
-ghost use Rattle.explain_desk.specs.Explanations.{IsProvedWith, offer_of_all};
+ghost use Rattle.explain_desk.specs.Explanations.{CanBeOffered, IsProvedWith, offer_of_all};
 
 use bundle_rules::{Bundle, Menu};
-use market_units::{MAX_SECTIONS, SectionNo, SectionSet, Tokens};
+use market_units::{SectionNo, SectionSet, Tokens};
 
 /// Whether the champion is the best bundle with the section, where all of so many sections are
 /// offered, and the text its forced tree: `Ok` exactly there, and else the offset, in bytes, at
@@ -24,9 +24,7 @@ pub fn check_forced(
     champion: &Bundle,
     text: &[u8],
 ) -> Result<(), u32>
-    requires prices { HasPrices menu.now prices.now }
-    requires sections { sections ≤ MAX_SECTIONS }
-    requires menu { All (λ rated. rated.section.0 < sections) menu.now.places }
+    requires offer { CanBeOffered menu.now prices.now sections }
     requires feasible { IsFeasible (wishes_of menu.now) (sections_of champion.now) }
     requires affordable { total (price_in prices.now) (sections_of champion.now) ≤ budget.0 }
     requires section { has (sections_of champion.now) section.0 ≡ true }

@@ -1,9 +1,9 @@
 // Explanations.
-ghost use Rattle.std.specs.Prelude.{◌≡◌, ◌<◌, ◌≤◌, All, IfOk, IfSome, IfNone, nat_lt};
+ghost use Rattle.std.specs.Prelude.{◌<◌, IfOk, IfSome, IfNone, nat_lt};
 ghost use Rattle.bundle_rules.specs.Bundles.{sections_of};
-ghost use Rattle.bundle_rules.specs.Demand.{HasPrices, IsBest, price_in};
+ghost use Rattle.bundle_rules.specs.Demand.{IsBest, price_in};
 ghost use Rattle.bundle_rules.specs.{Given.SomeHas, Menus.wishes_of};
-ghost use Rattle.explain_desk.specs.Explanations.{IsExplained, IsProvedWith, offer_of_all};
+ghost use Rattle.explain_desk.specs.Explanations.{CanBeOffered, IsExplained, IsProvedWith, offer_of_all};
 ghost use Rattle.explain_desk.specs.Views.{explained_of, offer_made, proved_of};
 
 use crate::offered::Offered;
@@ -11,7 +11,7 @@ use crate::reasons::{reason_of, tells_best};
 use crate::{Explained, Proved};
 use bundle_rules::{Bundle, Menu};
 use demand_oracle::{Workspace, demand_with};
-use market_units::{MAX_SECTIONS, NoMemory, SectionNo, SectionSet, Tokens};
+use market_units::{NoMemory, SectionNo, SectionSet, Tokens};
 use proof_tree::build_forced;
 use std::alloc::Global;
 
@@ -29,9 +29,7 @@ pub fn explain(
     bundle: &Bundle,
     section: SectionNo,
 ) -> Result<Explained, NoMemory>
-    requires prices { HasPrices menu.now prices.now }
-    requires sections { sections ≤ MAX_SECTIONS }
-    requires menu { All (λ rated. rated.section.0 < sections) menu.now.places }
+    requires offer { CanBeOffered menu.now prices.now sections }
     requires section { section.0 < sections }
     requires bundle { IsBest (wishes_of menu.now) (price_in prices.now) budget.0
         (λ s. nat_lt s sections) (sections_of bundle.now) }

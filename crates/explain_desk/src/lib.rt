@@ -11,7 +11,6 @@
 #![tactic(auto)]
 
 mod checking;
-mod clashes;
 mod explaining;
 mod explanation;
 pub mod laws;

@@ -5,7 +5,6 @@ ghost use Rattle.bundle_rules.specs.Wishes.{IsFeasible};
 ghost use Rattle.explain_desk.specs.Reasons.{IsReason, tells_best};
 
 use crate::Limit;
-use crate::clashes::first_clash;
 use crate::limits::first_passed;
 use crate::offered::Offered;
 use bundle_rules::Bundle;
@@ -39,14 +38,18 @@ pub(crate) fn reason_of(offered: &Offered, bundle: &Bundle, section: SectionNo) 
     if bundle.has(section) {
         return Reason::Held;
     }
-    if menu.place(section) >= menu.len() {
+    let place = menu.place(section);
+    if place >= menu.len() {
         return Reason::Unrated;
     }
     if let Some(limit) = first_passed(offered, section, &Bundle::empty()) {
         return Reason::Alone(limit);
     }
-    if let Some(other) = first_clash(menu, bundle.sections(), section) {
-        return Reason::Clash(other);
+    let sections = bundle.sections();
+    'others: for other in sections {
+        if menu.clash(menu.place(*other), place) {
+            return Reason::Clash(*other);
+        }
     }
     match first_passed(offered, section, bundle) {
         Some(limit) => Reason::Beside(limit),

@@ -14,8 +14,8 @@ loop-section-preserved c =
     (c.name.ensures ∙ sym (get_or-map (λ (section : Section). section.name) c.args.catalog.now.sections c.loop-section.section no_section [] low))
     c.in_ok-insert.ensures.keys
 
-pub returns-clause-names : goal.returns-clause-names
-returns-clause-names c =
+pub returns : goal.returns
+returns c =
     c.loop-section.invariant
     ∙ take_all _ _
     (omega

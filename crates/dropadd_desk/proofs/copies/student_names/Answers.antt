@@ -13,8 +13,8 @@ loop-student-preserved c =
     c.loop-student.invariant
     (read_option (λ (student : Student). student.name) c.args.roll.now.students c.loop-student.student _ [] c.name.ensures) c.in_ok-insert.ensures.keys
 
-pub returns-clause-names : goal.returns-clause-names
-returns-clause-names c =
+pub returns : goal.returns
+returns c =
     c.loop-student.invariant
     ∙ take_all _ _
     (omega (arith, length-map c.args.roll.now.students (λ (student : Student). student.name), c.loop-student-test.false, c.len-students.ensures.len))

@@ -7,6 +7,6 @@ check_forced-requires-clause-champion c = record {
   feasible = c.requires.feasible;
   affordable = c.requires.affordable;
   within =
-      all_offered c.args.menu.now c.args.sections (sections_of c.args.champion.now) c.full-all.result c.full-all.ensures c.requires.menu
+      all_offered c.args.menu.now c.args.sections (sections_of c.args.champion.now) c.full-all.result c.full-all.ensures c.requires.offer.within
       c.requires.feasible.rated;
 }

@@ -7,6 +7,7 @@ use Rattle.bundle_rules.specs.Bundles.{sections_of}
 use Rattle.bundle_rules.specs.Demand.{HasPrices, IsBest, price_in}
 use Rattle.bundle_rules.specs.Menus.{wishes_of}
 use Rattle.demand_api.specs.Views.{data_of}
+use Rattle.demand_api.proofs.Parts.{few_sections}
 use Rattle.market_certificate.specs.Views.{publication_of}
 use Rattle.explain_desk.specs.Checked.{IsChecked}
 use Rattle.explain_desk.specs.Explanations.{IsExplained, offer_of_all}
@@ -77,14 +78,16 @@ index-proved-requires c =
     c.from-place.result c.args.student.0 (known (goal.at.index-proved-requires c).After-from-place) c.requires.student c.from-place.ensures).2 in
     search rules
 
-pub explain-requires-clause-prices : goal.explain-requires-clause-prices
-explain-requires-clause-prices c =
-    let at = goal.at.explain-requires-clause-prices c in
-    subst (λ (prices : List Tokens). HasPrices c.index-menu.result.now prices) (sym c.as_slice-prices.ensures.value)
-    (menu_priced _ _ _ _ _ _ (stands at.After-index-proved) c.args.market.now.catalog.now c.args.market.now.roll.now (known_there at.After-index-proved))
-
-pub explain-requires-clause-menu : goal.explain-requires-clause-menu
-explain-requires-clause-menu c = menu_within _ _ _ _ _ _ (stands (goal.at.explain-requires-clause-menu c).After-index-proved)
+pub explain-requires-clause-offer : goal.explain-requires-clause-offer
+explain-requires-clause-offer c =
+    let at = (goal.at.explain-requires-clause-offer c).After-index-proved in
+    record {
+      priced =
+          subst (λ (prices : List Tokens). HasPrices c.index-menu.result.now prices) (sym c.as_slice-prices.ensures.value)
+          (menu_priced _ _ _ _ _ _ (stands at) c.args.market.now.catalog.now c.args.market.now.roll.now (known_there at));
+      few = few_sections c.in_ok-accepted.accepted.crowd;
+      within = menu_within _ _ _ _ _ _ (stands at);
+    }
 
 pub explain-requires-clause-bundle : goal.explain-requires-clause-bundle
 explain-requires-clause-bundle c =
