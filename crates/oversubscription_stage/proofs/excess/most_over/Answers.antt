@@ -2,8 +2,8 @@ use Rattle.std.proofs.Common.{◌≡◌, ◌-◌, ℕ, length, refl, arith, rule
 use Rattle.std.specs.Prelude.{slice_index}
 use Rattle.demand_api.specs.Crowds.{holders}
 use Rattle.oversubscription_stage.proofs.Finding.{most_more, most_same, most_some, most_none}
-use Rattle.oversubscription_stage.proofs.round.most_over.Goals.{then-over-greatest, else-over-greatest}
-use Rattle.oversubscription_stage.proofs.round.most_over.Goals as goal
+use Rattle.oversubscription_stage.proofs.excess.most_over.Goals.{then-over-greatest, else-over-greatest}
+use Rattle.oversubscription_stage.proofs.excess.most_over.Goals as goal
 
 pub loop-place-init : goal.loop-place-init
 loop-place-init c = (refl, λ t low. absurd (omega arith))
