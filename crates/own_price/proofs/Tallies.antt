@@ -1,17 +1,17 @@
 -- Bundles, their counts, and one bundle that is exchanged.
-use Rattle.std.proofs.Common.{ℕ, zero, suc, ◌≡◌, ◌≢◌, ◌<◌, ◌≤◌, ◌+◌, ◌==◌, ◌∙◌, Bool, true, List, [], ◌∷◌, length, map, take, All, arith, subst, sym, ap, inl, inr}
+use Rattle.std.proofs.Common.{ℕ, zero, suc, ◌≡◌, ◌≢◌, ◌<◌, ◌≤◌, ◌+◌, ◌==◌, ◌∙◌, Bool, true, List, [], ◌∷◌, length, map, All, arith, subst, sym, ap, inl, inr}
 use Rattle.std.specs.Prelude.{slice_index, slice_index_or, slice_set, if◌then◌else◌}
 use Rattle.std.proofs.lemmas.Bool.{cases_Bool}
 use Rattle.std.proofs.lemmas.Bool.Decides.{nat_tests}
 use Rattle.std.proofs.lemmas.Option.{slice_get-get_or}
-use Rattle.std.proofs.lemmas.List.{get_or-set_same, get_or-set_other, get_or-map, map-set, length-set, length-map, take_all}
+use Rattle.std.proofs.lemmas.List.{get_or-set_same, get_or-set_other, map-set, length-set, length-map}
 use Rattle.market_units.specs.declared.units.SectionNo.{SectionNo}
 use Rattle.bundle_rules.specs.declared.bundle.Bundle.{Bundle}
 use Rattle.bundle_rules.specs.Bundles.{sections_of}
 use Rattle.market_units.specs.Members.{has}
 use Rattle.bundle_rules.specs.Ordinals.{ordinals, IsBundle}
 use Rattle.demand_api.specs.Crowds.{holders}
-use Rattle.demand_api.specs.Counting.{AreCounts, HasCounted}
+use Rattle.demand_api.specs.Counting.{HasCounted}
 use Rattle.demand_api.proofs.Holders.{holders_set}
 use Rattle.demand_api.proofs.Takers.{holders_few, listed_in, sections_few, index_same}
 use Rattle.demand_api.proofs.Within.{read_at, within_at}

@@ -1,4 +1,4 @@
-use Rattle.std.proofs.Common.{ℕ, ◌≡◌, ◌<◌, ◌≤◌, ◌+◌, ◌∷◌, length, ap, subst, ◌∙◌, sym, refl, arith}
+use Rattle.std.proofs.Common.{◌≡◌, ◌<◌, ◌≤◌, ◌+◌, ◌∷◌, length, ap, subst, ◌∙◌, sym, refl, arith}
 use Rattle.std.specs.Prelude.{All, true}
 use Rattle.std.proofs.lemmas.List.{length-map, take_all}
 use Rattle.market_units.specs.Totals.{total}
