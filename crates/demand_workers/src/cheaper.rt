@@ -55,32 +55,27 @@ impl Cheaper {
             Err(_) => None,
         }
     }
-
-    /// Whether it is known that no section at these places became cheaper.
-    pub(crate) fn spares(self, places: &[Rated], before: &[Tokens], after: &[Tokens]) -> bool
-        requires before { All (λ rated. rated.section.0 < length before.now) places.now }
-        requires after { All (λ rated. rated.section.0 < length after.now) places.now }
-        requires within { AreWithin self.first self.past before.now after.now }
-        ensures { IsTrue result → NoneIsCheaper places.now before.now after.now }
-    {
-        if self.past <= self.first {
-            return true;
-        }
-        none_is_cheaper(self, places, before, after)
-    }
 }
 
-fn none_is_cheaper(cheaper: Cheaper, places: &[Rated], before: &[Tokens], after: &[Tokens]) -> bool
+/// Whether it is known that no section at these places became cheaper.
+pub(crate) fn spares(
+    cheaper: Cheaper,
+    places: &[Rated],
+    before: &[Tokens],
+    after: &[Tokens],
+) -> bool
     requires before { All (λ rated. rated.section.0 < length before.now) places.now }
     requires after { All (λ rated. rated.section.0 < length after.now) places.now }
     requires within { AreWithin cheaper.first cheaper.past before.now after.now }
     ensures { IsTrue result → NoneIsCheaper places.now before.now after.now }
 {
+    if cheaper.past <= cheaper.first {
+        return true;
+    }
     match places {
         [] => true,
         [rated, more @ ..] => {
-            is_spared(cheaper, rated.section, before, after)
-                && none_is_cheaper(cheaper, more, before, after)
+            is_spared(cheaper, rated.section, before, after) && spares(cheaper, more, before, after)
         }
     }
 }
