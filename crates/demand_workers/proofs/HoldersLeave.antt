@@ -183,6 +183,19 @@ holder_told crowd prices s i place cost budget bundle are within low has_it told
 abbrev pub room_of : List (ℕ × ℕ) → ℕ
 room_of hs = sum_by (λ (h : ℕ × ℕ). h.0 + 1) hs
 
+-- without the one that is popped it is less
+pub room_popped : (hs rest : List (ℕ × ℕ)) (first : ℕ × ℕ) → IsPermutation hs (first ∷ rest) → room_of rest < room_of hs
+room_popped hs rest first popped =
+    let gone : room_of rest + (first.0 + 1) ≡ room_of hs = sum_by_popped (λ (h : ℕ × ℕ). h.0 + 1) first hs rest popped in omega arith
+
+-- and with one that leaves later in its place
+pub room_pushed : (hs rest new : List (ℕ × ℕ)) (first again : ℕ × ℕ) → IsPermutation hs (first ∷ rest) → IsPermutation (again ∷ rest) new
+    → again.0 < first.0 → room_of new < room_of hs
+room_pushed hs rest new first again popped pushed low =
+    let gone : room_of rest + (first.0 + 1) ≡ room_of hs = sum_by_popped (λ (h : ℕ × ℕ). h.0 + 1) first hs rest popped in
+    let more : room_of new ≡ again.0 + 1 + room_of rest = sum_by_pushed (λ (h : ℕ × ℕ). h.0 + 1) again rest new pushed in
+    omega arith
+
 -- a student that is not there takes nothing
 none_past : (crowd : CrowdData) (price : ℕ → ℕ) (s i : ℕ) → length crowd.students ≤ i → has (demand_of crowd price i) s ≡ false
 unfolding demands
@@ -280,13 +293,10 @@ module _ (crowd : CrowdData) (price : ℕ → ℕ) (s level : ℕ) (hs rest : Li
     }
 
     pub less_stayed : again.0 < first.0 → room_of new < room_of hs
-    less_stayed low =
-        let gone : room_of rest + (first.0 + 1) ≡ room_of hs = sum_by_popped (λ (h : ℕ × ℕ). h.0 + 1) first hs rest popped in
-        let more : room_of new ≡ again.0 + 1 + room_of rest = sum_by_pushed (λ (h : ℕ × ℕ). h.0 + 1) again rest new pushed in
-        omega arith
+    less_stayed = room_pushed hs rest new first again popped pushed
 
   pub less_left : room_of rest < room_of hs
-  less_left = let gone : room_of rest + (first.0 + 1) ≡ room_of hs = sum_by_popped (λ (h : ℕ × ℕ). h.0 + 1) first hs rest popped in omega arith
+  less_left = room_popped hs rest first popped
 
 -- where no more than the limit are left, and more took the section at each lower price, the price is the least
 pub least_found : (crowd : CrowdData) (price : ℕ → ℕ) (s low limit least : ℕ) (hs : List (ℕ × ℕ)) → low ≤ least

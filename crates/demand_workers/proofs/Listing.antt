@@ -1,11 +1,14 @@
 -- Holders that are popped and pushed.
-use Rattle.std.proofs.Common.{ℕ, ◌∷◌, List, All, arith}
+use Rattle.std.proofs.Common.{ℕ, ◌<◌, ◌∷◌, Some, List, All, arith}
 use Rattle.std.specs.List.Sorted.{IsPermutation}
 use Rattle.std.proofs.lemmas.List.Elements.{All-cons, All-tail}
 use Rattle.std.proofs.lemmas.List.Sorted.{All-permutation}
+use Rattle.market_units.specs.declared.units.SectionNo.{SectionNo}
 use Rattle.demand_api.specs.Crowds.{CrowdData}
-use Rattle.demand_workers.specs.Leaving.{AreLeft}
+use Rattle.demand_workers.specs.Leaving.{AreLeft, leaves}
+use Rattle.demand_workers.specs.Inquiring.{IsInquiry}
 use Rattle.demand_workers.specs.Walks.{IsListed}
+use Rattle.demand_workers.proofs.Surveying.{can_be_raised}
 
 -- the holders that are left are listed
 pub listed_left : (crowd : CrowdData) (price : ℕ → ℕ) (s level : ℕ) (hs : List (ℕ × ℕ)) → AreLeft crowd price s level hs → All (IsListed crowd) hs
@@ -28,3 +31,16 @@ rest_listed crowd hs rest first popped all = All-tail (IsListed crowd) first res
 pub more_listed : (crowd : CrowdData) (rest new : List (ℕ × ℕ)) (holder : ℕ × ℕ) → IsPermutation (holder ∷ rest) new → IsListed crowd holder
     → All (IsListed crowd) rest → All (IsListed crowd) new
 more_listed crowd rest new holder pushed is all = All-permutation (IsListed crowd) (holder ∷ rest) new pushed (All-cons (IsListed crowd) holder rest is all)
+
+-- who leaves past the price at which the first left is listed below it
+pub leaves_after : (first again : ℕ × ℕ) → leaves first < leaves again → again.0 < first.0
+leaves_after first again later = omega (arith, later)
+
+-- a listed holder can be asked at the price from which it does not keep what it holds
+pub listed_inquiry : (crowd : CrowdData) (section : SectionNo) (first : ℕ × ℕ) → section.0 < crowd.sections → IsListed crowd first
+    → IsInquiry crowd 1 (record { student = record { 0 = first.1 }; version = 0; raised = Some (section, record { 0 = leaves first }) })
+listed_inquiry crowd section first within first_is = record {
+  student = first_is.student;
+  its_version = (let goal : 0 < 1 = omega arith in goal);
+  its_price = can_be_raised crowd (section, record { 0 = leaves first }) within first_is.capped;
+}

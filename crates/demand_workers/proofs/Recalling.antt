@@ -1,11 +1,12 @@
 -- What is remembered, at other prices.
-use Rattle.std.proofs.Common.{ℕ, suc, Bool, ◌≡◌, ◌<◌, ◌≤◌, ◌==◌, ◌∙◌, List, [], ◌∷◌, All, length, slice_index_or, refl, sym, subst, arith, inl, inr}
+use Rattle.std.proofs.Common.{ℕ, suc, Bool, true, ◌≡◌, ◌<◌, ◌≤◌, ◌==◌, ◌∙◌, List, [], ◌∷◌, All, length, slice_index_or, refl, sym, subst, arith, inl, inr}
 use Rattle.std.specs.Prelude.{nat_lt}
 use Rattle.std.proofs.lemmas.Bool.{cases_Bool}
 use Rattle.std.proofs.lemmas.Bool.Decides.{nat_tests}
 use Rattle.market_units.specs.declared.units.SectionNo.{SectionNo}
 use Rattle.market_units.specs.declared.units.Tokens.{Tokens}
 use Rattle.market_units.specs.Totals.{total}
+use Rattle.market_units.specs.Members.{has}
 use Rattle.bundle_rules.specs.declared.menu.Rated.{Rated}
 use Rattle.bundle_rules.specs.Demand.{price_in, IsPriced, IsBest}
 use Rattle.bundle_rules.specs.Menus.{MenuData, rating_at, place_in, wishes_of}
@@ -18,7 +19,7 @@ use Rattle.demand_api.specs.Views.{data_of}
 use Rattle.demand_api.proofs.Halving.{price_at}
 use Rattle.demand_api.proofs.Keeping.{best_stays}
 use Rattle.demand_api.proofs.Parts.{menus_within, top_high}
-use Rattle.demand_api.proofs.Takers.{demand_at, found_demand, sections_low}
+use Rattle.demand_api.proofs.Takers.{demand_at, demand_within, found_demand, listed_in}
 
 -- a rated section is at one of the places
 pub rated_no_cheaper : (places : List Rated) (before after : ℕ → ℕ) → All (λ (rated : Rated). before rated.section.0 ≤ after rated.section.0) places → (s : ℕ)
@@ -51,14 +52,13 @@ kept_demand crowd before after i menu budget bundle low is has_it no_cheaper aff
         ≡ demand crowd.sections before (record { menu = menu; budget = budget.0 })
     same_student = rw (← is, ← has_it) refl
 
--- the sections of what a student takes have prices
-pub taken_priced : (crowd : Crowd) (prices : List Tokens) (price : ℕ → ℕ) (i : ℕ) (listed : List SectionNo)
-    (bundle : List ℕ)
+-- the sections of a bundle of the crowd's sections have prices
+pub listed_priced : (crowd : Crowd) (prices : List Tokens) (listed : List SectionNo) (bundle : List ℕ)
     → ArePricesFor (data_of crowd) prices
-    → ordinals listed ≡ bundle → bundle ≡ demand_of (data_of crowd) price i → All (λ (section : SectionNo). IsPriced prices section.0) listed
-taken_priced crowd prices price i listed bundle are spelled told k d low =
+    → ordinals listed ≡ bundle → ((s : ℕ) → has bundle s ≡ true → s < crowd.sections) → All (λ (section : SectionNo). IsPriced prices section.0) listed
+listed_priced crowd prices listed bundle are spelled within k d low =
     let s : ℕ = (slice_index_or listed k d).0 in
-    let below : s < crowd.sections = sections_low (data_of crowd) price i crowd.sections listed bundle spelled told refl k d low in
+    let below : s < crowd.sections = within s (subst (λ (b : List ℕ). has b (slice_index_or listed k d).0 ≡ true) spelled (listed_in listed k d low)) in
     let size : length prices ≡ crowd.sections = are.same in
     let most : top (data_of crowd) ≤ 1000001 = top_high crowd in
     let none : Tokens = record { 0 = 0 } in
@@ -66,6 +66,14 @@ taken_priced crowd prices price i listed bundle are spelled told k d low =
     are.high s none (let goal : s < length prices = omega arith in goal) in
     let same : price_in prices s ≡ (slice_index_or prices s none).0 = price_at prices s none (let goal : s < length prices = omega arith in goal) in
     record { listed = (let goal : s < length prices = omega arith in goal); high = (let goal : price_in prices s ≤ 1000001 = omega arith in goal) }
+
+-- the sections of what a student takes have prices
+pub taken_priced : (crowd : Crowd) (prices : List Tokens) (price : ℕ → ℕ) (i : ℕ) (listed : List SectionNo)
+    (bundle : List ℕ)
+    → ArePricesFor (data_of crowd) prices
+    → ordinals listed ≡ bundle → bundle ≡ demand_of (data_of crowd) price i → All (λ (section : SectionNo). IsPriced prices section.0) listed
+taken_priced crowd prices price i listed bundle are spelled told =
+    listed_priced crowd prices listed bundle are spelled (λ s is. demand_within (data_of crowd) price i s (subst (λ (b : List ℕ). has b s ≡ true) told is))
 
 -- the sections at a student's places are below the number of prices
 pub places_low : (crowd : Crowd) (n i : ℕ) (menu : MenuData) → n ≡ crowd.sections

@@ -9,13 +9,18 @@ use Rattle.bundle_rules.specs.declared.bundle.Bundle.{Bundle}
 use Rattle.bundle_rules.specs.declared.menu.Rated.{Rated}
 use Rattle.bundle_rules.specs.Bundles.{sections_of}
 use Rattle.bundle_rules.specs.Demand.{price_in}
+use Rattle.demand_api.specs.declared.crowd.Crowd.{Crowd}
+use Rattle.demand_api.specs.Asking.{ArePricesFor}
 use Rattle.demand_api.specs.Crowds.{CrowdData, demand_of, top}
+use Rattle.demand_api.specs.Views.{data_of}
+use Rattle.demand_api.proofs.Parts.{students_length}
 use Rattle.demand_workers.specs.declared.inquiry.Inquiry.{Inquiry}
 use Rattle.demand_workers.specs.Asked.{no_inquiry}
 use Rattle.demand_workers.specs.Inquiring.{CanBeRaised, IsInquiry, taken_at, with_raised}
 use Rattle.demand_workers.specs.Remembered.{AreTaken, AreWithin, IsKept, NoneIsCheaper}
 use Rattle.demand_workers.specs.Surveys.{IsLeftOut, AreOthersKept, IsSurvey}
-use Rattle.demand_workers.proofs.Noting.{item_there}
+use Rattle.demand_workers.specs.Notes.{IsNoted}
+use Rattle.demand_workers.proofs.Noting.{item_there, noted_asked}
 
 -- where nothing stands between, no section became cheaper
 pub none_between : (places : List Rated) (before after : List Tokens) (first past : ℕ) → AreWithin first past before after → past ≤ first
@@ -176,16 +181,24 @@ can_be_raised crowd raised low high told is =
     subst (λ (r : SectionNo × Tokens). (r.0.0 < crowd.sections) × (r.1.0 ≤ top crowd)) (let e : raised ≡ told = cc in e) (low, high)
 
 -- what is taken at the one version with a told price
-pub raised_there : (crowd : CrowdData) (prices : List Tokens) (inquiry : Inquiry) (raised : SectionNo × Tokens) (s : ℕ) (bundle : List ℕ)
-    → IsInquiry crowd 1 inquiry → inquiry.raised ≡ Some raised → raised.0.0 ≡ s → bundle ≡ taken_at crowd (prices ∷ []) inquiry
-    → bundle ≡ demand_of crowd (price_in (slice_set prices s raised.1)) inquiry.student.0
-raised_there crowd prices inquiry raised s bundle its is at found =
+pub taken_raised : (crowd : CrowdData) (prices : List Tokens) (inquiry : Inquiry) (raised : SectionNo × Tokens)
+    → IsInquiry crowd 1 inquiry → inquiry.raised ≡ Some raised
+    → taken_at crowd (prices ∷ []) inquiry ≡ demand_of crowd (price_in (slice_set prices raised.0.0 raised.1)) inquiry.student.0
+taken_raised crowd prices inquiry raised its is =
     let v : ℕ = inquiry.version in
     let low : v < 1 = its.its_version in
     let first : v ≡ 0 = omega arith in
-    found ∙ ap (λ r. demand_of crowd (price_in (with_raised r (slice_index_or (prices ∷ []) inquiry.version []))) inquiry.student.0) is
+    ap (λ r. demand_of crowd (price_in (with_raised r (slice_index_or (prices ∷ []) inquiry.version []))) inquiry.student.0) is
     ∙ ap (λ w. demand_of crowd (price_in (slice_set (slice_index_or (prices ∷ []) w []) raised.0.0 raised.1)) inquiry.student.0) first
-    ∙ ap (λ t. demand_of crowd (price_in (slice_set prices t raised.1)) inquiry.student.0) at
+
+-- and it is noted
+pub noted_raised : (crowd : Crowd) (prices : List Tokens) (inquiry : Inquiry) (raised : SectionNo × Tokens) (bundle : Bundle)
+    → ArePricesFor (data_of crowd) prices → IsInquiry (data_of crowd) 1 inquiry → inquiry.raised ≡ Some raised
+    → sections_of bundle ≡ taken_at (data_of crowd) (prices ∷ []) inquiry
+    → IsNoted (data_of crowd) prices (record { student = inquiry.student; section = raised.0; price = raised.1; bundle = bundle })
+noted_raised crowd prices inquiry raised bundle are its is found =
+    noted_asked crowd prices _ are (its.its_price raised is).0 (subst (λ (n : ℕ). inquiry.student.0 < n) (students_length crowd) its.student)
+    (found ∙ taken_raised (data_of crowd) prices inquiry raised its is)
 
 -- one student more, whose bundle is written
 pub first_written : (crowd : CrowdData) (bundles : List Bundle) (prices : List Tokens) (v n : ℕ) (inquiries : List Inquiry) (bundle : Bundle)

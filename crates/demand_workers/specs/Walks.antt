@@ -1,4 +1,4 @@
--- Walks to least prices of which something is known before they are gone.
+-- Walks to least prices on which something is asked before they are gone.
 use Rattle.std.specs.Prelude.{ℕ, ◌<◌, ◌≤◌, length}
 use Rattle.std.specs.List.{All}
 use Rattle.std.specs.Arc.{arc_value}
@@ -8,7 +8,6 @@ use Rattle.demand_api.specs.Crowds.{CrowdData, top}
 use Rattle.demand_workers.specs.declared.foreseen.Foreseen.{Foreseen}
 use Rattle.demand_workers.specs.declared.remembered.Remembered.{Remembered}
 use Rattle.demand_workers.specs.Leaving.{leaves}
-use Rattle.demand_workers.specs.Notes.{IsTold}
 use Rattle.demand_workers.specs.Views.{crowd_of}
 
 -- a student of the crowd, listed by a price from which it does not keep what it holds, which is at
@@ -18,9 +17,7 @@ pub record IsListed (crowd : CrowdData) (holder : ℕ × ℕ) : Type 0 where
   pub room : holder.0 ≤ MAX_PRICE
   pub capped : leaves holder ≤ top crowd
 
--- the section is one of the crowd, the holders are listed, and what was answered is what is taken
+-- the section is one of the crowd, and the holders are listed
 pub record IsForeseen (remembered : Remembered) (walk : Foreseen) : Type 0 where
   pub within : walk.section.0 < (arc_value remembered.crowd).sections
   pub listed : All (IsListed (crowd_of remembered)) (heap_items walk.holders)
-  pub told : All (IsTold (crowd_of remembered) remembered.prices.items walk.section.0)
-      walk.answered.items

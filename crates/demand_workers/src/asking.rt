@@ -22,8 +22,8 @@ use std::thread;
 use std::thread::Threads;
 use task_board::{Answers, Board, BoardSeat};
 
-// Fewer inquiries are not worth the start of a thread, unless each student is asked.
-const WORTHWHILE: usize = 64;
+// So many inquiries are worth a worker of their own, unless each student is asked.
+const WORTHWHILE: usize = 3;
 
 /// What the students of these inquiries take, found by the workers of a pool, or by its first
 /// alone, in the caller's thread, where the inquiries are few. All memory is taken before the first
@@ -60,10 +60,14 @@ fn workers_for(inquiries: usize, students: usize, workers: u16) -> u16
     requires { 1 ≤ workers }
     ensures { (1 ≤ result) × (result ≤ workers) }
 {
-    if inquiries < WORTHWHILE && inquiries < students {
+    let worth = inquiries / WORTHWHILE;
+    if inquiries >= students || worth >= usize::from(workers) {
+        return workers;
+    }
+    if worth == 0 {
         return 1;
     }
-    workers
+    worth as u16
 }
 
 // From the start of the first worker to the bundles: it is given no allocator and has no error, so

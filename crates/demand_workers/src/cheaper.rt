@@ -1,7 +1,8 @@
 // Where the sections stand that became cheaper.
 ghost use Rattle.std.specs.Prelude.{◌≡◌, ◌<◌, ◌≤◌, ◌↔◌, ◌+◌, All, IfSome, IsTrue, length};
 ghost use Rattle.bundle_rules.specs.Demand.{price_in};
-ghost use Rattle.demand_workers.specs.Remembered.{AreWithin, NoneIsCheaper};
+ghost use Rattle.demand_workers.specs.{Notes.NoneIsLess, Remembered.AreWithin};
+ghost use Rattle.demand_workers.specs.Remembered.{NoneIsCheaper};
 
 use bundle_rules::Rated;
 use market_units::{SectionNo, Tokens};
@@ -55,32 +56,27 @@ impl Cheaper {
             Err(_) => None,
         }
     }
-
-    /// Whether it is known that no section at these places became cheaper.
-    pub(crate) fn spares(self, places: &[Rated], before: &[Tokens], after: &[Tokens]) -> bool
-        requires before { All (λ rated. rated.section.0 < length before.now) places.now }
-        requires after { All (λ rated. rated.section.0 < length after.now) places.now }
-        requires within { AreWithin self.first self.past before.now after.now }
-        ensures { IsTrue result → NoneIsCheaper places.now before.now after.now }
-    {
-        if self.past <= self.first {
-            return true;
-        }
-        none_is_cheaper(self, places, before, after)
-    }
 }
 
-fn none_is_cheaper(cheaper: Cheaper, places: &[Rated], before: &[Tokens], after: &[Tokens]) -> bool
+/// Whether it is known that no section at these places became cheaper.
+pub(crate) fn spares(
+    cheaper: Cheaper,
+    places: &[Rated],
+    before: &[Tokens],
+    after: &[Tokens],
+) -> bool
     requires before { All (λ rated. rated.section.0 < length before.now) places.now }
     requires after { All (λ rated. rated.section.0 < length after.now) places.now }
     requires within { AreWithin cheaper.first cheaper.past before.now after.now }
     ensures { IsTrue result → NoneIsCheaper places.now before.now after.now }
 {
+    if cheaper.past <= cheaper.first {
+        return true;
+    }
     match places {
         [] => true,
         [rated, more @ ..] => {
-            is_spared(cheaper, rated.section, before, after)
-                && none_is_cheaper(cheaper, more, before, after)
+            is_spared(cheaper, rated.section, before, after) && spares(cheaper, more, before, after)
         }
     }
 }
@@ -108,4 +104,19 @@ fn is_no_cheaper(place: usize, before: &[Tokens], after: &[Tokens]) -> bool
     ensures { IsTrue result ↔ (price_in before.now place ≤ price_in after.now place) }
 {
     before[place].0 <= after[place].0
+}
+
+/// Whether no section costs less at the later prices.
+pub(crate) fn none_is_less(before: &[Tokens], after: &[Tokens]) -> bool
+    ensures { IsTrue result → NoneIsLess (price_in before.now) (price_in after.now) }
+{
+    if after.len() < before.len() {
+        return false;
+    }
+    for place in 0..before.len() {
+        if !is_no_cheaper(place, before, after) {
+            return false;
+        }
+    }
+    true
 }

@@ -1,12 +1,14 @@
-// Walks to least prices, of which something is known before they are gone.
-ghost use Rattle.std.specs.Prelude.{◌≡◌, ◌<◌, ℕ, All, IfOk, [], ◌∷◌, length, slice_index_or};
+// Walks to least prices, on which something is asked before they are gone.
+ghost use Rattle.std.specs.Prelude.{◌≡◌, ◌<◌, [], ◌∷◌, All, IfOk, IfSome, length};
 ghost use Rattle.std.specs.Arc.{arc_value};
 ghost use Rattle.bundle_rules.specs.Bundles.{sections_of};
-ghost use Rattle.demand_workers.specs.{Asked.no_inquiry, Inquiring.IsInquiry, Inquiring.taken_at};
-ghost use Rattle.demand_workers.specs.{Notes.IsTold, Views.crowd_of, Walks.IsForeseen};
+ghost use Rattle.demand_workers.specs.Inquiring.{IsInquiry, taken_at};
+ghost use Rattle.demand_workers.specs.{Leaving.leaves, Views.crowd_of};
+ghost use Rattle.demand_workers.specs.Walks.{IsForeseen, IsListed};
 
 use crate::inquiry::Inquiry;
-use crate::leaving::{Holder, Note, holder_of, holders_of};
+use crate::leaving::{Holder, holder_of, holders_of};
+use crate::notes::Notes;
 use crate::question::Question;
 use crate::remembered::Remembered;
 use crate::trial::{ROOM, raised_prices};
@@ -15,35 +17,15 @@ use market_units::{MAX_PRICE, NoMemory, SectionNo, StudentNo, Tokens};
 use std::alloc::Global;
 use std::collections::BinaryHeap;
 
-// What is known of a walk before it is gone: who holds the section, but for those of whom an
-// inquiry waits, how many these are, and what was answered.
+// A walk before it is gone: who holds the section, or may hold it.
 #[derive(Drop)]
 pub(crate) struct Foreseen {
     section: SectionNo,
     limit: u32,
     holders: BinaryHeap<Holder>,
-    waiting: usize,
-    answered: Vec<Note>,
 }
 
-/// What was answered on the walk at this place, if it is one of the section, or nothing.
-pub(crate) fn answers_at<'w>(
-    _remembered: &Remembered,
-    walks: &'w [Foreseen],
-    place: usize,
-    section: SectionNo,
-) -> &'w [Note]
-    requires { All (IsForeseen _remembered.now) walks.now }
-    ensures { All (IsTold (crowd_of _remembered.now) _remembered.now.prices.items section.0)
-        result.now }
-{
-    match walks.get(place) {
-        Some(walk) if walk.section == section => &walk.answered,
-        _ => &[],
-    }
-}
-
-/// The walks of these pairs, of which nothing was asked. The only error is that memory was not
+/// The walks of these pairs, on which nobody was asked. The only error is that memory was not
 /// given.
 pub(crate) fn walks_of(
     alloc: Global,
@@ -61,135 +43,114 @@ pub(crate) fn walks_of(
             section: *section,
             limit: *limit,
             holders,
-            waiting: 0,
-            answered: Vec::new(alloc),
         })?;
     }
     Ok(walks)
 }
 
-/// What is asked next on these walks, those of the first walk first. The only error is that memory
-/// was not given.
+/// What is asked next on these walks, those of the first walk first, up to so many on a walk. The
+/// only error is that memory was not given.
 pub(crate) fn next_of_all(
     alloc: Global,
-    remembered: &Remembered,
+    notes: &Notes,
     walks: &mut [Foreseen],
+    ahead: usize,
 ) -> Result<Vec<Inquiry>, NoMemory>
-    requires walks { All (IsForeseen remembered.now) walks.old }
+    requires walks { All (IsForeseen (arc_value notes.now.remembered)) walks.old }
     ensures count { IfOk result (λ inquiries. length walks.new ≡ length walks.old) }
     ensures walks { IfOk result
-        (λ inquiries. All (IsForeseen remembered.now) walks.new) }
+        (λ inquiries. All (IsForeseen (arc_value notes.now.remembered)) walks.new) }
     ensures inquiries { IfOk result
-        (λ inquiries. All (IsInquiry (crowd_of remembered.now) 1) inquiries.items) }
+        (λ inquiries. All (IsInquiry (crowd_of (arc_value notes.now.remembered)) 1)
+        inquiries.items) }
 {
     let mut inquiries = Vec::new(alloc);
     for place in 0..walks.len() {
-        add_next(remembered, &mut walks[place], &mut inquiries)?;
+        add_next(alloc, notes, &mut walks[place], ahead, &mut inquiries)?;
     }
     Ok(inquiries)
 }
 
-// Adds what is asked next on a walk: of each of the first holders to leave, as many as there are
-// too many, what it takes at the price from which it does not keep what it holds. None of them can
-// be left out: while one of them stays, a later one would have to leave in its place.
+// Adds what is asked next on a walk, of the holders in the order in which they leave: what each
+// takes at the price from which it does not keep what it holds. Of whom it is noted is not asked.
+// As many as there are too many are asked in any case, for none of them can be left out: while one
+// of them stays, a later one would have to leave in its place. Some more are asked ahead. Who is
+// asked is a holder again afterwards: the next round finds its note.
 fn add_next(
-    _remembered: &Remembered,
+    alloc: Global,
+    notes: &Notes,
     walk: &mut Foreseen,
+    ahead: usize,
     inquiries: &mut Vec<Inquiry>,
 ) -> Result<(), NoMemory>
-    requires walk { IsForeseen _remembered.now walk.old }
-    requires inquiries { All (IsInquiry (crowd_of _remembered.now) 1) inquiries.old.items }
-    ensures walk { IfOk result (λ done. IsForeseen _remembered.now walk.new) }
+    requires walk { IsForeseen (arc_value notes.now.remembered) walk.old }
+    requires inquiries { All (IsInquiry (crowd_of (arc_value notes.now.remembered)) 1)
+        inquiries.old.items }
+    ensures walk { IfOk result (λ done. IsForeseen (arc_value notes.now.remembered) walk.new) }
     ensures inquiries { IfOk result
-        (λ done. All (IsInquiry (crowd_of _remembered.now) 1) inquiries.new.items) }
+        (λ done. All (IsInquiry (crowd_of (arc_value notes.now.remembered)) 1)
+        inquiries.new.items) }
 {
-    walk.waiting = walk.holders.len().saturating_sub(walk.limit as usize);
-    for _ in 0..walk.waiting {
+    let remembered: &Remembered = &notes.remembered;
+    let mut waiting = Vec::new(alloc);
+    'leaving: while goes_on(
+        walk.holders.len(),
+        waiting.len(),
+        walk.limit as usize,
+        ahead,
+    ) {
         let Some(first) = walk.holders.pop() else {
             break;
         };
-        inquiries.push(Inquiry {
+        let inquiry = Inquiry {
             student: StudentNo(first.1),
             version: 0,
             raised: Some((walk.section, Tokens(MAX_PRICE - first.0))),
-        })?;
+        };
+        let Some(bundle) = notes.told_at(inquiry) else {
+            inquiries.push(inquiry)?;
+            waiting.push(first)?;
+            continue;
+        };
+        let Some(again) = holder_again(remembered, inquiry, &bundle) else {
+            continue;
+        };
+        walk.holders.push(again)?;
+    }
+    'back: for place in 0..waiting.len() {
+        walk.holders.push(waiting[place])?;
     }
     Ok(())
 }
 
-/// Gives the answers to their walks, those of the first walk first. The only error is that memory
-/// was not given.
-pub(crate) fn take_answers(
-    remembered: &Remembered,
-    walks: &mut [Foreseen],
-    inquiries: &[Inquiry],
-    bundles: &[Bundle],
-) -> Result<(), NoMemory>
-    requires walks { All (IsForeseen remembered.now) walks.old }
-    requires inquiries { All (IsInquiry (crowd_of remembered.now) 1) inquiries.now }
-    requires each { length bundles.now ≡ length inquiries.now }
-    requires found { (k : ℕ) (d : Bundle) → k < length bundles.now
-        → sections_of (slice_index_or bundles.now k d)
-        ≡ taken_at (crowd_of remembered.now) (remembered.now.prices.items ∷ [])
-        (slice_index_or inquiries.now k no_inquiry) }
-    ensures count { IfOk result (λ done. length walks.new ≡ length walks.old) }
-    ensures walks { IfOk result (λ done. All (IsForeseen remembered.now) walks.new) }
-{
-    let mut next = 0;
-    for place in 0..walks.len() {
-        for _ in 0..walks[place].waiting {
-            if next >= bundles.len() {
-                return Ok(());
-            }
-            take_answer(
-                remembered,
-                &mut walks[place],
-                inquiries[next],
-                bundles[next],
-            )?;
-            next += 1;
-        }
-    }
-    Ok(())
+// Whether a further holder is asked, where so many hold the section and of so many it waits whether
+// they do.
+fn goes_on(holders: usize, waiting: usize, limit: usize, ahead: usize) -> bool {
+    holders > limit || (holders.saturating_add(waiting) > limit && waiting < ahead)
 }
 
-// Gives a walk an answer: who still takes the section holds it up to another price. An inquiry that
-// is not the walk's tells it nothing.
-fn take_answer(
-    remembered: &Remembered,
-    walk: &mut Foreseen,
-    inquiry: Inquiry,
-    bundle: Bundle,
-) -> Result<(), NoMemory>
-    requires walk { IsForeseen remembered.now walk.old }
+// The student of an inquiry as a holder of the section with the raised price, from that price on,
+// where its bundle there has the section.
+fn holder_again(remembered: &Remembered, inquiry: Inquiry, bundle: &Bundle) -> Option<Holder>
     requires inquiry { IsInquiry (crowd_of remembered.now) 1 inquiry }
-    requires found { sections_of bundle
+    requires taken { sections_of bundle.now
         ≡ taken_at (crowd_of remembered.now) (remembered.now.prices.items ∷ []) inquiry }
-    ensures { IfOk result (λ done. IsForeseen remembered.now walk.new) }
+    ensures listed { IfSome result (λ again. IsListed (crowd_of remembered.now) again) }
+    ensures later { IfSome inquiry.raised
+        (λ raised. IfSome result (λ again. raised.1.0 < leaves again)) }
 {
     let Some(raised) = inquiry.raised else {
-        return Ok(());
+        return None;
     };
-    let section = walk.section;
-    if raised.0 != section {
-        return Ok(());
-    }
-    walk.answered.push(Note {
-        student: inquiry.student,
-        price: raised.1,
-        bundle,
-    })?;
-    if !bundle.has(section) {
-        return Ok(());
+    if !bundle.has(raised.0) {
+        return None;
     }
     let mut room = [Tokens(0); ROOM];
-    let trial = raised_prices(&mut room, &remembered.prices, section, raised.1);
+    let trial = raised_prices(&mut room, &remembered.prices, raised.0, raised.1);
     let question = Question {
         remembered,
         prices: trial,
         student: inquiry.student,
     };
-    let holder = holder_of(&question, section, &bundle);
-    walk.holders.push(holder)?;
-    Ok(())
+    Some(holder_of(&question, raised.0, bundle))
 }

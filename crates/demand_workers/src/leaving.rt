@@ -6,7 +6,7 @@ ghost use Rattle.std.specs.Ordering.{nat_cmp, ordering_then};
 ghost use Rattle.bundle_rules.specs.{Bundles.sections_of, Demand.price_in};
 ghost use Rattle.market_units.specs.Members.{has};
 ghost use Rattle.demand_api.specs.Crowds.{top};
-ghost use Rattle.demand_workers.specs.{Answering.answer_to, Notes.AreNoted};
+ghost use Rattle.demand_workers.specs.Answering.{answer_to};
 ghost use Rattle.demand_workers.specs.Leaving.{leaves, takes, AreLeft};
 ghost use Rattle.demand_workers.specs.Views.{crowd_of, price_before};
 
@@ -18,27 +18,16 @@ use std::alloc::Global;
 use std::collections::BinaryHeap;
 use std::sync::Arc;
 
-// What a student took at the remembered prices, but for the section of a walk, which cost this.
-#[derive(Clone, Copy)]
-pub(crate) struct Note {
-    pub student: StudentNo,
-    pub price: Tokens,
-    pub bundle: Bundle,
-}
-
-// A walk to the least price of a section, the others as remembered: a price from its remembered one
-// up, at most the top, and what those took at prices up to it who were asked. `least_price` makes it
-// with the least price.
+// A price of a section from its remembered one up, at most the top, the others as remembered.
+// `least_price` makes it with the least price.
 #[derive(Drop)]
 pub(crate) struct Walk {
     pub remembered: Arc<Remembered>,
     pub section: SectionNo,
     pub least: Tokens,
-    pub notes: Vec<Note>,
     pub ghost within: { section.0 < (arc_value (arc_value remembered).crowd).sections },
     pub ghost low: { price_before (arc_value remembered) section.0 ≤ least.0 },
     pub ghost high: { least.0 ≤ top (crowd_of (arc_value remembered)) },
-    pub ghost noted: { AreNoted (crowd_of (arc_value remembered)) (arc_value remembered).prices.items section.0 least.0 notes.items },
 }
 
 // A holder of a section: how far below the greatest price it does not keep what it holds any more,

@@ -15,6 +15,8 @@ mod foreseen;
 mod found;
 mod inquiry;
 mod leaving;
+mod note;
+mod notes;
 mod pool;
 mod pooled_demands;
 mod question;

@@ -1,11 +1,11 @@
 // Demands of a crowd that workers find.
-ghost use Rattle.std.specs.Prelude.{◌≡◌, ◌<◌, [], ◌∷◌, IfOk, IfSome, length};
+ghost use Rattle.std.specs.Prelude.{◌≡◌, [], ◌∷◌, IfOk, IfSome, length};
 ghost use Rattle.std.specs.Arc.{arc_value};
-ghost use Rattle.demand_api.specs.{Asking.ArePricesFor, Prices.AreLeastPrices, Views.data_of};
+ghost use Rattle.demand_api.specs.{Asking.ArePricesFor, Views.data_of};
 ghost use Rattle.price_board.specs.{Openings.IsAskOf, declared.terms.Terms.Terms};
 ghost use Rattle.demand_workers.specs.Rounds.{AreVersionsFor, prices_of};
 ghost use Rattle.demand_workers.specs.Remembered.{AreTaken};
-ghost use Rattle.demand_workers.specs.Views.{crowd_of, price_before};
+ghost use Rattle.demand_workers.specs.Views.{crowd_of};
 ghost use Rattle.std.proofs.Props.{props};
 ghost use Rattle.std.specs.Coded.{codes};
 ghost use Rattle.bundle_rules.specs.contracts.menu.Rated as rated;
@@ -13,9 +13,8 @@ ghost use Rattle.bundle_rules.specs.contracts.menu.Rated as rated;
 use crate::Pool;
 use crate::answering::read_all;
 use crate::asking::ask;
-use crate::foreseen::answers_at;
 use crate::inquiry::Inquiries;
-use crate::leaving::Walk;
+use crate::notes::Notes;
 use crate::remembered::{Remembered, are_same};
 use crate::round::{copies_of, work_and_close};
 use crate::survey::Survey;
@@ -37,7 +36,8 @@ use std::thread::Threads;
 /// each in a thread of its own where one can be started, or the first worker alone, in the caller's
 /// thread, where the inquiries are few. Where nothing is remembered, and in `exceeds`, each student
 /// is a task of a price board. Workers pass the gate before their first draw and after each post.
-/// Students on the walks to least prices are asked in such rounds too. Its one form is
+/// Students on the walks to least prices are asked in such rounds too, by several workers some
+/// ahead; what is found there is noted, and serves as long as no price falls. Its one form is
 /// `PooledDemands<AnyGate>`, which `make` gives.
 #[derive(Drop)]
 pub struct PooledDemands<G> {
@@ -46,7 +46,9 @@ pub struct PooledDemands<G> {
     pub(crate) gate: G,
     asked: u64,
     remembered: Option<Arc<Remembered>>,
+    notes: Option<Notes>,
     ghost same: { IfSome remembered (λ memory. crowd_of (arc_value memory) ≡ data_of (arc_value crowd)) } by { Prim.hlevel (props, codes, rated.the_row.coded) },
+    ghost noted: { IfSome notes (λ noted. crowd_of (arc_value noted.remembered) ≡ data_of (arc_value crowd)) } by { Prim.hlevel (props, codes, rated.the_row.coded) },
 }
 
 impl<'g> PooledDemands<AnyGate<'g>> {
@@ -67,6 +69,7 @@ impl<'g> PooledDemands<AnyGate<'g>> {
             gate,
             asked: 0,
             remembered: None,
+            notes: None,
         }
     }
 
@@ -237,28 +240,6 @@ impl<'g> PooledDemands<AnyGate<'g>> {
         }
         self.recall(rt, alloc, prices)
     }
-
-    // The walk to the least price of one section at which at most so many students take it, the
-    // other prices as remembered.
-    fn walk_alone<R: Threads + Wait + Sync>(
-        &self,
-        rt: &R,
-        alloc: Global,
-        remembered: &Arc<Remembered>,
-        section: SectionNo,
-        limit: u32,
-    ) -> Result<Walk, NoMemory>
-        requires { section.0 < (arc_value (arc_value remembered.now).crowd).sections }
-        ensures remembered { IfOk result
-            (λ walk. arc_value walk.remembered ≡ arc_value remembered.now) }
-        ensures least { IfOk result
-            (λ walk. AreLeastPrices (crowd_of (arc_value remembered.now))
-            (price_before (arc_value remembered.now)) ((section, limit) ∷ []) (walk.least ∷ [])) }
-    {
-        let walks = self.foresee(rt, alloc, remembered, &[(section, limit)])?;
-        let answered = answers_at(remembered, &walks, 0, section);
-        self.least_price(rt, alloc, remembered, answered, section, limit)
-    }
 }
 
 impl Demands for PooledDemands<AnyGate<'_>> {
@@ -332,14 +313,20 @@ impl Demands for PooledDemands<AnyGate<'_>> {
         pairs: &[(SectionNo, u32)],
     ) -> Result<Vec<Tokens>, NoMemory> {
         let remembered = self.recall(rt, alloc, prices)?;
+        let earlier = self.notes.take();
+        let mut notes = Notes::at(alloc, earlier, remembered);
         let [(section, limit)] = pairs else {
-            return self.least_for_each(rt, alloc, &remembered, pairs);
+            let found = self.least_for_each(rt, alloc, &mut notes, pairs)?;
+            self.notes = Some(notes);
+            return Ok(found);
         };
         // What is taken at the least price is remembered: who raises the price asks for it next.
-        let walk = self.walk_alone(rt, alloc, &remembered, *section, *limit)?;
-        let memory = self.raised_memory(rt, alloc, &walk)?;
+        self.foresee(rt, alloc, &mut notes, pairs)?;
+        let walk = self.least_price(rt, alloc, &mut notes, *section, *limit)?;
+        let memory = self.raised_memory(rt, alloc, &notes, &walk)?;
         let found = vec![in alloc; walk.least; 1]?;
         self.remembered = Some(Arc::new(alloc, memory)?);
+        self.notes = Some(notes);
         Ok(found)
     }
 }

@@ -4,7 +4,7 @@ ghost use Rattle.std.specs.Arc.{arc_value};
 ghost use Rattle.demand_api.specs.Asking.{ArePricesFor};
 ghost use Rattle.demand_workers.specs.Views.{crowd_of};
 
-use crate::cheaper::Cheaper;
+use crate::cheaper::{Cheaper, spares};
 use crate::remembered::Remembered;
 use bundle_rules::{Bundle, Menu, price_of};
 use market_units::{StudentNo, Tokens};
@@ -72,6 +72,11 @@ impl Question<'_> {
         if price_of(self.prices, self.earlier().sections()) > self.budget().0 {
             return false;
         }
-        cheaper.spares(self.menu().places(), &self.remembered.prices, self.prices)
+        spares(
+            cheaper,
+            self.menu().places(),
+            &self.remembered.prices,
+            self.prices,
+        )
     }
 }

@@ -6,15 +6,22 @@ ghost use Rattle.demand_api.specs.Crowds.{demand_of};
 ghost use Rattle.demand_workers.specs.Views.{crowd_of};
 
 use crate::leaving::Walk;
+use crate::notes::Notes;
 use crate::question::Question;
 use crate::remembered::Remembered;
-use bundle_rules::{Bundle, price_of};
+use bundle_rules::Bundle;
 use market_units::{StudentNo, Tokens};
 
 /// What the student takes at these prices: the remembered ones, with the section at the least price
 /// of the walk. Who does not hold the section takes what is remembered. Of a holder it is what is
 /// noted or kept; `None` where neither is known.
-pub(crate) fn settled(walk: &Walk, prices: &[Tokens], student: StudentNo) -> Option<Bundle>
+pub(crate) fn settled(
+    notes: &Notes,
+    walk: &Walk,
+    prices: &[Tokens],
+    student: StudentNo,
+) -> Option<Bundle>
+    requires same { arc_value notes.now.remembered ≡ arc_value walk.now.remembered }
     requires raised { prices.now
         ≡ slice_set (arc_value walk.now.remembered).prices.items walk.now.section.0
         walk.now.least }
@@ -34,14 +41,8 @@ pub(crate) fn settled(walk: &Walk, prices: &[Tokens], student: StudentNo) -> Opt
     if !earlier.has(walk.section) {
         return Some(*earlier);
     }
-    for place in 0..walk.notes.len() {
-        let note = walk.notes[place];
-        if note.student != student {
-            continue;
-        }
-        if price_of(prices, note.bundle.sections()) <= question.budget().0 {
-            return Some(note.bundle);
-        }
+    if let Some(bundle) = notes.told(&question) {
+        return Some(bundle);
     }
     question.kept()
 }

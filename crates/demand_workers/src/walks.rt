@@ -1,17 +1,17 @@
 // Walks to least prices, over rounds of inquiries.
-ghost use Rattle.std.specs.Prelude.{◌≡◌, ◌<◌, ◌≤◌, [], ◌∷◌, All, IfOk, length, slice_set};
+ghost use Rattle.std.specs.Prelude.{◌≡◌, ◌<◌, [], ◌∷◌, All, IfOk};
 ghost use Rattle.std.specs.Arc.{arc_value};
-ghost use Rattle.bundle_rules.specs.{Bundles.sections_of, Demand.price_in};
-ghost use Rattle.demand_api.specs.{Crowds.demand_of, Crowds.top};
+ghost use Rattle.bundle_rules.specs.Bundles.{sections_of};
 ghost use Rattle.demand_api.specs.Prices.{AreLeastPrices, IsLeastFrom};
-ghost use Rattle.demand_workers.specs.{Inquiring.IsInquiry, Notes.IsTold, Rounds.prices_of};
-ghost use Rattle.demand_workers.specs.{Views.crowd_of, Views.price_before, Walks.IsForeseen};
+ghost use Rattle.demand_workers.specs.Inquiring.{IsInquiry, taken_at};
+ghost use Rattle.demand_workers.specs.{Rounds.prices_of, Views.crowd_of, Views.price_before};
 
 use crate::PooledDemands;
 use crate::asking::ask;
-use crate::foreseen::{Foreseen, answers_at, next_of_all, take_answers, walks_of};
+use crate::foreseen::{next_of_all, walks_of};
 use crate::inquiry::{Inquiries, Inquiry};
-use crate::leaving::{Note, Walk, holder_of, holders_of};
+use crate::leaving::{Walk, holder_of, holders_of};
+use crate::notes::Notes;
 use crate::question::Question;
 use crate::remembered::Remembered;
 use crate::settled::settled;
@@ -27,6 +27,10 @@ use std::thread::Threads;
 // How many rounds are made for the walks of one call. What is not asked by then, the walks ask for
 // themselves.
 const PHASES: usize = 8;
+
+// How many holders of a section several workers ask at once, if no more are surely asked. Some of
+// them are asked in vain: those who would leave above the least price.
+const AHEAD: usize = 12;
 
 // These inquiries at the remembered prices.
 fn at_remembered(
@@ -60,55 +64,67 @@ impl PooledDemands<AnyGate<'_>> {
         &self,
         rt: &R,
         alloc: Global,
-        remembered: &Arc<Remembered>,
+        notes: &mut Notes,
         pairs: &[(SectionNo, u32)],
     ) -> Result<Vec<Tokens>, NoMemory>
-        requires { All (λ pair. pair.0.0 < (arc_value (arc_value remembered.now).crowd).sections)
+        requires { All
+            (λ pair. pair.0.0 < (arc_value (arc_value notes.old.remembered).crowd).sections)
             pairs.now }
-        ensures { IfOk result
-            (λ found. AreLeastPrices (crowd_of (arc_value remembered.now))
-            (price_before (arc_value remembered.now)) pairs.now found.items) }
+        ensures same { IfOk result (λ found. notes.new.remembered ≡ notes.old.remembered) }
+        ensures least { IfOk result
+            (λ found. AreLeastPrices (crowd_of (arc_value notes.old.remembered))
+            (price_before (arc_value notes.old.remembered)) pairs.now found.items) }
     {
-        let walks = self.foresee(rt, alloc, remembered, pairs)?;
+        self.foresee(rt, alloc, notes, pairs)?;
         let mut found = Vec::new(alloc);
         for place in 0..pairs.len() {
             let (section, limit) = pairs[place];
-            let answered = answers_at(remembered, &walks, place, section);
-            let walk = self.least_price(rt, alloc, remembered, answered, section, limit)?;
+            let walk = self.least_price(rt, alloc, notes, section, limit)?;
             found.push(walk.least)?;
         }
         Ok(found)
     }
 
-    /// What is known of the walks of these pairs once those were asked who are surely asked on
-    /// them, or most of them: one round for all walks, as often as somebody is next.
+    /// Notes what those take who are surely asked on the walks of these pairs, or most of them, and
+    /// some of whom several workers ask ahead: one round for all walks, as often as somebody is
+    /// next.
     pub(crate) fn foresee<R: Threads + Wait + Sync>(
         &self,
         rt: &R,
         alloc: Global,
-        remembered: &Arc<Remembered>,
+        notes: &mut Notes,
         pairs: &[(SectionNo, u32)],
-    ) -> Result<Vec<Foreseen>, NoMemory>
-        requires { All (λ pair. pair.0.0 < (arc_value (arc_value remembered.now).crowd).sections)
+    ) -> Result<(), NoMemory>
+        requires { All
+            (λ pair. pair.0.0 < (arc_value (arc_value notes.old.remembered).crowd).sections)
             pairs.now }
-        ensures { IfOk result (λ walks. All (IsForeseen (arc_value remembered.now)) walks.items) }
+        ensures { IfOk result (λ done. notes.new.remembered ≡ notes.old.remembered) }
     {
-        let mut walks = walks_of(alloc, remembered, pairs)?;
-        for _ in 0..PHASES {
-            let list = next_of_all(alloc, remembered, &mut walks)?;
+        let ahead = self.ahead(notes);
+        let mut walks = walks_of(alloc, &notes.remembered, pairs)?;
+        'phases: for _ in 0..PHASES {
+            let list = next_of_all(alloc, notes, &mut walks, ahead)?;
             if list.is_empty() {
                 break;
             }
-            let inquiries = at_remembered(alloc, remembered, list)?;
+            let inquiries = at_remembered(alloc, &notes.remembered, list)?;
             let found = ask(rt, alloc, &self.pool, self.gate, inquiries)?;
-            take_answers(
-                remembered,
-                &mut walks,
-                &found.inquiries.list,
-                &found.bundles,
-            )?;
+            notes.add_found(&found)?;
         }
-        Ok(walks)
+        Ok(())
+    }
+
+    // How many holders of a section are asked at once, if no more are surely asked. One worker asks
+    // nobody ahead, since some of them would be asked in vain; so nothing that was noted in earlier
+    // calls serves it.
+    fn ahead(&self, notes: &mut Notes) -> usize
+        ensures { notes.new.remembered ≡ notes.old.remembered }
+    {
+        if self.pool.workers == 1 {
+            notes.forget();
+            return 0;
+        }
+        AHEAD
     }
 
     /// The walk to the least price of the section for one limit. As long as there are too many
@@ -118,27 +134,22 @@ impl PooledDemands<AnyGate<'_>> {
         &self,
         rt: &R,
         alloc: Global,
-        remembered: &Arc<Remembered>,
-        answered: &[Note],
+        notes: &mut Notes,
         section: SectionNo,
         limit: u32,
     ) -> Result<Walk, NoMemory>
-        requires answered { All
-            (IsTold (crowd_of (arc_value remembered.now)) (arc_value remembered.now).prices.items
-            section.0)
-            answered.now }
-        requires section { section.0 < (arc_value (arc_value remembered.now).crowd).sections }
+        requires { section.0 < (arc_value (arc_value notes.old.remembered).crowd).sections }
+        ensures same { IfOk result (λ walk. notes.new.remembered ≡ notes.old.remembered) }
         ensures remembered { IfOk result
-            (λ walk. arc_value walk.remembered ≡ arc_value remembered.now) }
-        ensures section { IfOk result (λ walk. walk.section ≡ section) }
+            (λ walk. arc_value walk.remembered ≡ arc_value notes.old.remembered) }
         ensures least { IfOk result
-            (λ walk. IsLeastFrom (price_before (arc_value remembered.now) section.0)
-            (crowd_of (arc_value remembered.now)) (price_before (arc_value remembered.now))
-            section.0 limit walk.least.0) }
+            (λ walk. IsLeastFrom (price_before (arc_value notes.old.remembered) section.0)
+            (crowd_of (arc_value notes.old.remembered))
+            (price_before (arc_value notes.old.remembered)) section.0 limit walk.least.0) }
     {
-        let known: &Remembered = remembered;
+        let remembered = Arc::try_clone(&notes.remembered)?;
+        let known: &Remembered = &remembered;
         let mut least = known.prices[usize::from(section.0)];
-        let mut notes = Vec::new(alloc);
         let mut room = [Tokens(0); ROOM];
         let mut holders = holders_of(alloc, known, section)?;
         while holders.len() > limit as usize {
@@ -147,13 +158,12 @@ impl PooledDemands<AnyGate<'_>> {
             };
             least = Tokens(MAX_PRICE - first.0);
             let student = StudentNo(first.1);
-            let raised = (section, least);
-            let bundle = self.told_or_asked(rt, alloc, remembered, answered, raised, student)?;
-            notes.push(Note {
+            let inquiry = Inquiry {
                 student,
-                price: least,
-                bundle,
-            })?;
+                version: 0,
+                raised: Some((section, least)),
+            };
+            let bundle = self.told_or_asked(rt, alloc, notes, inquiry)?;
             if !bundle.has(section) {
                 continue;
             }
@@ -167,65 +177,50 @@ impl PooledDemands<AnyGate<'_>> {
             holders.push(holder)?;
         }
         Ok(Walk {
-            remembered: Arc::try_clone(remembered)?,
+            remembered,
             section,
             least,
-            notes,
         })
     }
 
-    // What a student takes where a section has a raised price, the others as remembered: told, or
-    // asked in a round of its own.
+    // What the student of an inquiry takes at the remembered prices with the raised one: noted, or
+    // asked in a round of its own, which is noted then.
     fn told_or_asked<R: Threads + Wait + Sync>(
         &self,
         rt: &R,
         alloc: Global,
-        remembered: &Arc<Remembered>,
-        answered: &[Note],
-        raised: (SectionNo, Tokens),
-        student: StudentNo,
+        notes: &mut Notes,
+        inquiry: Inquiry,
     ) -> Result<Bundle, NoMemory>
-        requires answered { All
-            (IsTold (crowd_of (arc_value remembered.now)) (arc_value remembered.now).prices.items
-            raised.0.0)
-            answered.now }
-        requires raised { (raised.0.0 < (arc_value (arc_value remembered.now).crowd).sections)
-            × (raised.1.0 ≤ top (crowd_of (arc_value remembered.now))) }
-        requires student { student.0
-            < length (arc_value (arc_value remembered.now).crowd).menus.items }
-        ensures { IfOk result
+        requires inquiry { IsInquiry (crowd_of (arc_value notes.old.remembered)) 1 inquiry }
+        ensures same { IfOk result (λ bundle. notes.new.remembered ≡ notes.old.remembered) }
+        ensures taken { IfOk result
             (λ bundle. sections_of bundle
-            ≡ demand_of (crowd_of (arc_value remembered.now))
-            (price_in (slice_set (arc_value remembered.now).prices.items raised.0.0 raised.1))
-            student.0) }
+            ≡ taken_at (crowd_of (arc_value notes.old.remembered))
+            ((arc_value notes.old.remembered).prices.items ∷ []) inquiry) }
     {
-        for place in 0..answered.len() {
-            let note = answered[place];
-            if note.student == student && note.price == raised.1 {
-                return Ok(note.bundle);
-            }
+        if let Some(bundle) = notes.told_at(inquiry) {
+            return Ok(bundle);
         }
-        let inquiry = Inquiry {
-            student,
-            version: 0,
-            raised: Some(raised),
-        };
         let list = vec![in alloc; inquiry; 1]?;
-        let inquiries = at_remembered(alloc, remembered, list)?;
+        let inquiries = at_remembered(alloc, &notes.remembered, list)?;
         let found = ask(rt, alloc, &self.pool, self.gate, inquiries)?;
+        notes.add_found(&found)?;
         Ok(found.bundles[0])
     }
 
     /// What each student takes at the remembered prices with the section at the least price of a
     /// walk. Who does not hold the section keeps what it takes, and so does a holder that can still
-    /// pay. Who was asked on the way there keeps what it took then, as long as that is affordable.
-    /// Whom this does not settle is asked. The only error is that memory was not given.
+    /// pay. Of whom it is noted what it takes there is not asked. Whom this does not settle is
+    /// asked. The only error is that memory was not given.
     pub(crate) fn raised_memory<R: Threads + Wait + Sync>(
         &self,
         rt: &R,
         alloc: Global,
+        notes: &Notes,
         walk: &Walk,
     ) -> Result<Remembered, NoMemory>
+        requires { arc_value notes.now.remembered ≡ arc_value walk.now.remembered }
         ensures { IfOk result
             (λ memory. crowd_of memory ≡ crowd_of (arc_value walk.now.remembered)) }
     {
@@ -236,7 +231,7 @@ impl PooledDemands<AnyGate<'_>> {
         let mut list = Vec::new(alloc);
         for place in 0..bundles.len() {
             let student = StudentNo(place as u16);
-            let Some(bundle) = settled(walk, &prices, student) else {
+            let Some(bundle) = settled(notes, walk, &prices, student) else {
                 list.push(Inquiry {
                     student,
                     version: 0,

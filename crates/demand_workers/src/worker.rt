@@ -61,14 +61,22 @@ pub(crate) fn work<R: Wait>(
     }
 }
 
-// What a student takes at the lent prices, of all sections: remembered, or asked.
+// What a student takes at the lent prices, of all sections: remembered, or asked. Where nothing is
+// remembered, the search begins with nothing.
 fn taken(workspace: &mut Workspace, lent: &Lent, student: StudentNo) -> Bundle
     requires { student.0 < length lent.now.crowd.now.menus.items }
     ensures { sections_of result
         ≡ demand_of (data_of lent.now.crowd.now) (price_in lent.now.prices.now) student.0 }
 {
     let Some(remembered) = lent.remembered else {
-        return asked(workspace, lent, student);
+        let place = usize::from(student.0);
+        return demand(
+            workspace,
+            &lent.crowd.menus[place],
+            lent.prices,
+            lent.crowd.budgets[place],
+            lent.allowed,
+        );
     };
     let known: &Remembered = remembered;
     let question = Question {
@@ -80,21 +88,4 @@ fn taken(workspace: &mut Workspace, lent: &Lent, student: StudentNo) -> Bundle
         Some(bundle) => bundle,
         None => asked_again(workspace, &question),
     }
-}
-
-// What a student takes at the lent prices, of all sections, asked. The search begins with nothing
-// that is remembered.
-fn asked(workspace: &mut Workspace, lent: &Lent, student: StudentNo) -> Bundle
-    requires { student.0 < length lent.now.crowd.now.menus.items }
-    ensures { sections_of result
-        ≡ demand_of (data_of lent.now.crowd.now) (price_in lent.now.prices.now) student.0 }
-{
-    let place = usize::from(student.0);
-    demand(
-        workspace,
-        &lent.crowd.menus[place],
-        lent.prices,
-        lent.crowd.budgets[place],
-        lent.allowed,
-    )
 }

@@ -1,9 +1,12 @@
-use Rattle.std.proofs.Common.{take}
+use Rattle.std.proofs.Common.{◌≡◌, take}
 use Rattle.std.specs.Arc.{arc_value}
 use Rattle.demand_api.specs.Prices.{AreLeastPrices}
 use Rattle.demand_workers.specs.Views.{crowd_of, price_before}
 use Rattle.demand_workers.proofs.walks.PooledDemands+AnyGate.least_for_each.Given as goal
 
 abbrev pub invariant-loop-place : goal.invariant-loop-place
-invariant-loop-place g l =
-    AreLeastPrices (crowd_of (arc_value l.remembered)) (price_before (arc_value l.remembered)) (take l.place l.pairs) l.found.items
+invariant-loop-place g l = record {
+  same : l.notes.remembered ≡ l.fn.notes.remembered;
+  least : AreLeastPrices (crowd_of (arc_value l.fn.notes.remembered)) (price_before (arc_value l.fn.notes.remembered)) (take l.place l.pairs)
+      l.found.items;
+}

@@ -1,11 +1,10 @@
-use Rattle.std.proofs.Common.{◌<◌, ◌≤◌, ℕ, heap_items, nat_cmp}
+use Rattle.std.proofs.Common.{◌≡◌, ◌<◌, ◌≤◌, ℕ, heap_items, nat_cmp}
 use Rattle.std.specs.Arc.{arc_value}
 use Rattle.std.specs.BinaryHeap.{IsHeap}
 use Rattle.std.specs.Ordering.{ordering_then}
 use Rattle.demand_api.specs.Crowds.{count, top}
 use Rattle.demand_api.specs.Prices.{with_price}
 use Rattle.demand_workers.specs.Leaving.{AreLeft}
-use Rattle.demand_workers.specs.Notes.{AreNoted}
 use Rattle.demand_workers.specs.Views.{crowd_of, price_before}
 use Rattle.demand_workers.proofs.HoldersLeave.{room_of}
 use Rattle.demand_workers.proofs.walks.PooledDemands+AnyGate.least_price.Given as goal
@@ -14,12 +13,12 @@ use Rattle.demand_workers.proofs.walks.PooledDemands+AnyGate.least_price.Given a
 abbrev pub invariant-loop-least : goal.invariant-loop-least
 invariant-loop-least g l = record {
   heap : IsHeap (λ a b. ordering_then (nat_cmp a.0 b.0) (nat_cmp a.1 b.1)) (heap_items l.holders);
-  left : AreLeft (crowd_of (arc_value l.remembered)) (price_before (arc_value l.remembered)) l.section.0 l.least.0 (heap_items l.holders);
-  from : price_before (arc_value l.remembered) l.section.0 ≤ l.least.0;
-  high : l.least.0 ≤ top (crowd_of (arc_value l.remembered));
-  noted : AreNoted (crowd_of (arc_value l.remembered)) (arc_value l.remembered).prices.items l.section.0 l.least.0 l.notes.items;
-  lower : (p : ℕ) → price_before (arc_value l.remembered) l.section.0 ≤ p → p < l.least.0
-      → l.limit < count (crowd_of (arc_value l.remembered)) (with_price (price_before (arc_value l.remembered)) l.section.0 p) l.section.0;
+  left : AreLeft (crowd_of (arc_value l.fn.notes.remembered)) (price_before (arc_value l.fn.notes.remembered)) l.section.0 l.least.0 (heap_items l.holders);
+  from : price_before (arc_value l.fn.notes.remembered) l.section.0 ≤ l.least.0;
+  high : l.least.0 ≤ top (crowd_of (arc_value l.fn.notes.remembered));
+  same : l.notes.remembered ≡ l.fn.notes.remembered;
+  lower : (p : ℕ) → price_before (arc_value l.fn.notes.remembered) l.section.0 ≤ p → p < l.least.0
+      → l.limit < count (crowd_of (arc_value l.fn.notes.remembered)) (with_price (price_before (arc_value l.fn.notes.remembered)) l.section.0 p) l.section.0;
 }
 
 abbrev pub decreases-loop-least : goal.decreases-loop-least

@@ -1,0 +1,34 @@
+use Rattle.std.proofs.Common.{rules, ◌≡◌, ◌∙◌, [], ◌∷◌, ℕ, List, length, slice_index_or, sym, subst, arith}
+use Rattle.std.specs.Arc.{arc_value}
+use Rattle.market_units.specs.declared.units.SectionNo.{SectionNo}
+use Rattle.market_units.specs.declared.units.Tokens.{Tokens}
+use Rattle.bundle_rules.specs.Demand.{price_in}
+use Rattle.demand_api.specs.Crowds.{CrowdData}
+use Rattle.demand_api.specs.Prices.{AreLeastPrices, IsLeastFrom}
+use Rattle.demand_api.specs.Views.{data_of}
+use Rattle.demand_workers.specs.Views.{crowd_of, price_before}
+use Rattle.demand_workers.proofs.pooled_demands.PooledDemandsAnyGateDemands.least_prices.Goals as goal
+
+-- the least price of the one pair
+least_one : (crowd : CrowdData) (price : ℕ → ℕ) (pairs : List (SectionNo × ℕ)) (d : SectionNo × ℕ) (found : List Tokens) (least : Tokens)
+    → length pairs ≡ 1 → found ≡ least ∷ []
+    → IsLeastFrom (price (slice_index_or pairs 0 d).0.0) crowd price (slice_index_or pairs 0 d).0.0 (slice_index_or pairs 0 d).1 least.0
+    → AreLeastPrices crowd price pairs found
+least_one crowd price [] d found least one is found_is = absurd (omega (arith, one))
+least_one crowd price (pair ∷ []) d found least one is found_is = subst (AreLeastPrices crowd price (pair ∷ [])) (sym is) (found_is, tt)
+least_one crowd price (pair ∷ more ∷ rest) d found least one is found_is = absurd (omega (arith, one))
+
+pub returns-clause-value : goal.returns-clause-value
+returns-clause-value g c =
+    let remembered = arc_value c.in_ok-remembered.remembered in
+    let prices = c.args.prices.now in
+    let pair : SectionNo × ℕ = slice_index_or c.args.pairs.now 0 (record { 0 = 0 }, 0) in
+    let least = c.in_ok-walk.walk.least in
+    let there : IsLeastFrom (price_before remembered pair.0.0) (crowd_of remembered) (price_before remembered) pair.0.0 pair.1 least.0 =
+    subst (λ r. IsLeastFrom (price_before (arc_value r) pair.0.0) (crowd_of (arc_value r)) (price_before (arc_value r)) pair.0.0 pair.1 least.0)
+    (c.in_ok-foresee.ensures ∙ c.at-notes.ensures) c.in_ok-walk.ensures.least in
+    least_one (data_of (arc_value c.args.self.now.crowd)) (price_in prices) c.args.pairs.now (record { 0 = 0 }, 0) c.in_ok-found-2.found.items least
+    (search rules) (c.in_ok-found-2.ensures.items_if_clones_equal (λ y is. is))
+    (subst (λ (w : CrowdData). IsLeastFrom (price_in prices pair.0.0) w (price_in prices) pair.0.0 pair.1 least.0) c.in_ok-remembered.ensures.crowd
+    (subst (λ (l : List Tokens). IsLeastFrom (price_in l pair.0.0) (crowd_of remembered) (price_in l) pair.0.0 pair.1 least.0)
+    c.in_ok-remembered.ensures.prices there))

@@ -1,0 +1,19 @@
+// What one student took at a raised price.
+use bundle_rules::Bundle;
+use market_units::{SectionNo, StudentNo, Tokens};
+
+/// What a student took where a section had this price.
+#[derive(Clone, Copy)]
+pub(crate) struct Note {
+    pub student: StudentNo,
+    pub section: SectionNo,
+    pub price: Tokens,
+    pub bundle: Bundle,
+}
+
+/// A note among others, and the place of the student's note before it.
+#[derive(Clone, Copy)]
+pub(crate) struct Kept {
+    pub note: Note,
+    pub earlier: usize,
+}
