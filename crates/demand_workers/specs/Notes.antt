@@ -29,5 +29,6 @@ pub record IsNoted (crowd : CrowdData) (prices : List Tokens) (note : Note) : Ty
       → total after (sections_of note.bundle) ≤ budget_of crowd note.student.0
       → sections_of note.bundle ≡ demand_of crowd after note.student.0
 
+-- each note of the list is right
 abbrev pub AreKept : CrowdData → List Tokens → List Kept → Type 0
 AreKept crowd prices kept = All (λ (k : Kept). IsNoted crowd prices k.note) kept

@@ -25,9 +25,9 @@ use task_board::{Answers, Board, BoardSeat};
 // So many inquiries are worth a worker of their own, unless each student is asked.
 const WORTHWHILE: usize = 3;
 
-/// What the students of these inquiries take, found by the workers of a pool, or by its first
-/// alone, in the caller's thread, where the inquiries are few. All memory is taken before the first
-/// worker starts, and the only error is that it was not given.
+/// What the students of these inquiries take, found by as many workers of a pool as the inquiries
+/// are worth, or by its first alone, in the caller's thread, where they are few. All memory is taken
+/// before the first worker starts, and the only error is that it was not given.
 pub(crate) fn ask<R: Threads + Wait + Sync>(
     rt: &R,
     alloc: Global,
@@ -55,7 +55,8 @@ pub(crate) fn ask<R: Threads + Wait + Sync>(
     Ok(Found { inquiries, bundles })
 }
 
-// How many of so many workers so many inquiries are worth, in a crowd of so many students.
+// How many workers are started: one for each three inquiries, but one at least, and all where there
+// are as many inquiries as students.
 fn workers_for(inquiries: usize, students: usize, workers: u16) -> u16
     requires { 1 ≤ workers }
     ensures { (1 ≤ result) × (result ≤ workers) }

@@ -72,10 +72,10 @@ pub(crate) fn next_of_all(
 }
 
 // Adds what is asked next on a walk, of the holders in the order in which they leave: what each
-// takes at the price from which it does not keep what it holds. Of whom it is noted is not asked.
-// As many as there are too many are asked in any case, for none of them can be left out: while one
-// of them stays, a later one would have to leave in its place. Some more are asked ahead. Who is
-// asked is a holder again afterwards: the next round finds its note.
+// takes at the price from which it does not keep what it holds. A holder of whom it is noted is not
+// asked. As many as there are too many are asked in any case, for none of them can be left out:
+// while one of them stays, a later one would have to leave in its place. Some more are asked ahead.
+// Who is asked is a holder again afterwards: the next round finds its note.
 fn add_next(
     alloc: Global,
     notes: &Notes,

@@ -11,7 +11,7 @@ pub(crate) struct Note {
     pub bundle: Bundle,
 }
 
-/// A note among others, and the place of the student's note before it.
+/// A note in a list, and the place of the same student's note before it, or no place of the list.
 #[derive(Clone, Copy)]
 pub(crate) struct Kept {
     pub note: Note,

@@ -24,8 +24,9 @@ const NOWHERE: usize = usize::MAX;
 // How many of a student's notes are looked at. Earlier ones seldom serve.
 const LOOKS: usize = 32;
 
-// So many notes are kept from one call to the next, or none.
-const MOST: usize = 200_000;
+// A call begins with fewer notes of earlier calls than this, or with none. More than `LOOKS` of a
+// student are never looked at.
+const MOST: usize = 60_000;
 
 /// What is remembered of a crowd, and notes of its students that hold from the remembered prices
 /// up. Those of one student are found from the latest to the earliest, without a look at the
@@ -81,7 +82,7 @@ impl Notes {
         self.latest.clear();
     }
 
-    /// Notes what was found for inquiries at the remembered prices, where one of them was raised.
+    /// Notes what was found for those inquiries at the remembered prices that have a raised price.
     /// The only error is that memory was not given.
     pub(crate) fn add_found(&mut self, found: &Found) -> Result<(), NoMemory>
         requires remembered { arc_value (arc_value found.now.inquiries).remembered

@@ -85,9 +85,9 @@ impl PooledDemands<AnyGate<'_>> {
         Ok(found)
     }
 
-    /// Notes what those take who are surely asked on the walks of these pairs, or most of them, and
-    /// some of whom several workers ask ahead: one round for all walks, as often as somebody is
-    /// next.
+    /// Asks, in one round for all walks as often as somebody is next, those who are surely asked on
+    /// the walks of these pairs, or most of them. On one walk several workers ask some more ahead.
+    /// What is found is noted.
     pub(crate) fn foresee<R: Threads + Wait + Sync>(
         &self,
         rt: &R,
@@ -100,7 +100,7 @@ impl PooledDemands<AnyGate<'_>> {
             pairs.now }
         ensures { IfOk result (λ done. notes.new.remembered ≡ notes.old.remembered) }
     {
-        let ahead = self.ahead(notes);
+        let ahead = self.ahead(notes, pairs.len());
         let mut walks = walks_of(alloc, &notes.remembered, pairs)?;
         'phases: for _ in 0..PHASES {
             let list = next_of_all(alloc, notes, &mut walks, ahead)?;
@@ -114,14 +114,17 @@ impl PooledDemands<AnyGate<'_>> {
         Ok(())
     }
 
-    // How many holders of a section are asked at once, if no more are surely asked. One worker asks
-    // nobody ahead, since some of them would be asked in vain; so nothing that was noted in earlier
-    // calls serves it.
-    fn ahead(&self, notes: &mut Notes) -> usize
+    // How many holders of a section are asked at once, if no more are surely asked. Rounds of
+    // several walks are long enough. One worker asks nobody ahead, since some would be asked in
+    // vain, and keeps no notes of earlier calls: they are forgotten here.
+    fn ahead(&self, notes: &mut Notes, walks: usize) -> usize
         ensures { notes.new.remembered ≡ notes.old.remembered }
     {
         if self.pool.workers == 1 {
             notes.forget();
+            return 0;
+        }
+        if walks > 1 {
             return 0;
         }
         AHEAD

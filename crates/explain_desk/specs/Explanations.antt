@@ -23,7 +23,8 @@ offer_of_all menu prices budget sections =
     }
 
 -- all of so many sections can be offered to a student with this menu at these prices: they are at
--- most 400, those of the menu are among them, and each of these has a price
+-- most 400, those of the menu are among them, and each of these has a price, of at most
+-- 1,000,001
 pub record CanBeOffered (menu : MenuData) (prices : List Tokens) (sections : ℕ) : Type 0 where
   pub priced : HasPrices menu prices
   pub few : sections ≤ MAX_SECTIONS
