@@ -1,5 +1,5 @@
 use Rattle.std.proofs.Common.{◌≡◌, ◌+◌, length, map}
-use Rattle.preference_desk.specs.DeskView.{entries_of, names_of, room_of}
+use Rattle.preference_desk.specs.DeskView.{commands_left, entries_of, names_of}
 use Rattle.published_parts.specs.Markets.{names_in}
 use Rattle.published_parts.specs.Views.{market_in}
 use Rattle.certificate_checker.proofs.Replaying.{HasReplayed}
@@ -8,6 +8,6 @@ use Rattle.certificate_checker.proofs.orders.replay.Given as goal
 abbrev pub invariant-entries : goal.invariant-entries
 invariant-entries l = record {
   names : names_of l.desk ≡ names_in (market_in l.market);
-  room : room_of l.desk + l.place ≡ length l.order;
+  room : commands_left l.desk + l.place ≡ length l.order;
   replayed : HasReplayed (map (λ stream. stream.items) l.streams) l.order l.place (entries_of l.desk) l.said.items;
 }
