@@ -4,7 +4,7 @@ use Rattle.std.specs.Prelude.{bit_and, slice_index}
 use Rattle.std.specs.Int.{bit_not, trailing_zeros}
 use Rattle.std.proofs.lemmas.Bool.{cases_lt}
 use Rattle.std.proofs.lemmas.Nat.Bits.{bit_at-zero}
-use Rattle.bundle_rules.specs.Menus.{section_at, credits_at, wishes_of}
+use Rattle.bundle_rules.specs.Menus.{IsMenu, section_at, credits_at, wishes_of}
 use Rattle.bundle_rules.specs.Places.{menu_sections}
 use Rattle.bundle_bounds.specs.Laws.{IsTakable, IsNode}
 use Rattle.bundle_bounds.specs.Offers.{OfferData, price_at}
@@ -14,7 +14,7 @@ use Rattle.demand_oracle.specs.declared.summed_node.SummedNode.{SummedNode}
 use Rattle.demand_oracle.specs.declared.question.Question.{Question}
 use Rattle.demand_oracle.specs.Champions.{IsChampion}
 use Rattle.demand_oracle.specs.OpenWords.{Clashes, IsWordOf, StaysOpen, IsOpenWord}
-use Rattle.demand_oracle.specs.Questions.{IsQuestion, offer_asked, wanted_in}
+use Rattle.demand_oracle.specs.Questions.{IsLookedUp, IsQuestion, offer_asked, wanted_in}
 use Rattle.demand_oracle.specs.Search.{IsBetter, IsSearched}
 use Rattle.demand_oracle.specs.SummedNodes.{chosen_of, IsSummed}
 use Rattle.demand_oracle.proofs.OpenPlaces.{passed_here, shut_where_clear, allowed_alone, next_open, clear_before, word_falls, word_after, word_apart}
@@ -33,6 +33,10 @@ pub record GoesOn (question : Question) (summed first : SummedNode) (word : ℕ)
       → IsSearched (offer_asked question) (wanted_in question) from (chosen_of summed) (drop from (menu_sections question.offer.now.menu.now)) (chosen_of champion) result
       → IsSearched (offer_asked question) (wanted_in question) summed.node.place (chosen_of summed)
       (drop summed.node.place (menu_sections question.offer.now.menu.now)) (chosen_of first) result
+
+-- what is asked, of a menu
+pub asked_of : (question : Question) → IsMenu question.offer.now.menu.now → IsLookedUp question → IsQuestion question
+asked_of question menu is = record { menu = menu; looked_up = is }
 
 -- what is compared at the end, of the sections that the nodes have chosen
 pub compared : (question : Question) (summed champion result : SummedNode)
@@ -102,7 +106,7 @@ module _ (question : Question) (asked : IsQuestion question) (summed : SummedNod
       -- the word of the places that clash with it
       pub next_clashes : IsWordOf (Clashes question.offer.now.menu.now (trailing_zeros w64 word)) (length question.offer.now.menu.now.places)
           (slice_index question.goods.now.clashes (trailing_zeros w64 word))
-      next_clashes = asked.goods.clashes place next_on_menu ((asked.goods.alone place).1 (next_on_menu, opened.alone))
+      next_clashes = asked.looked_up.goods.clashes place next_on_menu ((asked.looked_up.goods.alone place).1 (next_on_menu, opened.alone))
 
       pub node_next : IsNode (offer_asked question) (trailing_zeros w64 word) (chosen_of summed)
       node_next = node_later offer summed.node.place place chosen next_later node

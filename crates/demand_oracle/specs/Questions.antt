@@ -17,8 +17,12 @@ abbrev pub wanted_in : Question → List ℕ → Bool
 wanted_in question = wanted_by (offer_asked question).menu question.given
 
 -- a given place is on the menu, and the reach and the goods are those of the offer
-pub record IsQuestion (question : Question) : Type 0 where
-  pub menu : IsMenu (offer_asked question).menu
+pub record IsLookedUp (question : Question) : Type 0 where
   pub given : IfSome question.given (λ place. place < length (offer_asked question).menu.places)
   pub reach : IsReach (offer_asked question) question.reach.now
   pub goods : IsGoods (offer_asked question) question.goods.now
+
+-- the same, of a menu that keeps what every menu does
+pub record IsQuestion (question : Question) : Type 0 where
+  pub menu : IsMenu (offer_asked question).menu
+  pub looked_up : IsLookedUp question

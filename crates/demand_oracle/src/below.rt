@@ -1,6 +1,5 @@
 // The search below a node: place by place, with a call of itself for each section that is taken.
 ghost use Rattle.std.specs.Prelude.{◌≡◌, ◌<◌, ◌≤◌, ◌+◌, ◌-◌, ◌⊎◌, ◌↔◌, ℕ, List, Some, IfSome, IsTrue, length, slice_index, drop};
-ghost use Rattle.market_units.specs.declared.limits.TheConstants.{MAX_RATINGS};
 ghost use Rattle.bundle_rules.specs.{Bundles.sections_of, Menus.wishes_of, Menus.credits_at};
 ghost use Rattle.bundle_rules.specs.{Places.menu_sections, Wishes.IsFeasible};
 ghost use Rattle.bundle_bounds.specs.{Laws.IsNode, Offers.price_at};
@@ -11,45 +10,41 @@ ghost use Rattle.demand_oracle.specs.Questions.{IsQuestion, offer_asked, wanted_
 ghost use Rattle.demand_oracle.specs.Search.{wanted_by, IsBetter, IsSearched};
 ghost use Rattle.demand_oracle.specs.SummedNodes.{chosen_of, with_place_of, IsSummed, IsSummedOf};
 
+use crate::branch::Branch;
 use crate::question::Question;
 use crate::reach::{Column, is_below, lacking};
 use crate::step::Step;
 use crate::summed_node::SummedNode;
+use crate::tables::MOST_PLACES;
 use bundle_rules::{Bundle, Menu, prefers};
 
-/// Searches what completes a node, and leaves the best of that and of the champion. The word has a
-/// bit for each undecided place that may be taken alone and clashes with no chosen one. How many
-/// nodes were opened is told: the look-ups of `falls_short` are not counted.
-pub(crate) fn below(
-    question: &Question,
-    summed: &SummedNode,
-    word: u64,
-    champion: &mut SummedNode,
-) -> u64
-    requires question { IsQuestion question.now }
-    requires summed { IsSummedOf (offer_asked question.now) summed.now }
-    requires node { IsNode (offer_asked question.now) summed.now.node.place (chosen_of summed.now) }
-    requires word { IsOpenWord (offer_asked question.now) summed.now.node.place
-        (chosen_of summed.now) word }
-    requires champion { IsChampion (offer_asked question.now) champion.old }
-    ensures champion { IsChampion (offer_asked question.now) champion.new }
-    ensures searched { IsSearched (offer_asked question.now) (wanted_in question.now)
-        summed.now.node.place (chosen_of summed.now)
-        (drop summed.now.node.place (menu_sections (offer_asked question.now).menu))
+/// Searches what completes a node, and leaves the best of that and of the champion. How many nodes
+/// were opened is told: the look-ups of `falls_short` are not counted.
+pub(crate) fn below(branch: &Branch, champion: &mut SummedNode) -> u64
+    requires { IsChampion (offer_asked branch.now.question.now) champion.old }
+    ensures champion { IsChampion (offer_asked branch.now.question.now) champion.new }
+    ensures searched { IsSearched (offer_asked branch.now.question.now)
+        (wanted_in branch.now.question.now) branch.now.summed.now.node.place
+        (chosen_of branch.now.summed.now)
+        (drop branch.now.summed.now.node.place
+        (menu_sections (offer_asked branch.now.question.now).menu))
         (chosen_of champion.old) (chosen_of champion.new) }
 {
+    let question = branch.question;
+    let summed = branch.summed;
     let menu = question.offer.menu;
+    prove!(menu.len() <= MOST_PLACES);
     let reach = question.reach;
     if summed.courses_left(menu) == 0 {
         put_better(menu, question.given, summed, champion);
         return 0;
     }
-    if is_lost(question, summed, word) {
+    if is_lost(branch) {
         return 0;
     }
     let column = reach.column(menu, question.offer.budget, summed);
     let mut opened = 0u64;
-    let mut left = word;
+    let mut left = branch.word;
     'places: while left != 0 {
         let place = left.trailing_zeros() as u8;
         opened = opened.saturating_add(1);
@@ -57,20 +52,25 @@ pub(crate) fn below(
             return opened;
         }
         left &= !(1u64 << place);
-        if !fits(question, summed, place) {
+        let step = Step {
+            offer: question.offer,
+            summed,
+            place,
+        };
+        if !fits(question, &step) {
             continue;
         }
         let apart = left & !question.goods.clashes[usize::from(place)];
         if falls_short(question, summed, place, apart, champion) {
             continue;
         }
-        let step = Step {
-            offer: question.offer,
-            summed,
-            place,
-        };
         let with_it = step.with_place();
-        opened = opened.saturating_add(below(question, &with_it, apart, champion));
+        let further = Branch {
+            question,
+            summed: &with_it,
+            word: apart,
+        };
+        opened = opened.saturating_add(below(&further, champion));
         if is_given(question.given, place) {
             return opened;
         }
@@ -82,20 +82,20 @@ pub(crate) fn below(
 // Whether the section of a place is within what the node leaves of the budget and of the credit
 // cap.
 #[inline(always)]
-fn fits(question: &Question, summed: &SummedNode, place: u8) -> bool
-    requires { place < MAX_RATINGS }
-    ensures { IsQuestion question.now → place < length (offer_asked question.now).menu.places
-        → IsTrue result
-        ↔ ((price_at (offer_asked question.now) place
-        ≤ (offer_asked question.now).budget - summed.now.paid)
-        × (credits_at (offer_asked question.now).menu.places place
-        ≤ (offer_asked question.now).menu.credits - summed.now.credits)) }
+fn fits(question: &Question, step: &Step) -> bool
+    ensures { IsQuestion question.now
+        → step.now.place < length (offer_asked question.now).menu.places → IsTrue result
+        ↔ ((price_at (offer_asked question.now) step.now.place
+        ≤ (offer_asked question.now).budget - step.now.summed.now.paid)
+        × (credits_at (offer_asked question.now).menu.places step.now.place
+        ≤ (offer_asked question.now).menu.credits - step.now.summed.now.credits)) }
 {
-    let at = usize::from(place);
-    if question.goods.prices[at] > summed.budget_left(question.offer.budget) {
+    prove!(step.place < step.offer.menu.len());
+    let at = usize::from(step.place);
+    if question.goods.prices[at] > step.summed.budget_left(question.offer.budget) {
         return false;
     }
-    u32::from(question.goods.credits[at]) <= summed.credits_left(question.offer.menu)
+    u32::from(question.goods.credits[at]) <= step.summed.credits_left(question.offer.menu)
 }
 
 // Whether it is plain that nothing with the section of an open place is better than the champion,
@@ -133,13 +133,13 @@ fn falls_short(
     }
     let reach = question.reach;
     let next = apart.trailing_zeros() as u8;
-    let column = column_with(question, summed, place);
-    let added = reach.added(&column, next);
     let step = Step {
         offer: question.offer,
         summed,
         place,
     };
+    let column = column_with(question, &step);
+    let added = reach.added(&column, next);
     let utility = step.utility_with();
     // Adjustments can only add, so they are looked up where the rest is too little.
     if !is_below(added, lacking(champion.utility(), utility, 0)) {
@@ -151,49 +151,53 @@ fn falls_short(
 
 // What is looked up where the section of a place is chosen too.
 #[inline(always)]
-fn column_with(question: &Question, summed: &SummedNode, place: u8) -> Column
-    requires { place < MAX_RATINGS }
+fn column_with(question: &Question, step: &Step) -> Column
     ensures { IsColumnFor question.now.reach.now
-        ((offer_asked question.now).menu.courses - length (chosen_of summed.now) - 1)
-        ((offer_asked question.now).budget - summed.now.paid
-        - slice_index question.now.goods.now.prices place)
-        ((offer_asked question.now).menu.credits - summed.now.credits
-        - slice_index question.now.goods.now.credits place) result }
+        ((offer_asked question.now).menu.courses - length (chosen_of step.now.summed.now) - 1)
+        ((offer_asked question.now).budget - step.now.summed.now.paid
+        - slice_index question.now.goods.now.prices step.now.place)
+        ((offer_asked question.now).menu.credits - step.now.summed.now.credits
+        - slice_index question.now.goods.now.credits step.now.place) result }
 {
-    let at = usize::from(place);
-    let budget_left = summed.budget_left(question.offer.budget);
-    let credits_left = summed.credits_left(question.offer.menu);
+    prove!(step.place < step.offer.menu.len());
+    let at = usize::from(step.place);
+    let menu = question.offer.menu;
+    let budget_left = step.summed.budget_left(question.offer.budget);
+    let credits_left = step.summed.credits_left(menu);
     question.reach.column_for(
-        summed.courses_left(question.offer.menu).saturating_sub(1),
+        step.summed.courses_left(menu).saturating_sub(1),
         budget_left.saturating_sub(question.goods.prices[at]),
         credits_left.saturating_sub(u32::from(question.goods.credits[at])),
     )
 }
 
 // Whether the given place is undecided, and its section may no more be taken with the chosen ones.
-// The word has the open places.
 #[inline(always)]
-fn is_lost(question: &Question, summed: &SummedNode, word: u64) -> bool
-    requires question { IsQuestion question.now }
-    requires summed { IsSummedOf (offer_asked question.now) summed.now }
-    requires node { IsNode (offer_asked question.now) summed.now.node.place (chosen_of summed.now) }
-    requires word { IsOpenWord (offer_asked question.now) summed.now.node.place
-        (chosen_of summed.now) word }
+fn is_lost(branch: &Branch) -> bool
     ensures undecided { IsTrue result
-        → summed.now.node.place < length (offer_asked question.now).menu.places }
+        → branch.now.summed.now.node.place
+        < length (offer_asked branch.now.question.now).menu.places }
     ensures lost { (champion : List ℕ) → IsTrue result
-        → MayPrune (offer_asked question.now) (wanted_in question.now) summed.now.node.place
-        (chosen_of summed.now) champion }
+        → MayPrune (offer_asked branch.now.question.now) (wanted_in branch.now.question.now)
+        branch.now.summed.now.node.place (chosen_of branch.now.summed.now) champion }
 {
+    let question = branch.question;
+    let summed = branch.summed;
+    prove!(question.offer.menu.len() <= MOST_PLACES);
     match question.given {
         Some(place) => {
             if place < summed.node.place {
                 return false;
             }
-            if (word >> place) & 1 == 0 {
+            if (branch.word >> place) & 1 == 0 {
                 return true;
             }
-            !fits(question, summed, place)
+            let step = Step {
+                offer: question.offer,
+                summed,
+                place,
+            };
+            !fits(question, &step)
         }
         None => false,
     }

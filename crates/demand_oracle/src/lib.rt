@@ -8,6 +8,7 @@
 
 mod asked;
 mod below;
+mod branch;
 mod draft;
 mod gain;
 mod goods;

@@ -14,6 +14,7 @@ ghost use Rattle.demand_oracle.specs.SummedNodes.{chosen_of};
 
 use crate::asked::Asked;
 use crate::below::below;
+use crate::branch::Branch;
 use crate::goods::Goods;
 use crate::question::Question;
 use crate::reach::{Reach, begun_with, places_in};
@@ -253,7 +254,13 @@ fn search(frames: &mut Frames, asked: &Asked, first: Option<&Bundle>) -> Bundle
         reach,
         goods: &goods,
     };
-    frames.opened = below(&question, &SummedNode::root(), goods.alone, &mut champion);
+    let root = SummedNode::root();
+    let branch = Branch {
+        question: &question,
+        summed: &root,
+        word: goods.alone,
+    };
+    frames.opened = below(&branch, &mut champion);
     champion.node.chosen
 }
 

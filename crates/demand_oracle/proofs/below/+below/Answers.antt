@@ -7,250 +7,248 @@ use Rattle.bundle_rules.specs.Menus.{section_at}
 use Rattle.demand_oracle.specs.Questions.{offer_asked, wanted_in}
 use Rattle.demand_oracle.specs.SummedNodes.{chosen_of}
 use Rattle.demand_oracle.proofs.OpenPlaces.{word_falls}
-use Rattle.demand_oracle.proofs.Descending.{compared, next_clashes, whole_searched, lost_searched, end_searched, next_later, next_on_menu, node_next, prune_searched, fits_where_takable, takable_where_fits, shut_goes_on, node_taken, word_taken, taken_goes_on, given_searched}
+use Rattle.demand_oracle.proofs.Descending.{asked_of, compared, next_clashes, whole_searched, lost_searched, end_searched, next_later, next_on_menu, node_next, prune_searched, fits_where_takable, takable_where_fits, shut_goes_on, node_taken, word_taken, taken_goes_on, given_searched}
 use Rattle.demand_oracle.proofs.below.+below.Goals as goal
 
 pub returns-then-courses_left-eq0-clause-searched : goal.returns-then-courses_left-eq0-clause-searched
 returns-then-courses_left-eq0-clause-searched t c =
-    whole_searched c.args.question.now c.requires.question c.args.summed.now c.requires.summed c.requires.node _ _
-    (let left : c.courses_left.result ≡ c.args.question.now.offer.now.menu.now.courses - length (chosen_of c.args.summed.now) = c.courses_left.ensures.value in
+    whole_searched c.args.branch.now.question.now (asked_of c.args.branch.now.question.now c.len.ensures.menu c.args.branch.now.looked_up) c.args.branch.now.summed.now c.args.branch.now.summed_is c.args.branch.now.is_node _ _
+    (let left : c.courses_left.result ≡ c.args.branch.now.question.now.offer.now.menu.now.courses - length (chosen_of c.args.branch.now.summed.now) = c.courses_left.ensures.value in
     omega (arith, c.if-courses_left-eq0.true))
-    (compared c.args.question.now c.args.summed.now c.args.champion.now c.put_better.new.champion c.put_better.ensures c.args.summed.now.node.place)
+    (compared c.args.branch.now.question.now c.args.branch.now.summed.now c.args.champion.now c.put_better.new.champion c.put_better.ensures c.args.branch.now.summed.now.node.place)
 
 pub returns-then-is_lost-clause-searched : goal.returns-then-is_lost-clause-searched
 returns-then-is_lost-clause-searched t c =
-    lost_searched c.args.question.now c.requires.question c.args.summed.now c.requires.summed c.requires.node (chosen_of c.args.champion.now)
+    lost_searched c.args.branch.now.question.now (asked_of c.args.branch.now.question.now c.len.ensures.menu c.args.branch.now.looked_up) c.args.branch.now.summed.now c.args.branch.now.summed_is c.args.branch.now.is_node (chosen_of c.args.champion.now)
     (c.is_lost.ensures.undecided c.if-is_lost.true) (c.is_lost.ensures.lost (chosen_of c.args.champion.now) c.if-is_lost.true)
 
 pub prunes-requires-clause-place : goal.prunes-requires-clause-place
 prunes-requires-clause-place t c =
-    let on = next_on_menu c.args.question.now c.requires.question c.args.summed.now c.requires.summed c.requires.node c.args.champion.now c.places.left c.places.champion
+    let on = next_on_menu c.args.branch.now.question.now (asked_of c.args.branch.now.question.now c.len.ensures.menu c.args.branch.now.looked_up) c.args.branch.now.summed.now c.args.branch.now.summed_is c.args.branch.now.is_node c.args.champion.now c.places.left c.places.champion
     c.places.invariant.goes_on (search rules) (omega arith) in
     omega arith
 
 pub returns-then-prunes-clause-searched : goal.returns-then-prunes-clause-searched
 returns-then-prunes-clause-searched t c =
-    prune_searched c.args.question.now c.requires.question c.args.summed.now c.requires.summed c.requires.node c.args.champion.now c.places.left c.places.champion
+    prune_searched c.args.branch.now.question.now (asked_of c.args.branch.now.question.now c.len.ensures.menu c.args.branch.now.looked_up) c.args.branch.now.summed.now c.args.branch.now.summed_is c.args.branch.now.is_node c.args.champion.now c.places.left c.places.champion
     c.places.invariant.goes_on (search rules) (omega arith)
-    (c.prunes.ensures (wanted_in c.args.question.now) c.args.question.now.offer.now.prices.now c.args.question.now.offer.now.budget.0 c.args.question.now.offer.now.allowed.now
-    c.requires.question.reach c.column-column.ensures c.requires.summed
-    (node_next c.args.question.now c.requires.question c.args.summed.now c.requires.summed c.requires.node c.args.champion.now c.places.left c.places.champion
+    (c.prunes.ensures (wanted_in c.args.branch.now.question.now) c.args.branch.now.question.now.offer.now.prices.now c.args.branch.now.question.now.offer.now.budget.0 c.args.branch.now.question.now.offer.now.allowed.now
+    c.args.branch.now.looked_up.reach c.column-column.ensures c.args.branch.now.summed_is
+    (node_next c.args.branch.now.question.now (asked_of c.args.branch.now.question.now c.len.ensures.menu c.args.branch.now.looked_up) c.args.branch.now.summed.now c.args.branch.now.summed_is c.args.branch.now.is_node c.args.champion.now c.places.left c.places.champion
     c.places.invariant.goes_on (search rules) (omega arith))
     c.places.invariant.goes_on.is_champion.sums c.places.invariant.goes_on.is_champion.takable c.if-prunes.true)
 
-pub fits-requires : goal.fits-requires
-fits-requires t c =
-    let on = next_on_menu c.args.question.now c.requires.question c.args.summed.now c.requires.summed c.requires.node c.args.champion.now c.places.left c.places.champion
-    c.places.invariant.goes_on (search rules) (omega arith) in
-    let few : length c.args.question.now.offer.now.menu.now.places ≤ 60 = c.requires.question.menu.places.few in
-    omega arith
+pub invariant_of-step : goal.invariant_of-step
+invariant_of-step t c = record {
+  summed_is = c.args.branch.now.summed_is;
+  undecided =
+      next_later c.args.branch.now.question.now (asked_of c.args.branch.now.question.now c.len.ensures.menu c.args.branch.now.looked_up) c.args.branch.now.summed.now c.args.branch.now.summed_is c.args.branch.now.is_node c.args.champion.now c.places.left c.places.champion
+      c.places.invariant.goes_on (search rules) (omega arith);
+  on_menu =
+      next_on_menu c.args.branch.now.question.now (asked_of c.args.branch.now.question.now c.len.ensures.menu c.args.branch.now.looked_up) c.args.branch.now.summed.now c.args.branch.now.summed_is c.args.branch.now.is_node c.args.champion.now c.places.left c.places.champion
+      c.places.invariant.goes_on (search rules) (omega arith);
+}
 
 pub places-smaller-then-not-fits : goal.places-smaller-then-not-fits
 places-smaller-then-not-fits t c =
-    word_falls (offer_asked c.args.question.now) c.requires.question.menu c.places.invariant.goes_on.from (chosen_of c.args.summed.now) c.places.left (search rules)
+    word_falls (offer_asked c.args.branch.now.question.now) c.len.ensures.menu c.places.invariant.goes_on.from (chosen_of c.args.branch.now.summed.now) c.places.left (search rules)
     (omega arith) c.places.invariant.goes_on.is_word
 
 pub places-preserved-then-not-fits : goal.places-preserved-then-not-fits
 places-preserved-then-not-fits t c =
-    let on = next_on_menu c.args.question.now c.requires.question c.args.summed.now c.requires.summed c.requires.node c.args.champion.now c.places.left c.places.champion
+    let on = next_on_menu c.args.branch.now.question.now (asked_of c.args.branch.now.question.now c.len.ensures.menu c.args.branch.now.looked_up) c.args.branch.now.summed.now c.args.branch.now.summed_is c.args.branch.now.is_node c.args.champion.now c.places.left c.places.champion
     c.places.invariant.goes_on (search rules) (omega arith) in
-    let within = c.fits.ensures c.requires.question on in
+    let within = c.fits.ensures (asked_of c.args.branch.now.question.now c.len.ensures.menu c.args.branch.now.looked_up) on in
     record {
       goes_on =
-          shut_goes_on c.args.question.now c.requires.question c.args.summed.now c.requires.summed c.requires.node c.args.champion.now c.places.left c.places.champion
+          shut_goes_on c.args.branch.now.question.now (asked_of c.args.branch.now.question.now c.len.ensures.menu c.args.branch.now.looked_up) c.args.branch.now.summed.now c.args.branch.now.summed_is c.args.branch.now.is_node c.args.champion.now c.places.left c.places.champion
           c.places.invariant.goes_on (search rules) (omega arith)
           (λ takable.
           let left =
-          fits_where_takable c.args.question.now c.requires.question c.args.summed.now c.requires.summed c.requires.node c.args.champion.now c.places.left c.places.champion
+          fits_where_takable c.args.branch.now.question.now (asked_of c.args.branch.now.question.now c.len.ensures.menu c.args.branch.now.looked_up) c.args.branch.now.summed.now c.args.branch.now.summed_is c.args.branch.now.is_node c.args.champion.now c.places.left c.places.champion
           c.places.invariant.goes_on (search rules) (omega arith) takable in
           true≢false (sym (within.1 left) ∙ c.if-not-fits.true));
       fewer =
-          let before : c.places.left ≤ c.args.word = c.places.invariant.fewer in
+          let before : c.places.left ≤ c.args.branch.now.word = c.places.invariant.fewer in
           let falls =
-          word_falls (offer_asked c.args.question.now) c.requires.question.menu c.places.invariant.goes_on.from (chosen_of c.args.summed.now) c.places.left
+          word_falls (offer_asked c.args.branch.now.question.now) c.len.ensures.menu c.places.invariant.goes_on.from (chosen_of c.args.branch.now.summed.now) c.places.left
           (search rules) (omega arith) c.places.invariant.goes_on.is_word in
           omega arith;
     }
 
 pub bounds-question-from : goal.bounds-question-from
 bounds-question-from t c =
-    let on = next_on_menu c.args.question.now c.requires.question c.args.summed.now c.requires.summed c.requires.node c.args.champion.now c.places.left c.places.champion
+    let on = next_on_menu c.args.branch.now.question.now (asked_of c.args.branch.now.question.now c.len.ensures.menu c.args.branch.now.looked_up) c.args.branch.now.summed.now c.args.branch.now.summed_is c.args.branch.now.is_node c.args.champion.now c.places.left c.places.champion
     c.places.invariant.goes_on (search rules) (omega arith) in
-    let few : length c.args.question.now.offer.now.menu.now.places ≤ 60 = c.requires.question.menu.places.few in
+    let few : length c.args.branch.now.question.now.offer.now.menu.now.places ≤ 60 = c.len.ensures.menu.places.few in
     omega arith
+
+pub falls_short-requires-clause-question : goal.falls_short-requires-clause-question
+falls_short-requires-clause-question t c = asked_of c.args.branch.now.question.now c.len.ensures.menu c.args.branch.now.looked_up
+
+pub falls_short-requires-clause-summed : goal.falls_short-requires-clause-summed
+falls_short-requires-clause-summed t c = c.args.branch.now.summed_is
 
 pub falls_short-requires-clause-undecided : goal.falls_short-requires-clause-undecided
 falls_short-requires-clause-undecided t c =
-    next_later c.args.question.now c.requires.question c.args.summed.now c.requires.summed c.requires.node c.args.champion.now c.places.left c.places.champion
+    next_later c.args.branch.now.question.now (asked_of c.args.branch.now.question.now c.len.ensures.menu c.args.branch.now.looked_up) c.args.branch.now.summed.now c.args.branch.now.summed_is c.args.branch.now.is_node c.args.champion.now c.places.left c.places.champion
     c.places.invariant.goes_on (search rules) (omega arith)
 
 pub falls_short-requires-clause-on_menu : goal.falls_short-requires-clause-on_menu
 falls_short-requires-clause-on_menu t c =
-    next_on_menu c.args.question.now c.requires.question c.args.summed.now c.requires.summed c.requires.node c.args.champion.now c.places.left c.places.champion
+    next_on_menu c.args.branch.now.question.now (asked_of c.args.branch.now.question.now c.len.ensures.menu c.args.branch.now.looked_up) c.args.branch.now.summed.now c.args.branch.now.summed_is c.args.branch.now.is_node c.args.champion.now c.places.left c.places.champion
     c.places.invariant.goes_on (search rules) (omega arith)
 
 pub falls_short-requires-clause-node : goal.falls_short-requires-clause-node
 falls_short-requires-clause-node t c =
-    let on = next_on_menu c.args.question.now c.requires.question c.args.summed.now c.requires.summed c.requires.node c.args.champion.now c.places.left c.places.champion
+    let on = next_on_menu c.args.branch.now.question.now (asked_of c.args.branch.now.question.now c.len.ensures.menu c.args.branch.now.looked_up) c.args.branch.now.summed.now c.args.branch.now.summed_is c.args.branch.now.is_node c.args.champion.now c.places.left c.places.champion
     c.places.invariant.goes_on (search rules) (omega arith) in
-    let within = (c.fits.ensures c.requires.question on).0 c.if-not-fits.false in
+    let within = (c.fits.ensures (asked_of c.args.branch.now.question.now c.len.ensures.menu c.args.branch.now.looked_up) on).0 c.if-not-fits.false in
     let takable =
-    takable_where_fits c.args.question.now c.requires.question c.args.summed.now c.requires.summed c.requires.node c.args.champion.now c.places.left c.places.champion
+    takable_where_fits c.args.branch.now.question.now (asked_of c.args.branch.now.question.now c.len.ensures.menu c.args.branch.now.looked_up) c.args.branch.now.summed.now c.args.branch.now.summed_is c.args.branch.now.is_node c.args.champion.now c.places.left c.places.champion
     c.places.invariant.goes_on (search rules) (omega arith)
-    (let left : c.courses_left.result ≡ c.args.question.now.offer.now.menu.now.courses - length (chosen_of c.args.summed.now) = c.courses_left.ensures.value in
+    (let left : c.courses_left.result ≡ c.args.branch.now.question.now.offer.now.menu.now.courses - length (chosen_of c.args.branch.now.summed.now) = c.courses_left.ensures.value in
     omega (arith, c.if-courses_left-eq0.false)) within.0 within.1 in
-    node_taken c.args.question.now c.requires.question c.args.summed.now c.requires.summed c.requires.node c.args.champion.now c.places.left c.places.champion
+    node_taken c.args.branch.now.question.now (asked_of c.args.branch.now.question.now c.len.ensures.menu c.args.branch.now.looked_up) c.args.branch.now.summed.now c.args.branch.now.summed_is c.args.branch.now.is_node c.args.champion.now c.places.left c.places.champion
     c.places.invariant.goes_on (search rules) (omega arith) takable
 
 pub falls_short-requires-clause-word : goal.falls_short-requires-clause-word
 falls_short-requires-clause-word t c =
-    let on = next_on_menu c.args.question.now c.requires.question c.args.summed.now c.requires.summed c.requires.node c.args.champion.now c.places.left c.places.champion
+    let on = next_on_menu c.args.branch.now.question.now (asked_of c.args.branch.now.question.now c.len.ensures.menu c.args.branch.now.looked_up) c.args.branch.now.summed.now c.args.branch.now.summed_is c.args.branch.now.is_node c.args.champion.now c.places.left c.places.champion
     c.places.invariant.goes_on (search rules) (omega arith) in
-    let within = (c.fits.ensures c.requires.question on).0 c.if-not-fits.false in
+    let within = (c.fits.ensures (asked_of c.args.branch.now.question.now c.len.ensures.menu c.args.branch.now.looked_up) on).0 c.if-not-fits.false in
     let takable =
-    takable_where_fits c.args.question.now c.requires.question c.args.summed.now c.requires.summed c.requires.node c.args.champion.now c.places.left c.places.champion
+    takable_where_fits c.args.branch.now.question.now (asked_of c.args.branch.now.question.now c.len.ensures.menu c.args.branch.now.looked_up) c.args.branch.now.summed.now c.args.branch.now.summed_is c.args.branch.now.is_node c.args.champion.now c.places.left c.places.champion
     c.places.invariant.goes_on (search rules) (omega arith)
-    (let left : c.courses_left.result ≡ c.args.question.now.offer.now.menu.now.courses - length (chosen_of c.args.summed.now) = c.courses_left.ensures.value in
+    (let left : c.courses_left.result ≡ c.args.branch.now.question.now.offer.now.menu.now.courses - length (chosen_of c.args.branch.now.summed.now) = c.courses_left.ensures.value in
     omega (arith, c.if-courses_left-eq0.false)) within.0 within.1 in
-    word_taken c.args.question.now c.requires.question c.args.summed.now c.requires.summed c.requires.node c.args.champion.now c.places.left c.places.champion
+    word_taken c.args.branch.now.question.now (asked_of c.args.branch.now.question.now c.len.ensures.menu c.args.branch.now.looked_up) c.args.branch.now.summed.now c.args.branch.now.summed_is c.args.branch.now.is_node c.args.champion.now c.places.left c.places.champion
     c.places.invariant.goes_on (search rules) (omega arith) takable
-    (slice_index_or c.args.question.now.goods.now.clashes c.from.result 0) (search rules)
-    (rw c.from.ensures (next_clashes c.args.question.now c.requires.question c.args.summed.now c.requires.summed c.requires.node c.args.champion.now c.places.left
+    (slice_index_or c.args.branch.now.question.now.goods.now.clashes c.from.result 0) (search rules)
+    (rw c.from.ensures (next_clashes c.args.branch.now.question.now (asked_of c.args.branch.now.question.now c.len.ensures.menu c.args.branch.now.looked_up) c.args.branch.now.summed.now c.args.branch.now.summed_is c.args.branch.now.is_node c.args.champion.now c.places.left
     c.places.champion c.places.invariant.goes_on (search rules) (omega arith)))
 
 pub places-smaller-then-falls_short : goal.places-smaller-then-falls_short
 places-smaller-then-falls_short t c =
-    word_falls (offer_asked c.args.question.now) c.requires.question.menu c.places.invariant.goes_on.from (chosen_of c.args.summed.now) c.places.left (search rules)
+    word_falls (offer_asked c.args.branch.now.question.now) c.len.ensures.menu c.places.invariant.goes_on.from (chosen_of c.args.branch.now.summed.now) c.places.left (search rules)
     (omega arith) c.places.invariant.goes_on.is_word
 
 pub places-preserved-then-falls_short : goal.places-preserved-then-falls_short
 places-preserved-then-falls_short t c =
-    let on = next_on_menu c.args.question.now c.requires.question c.args.summed.now c.requires.summed c.requires.node c.args.champion.now c.places.left c.places.champion
+    let on = next_on_menu c.args.branch.now.question.now (asked_of c.args.branch.now.question.now c.len.ensures.menu c.args.branch.now.looked_up) c.args.branch.now.summed.now c.args.branch.now.summed_is c.args.branch.now.is_node c.args.champion.now c.places.left c.places.champion
     c.places.invariant.goes_on (search rules) (omega arith) in
-    let within = (c.fits.ensures c.requires.question on).0 c.if-not-fits.false in
+    let within = (c.fits.ensures (asked_of c.args.branch.now.question.now c.len.ensures.menu c.args.branch.now.looked_up) on).0 c.if-not-fits.false in
     let takable =
-    takable_where_fits c.args.question.now c.requires.question c.args.summed.now c.requires.summed c.requires.node c.args.champion.now c.places.left c.places.champion
+    takable_where_fits c.args.branch.now.question.now (asked_of c.args.branch.now.question.now c.len.ensures.menu c.args.branch.now.looked_up) c.args.branch.now.summed.now c.args.branch.now.summed_is c.args.branch.now.is_node c.args.champion.now c.places.left c.places.champion
     c.places.invariant.goes_on (search rules) (omega arith)
-    (let left : c.courses_left.result ≡ c.args.question.now.offer.now.menu.now.courses - length (chosen_of c.args.summed.now) = c.courses_left.ensures.value in
+    (let left : c.courses_left.result ≡ c.args.branch.now.question.now.offer.now.menu.now.courses - length (chosen_of c.args.branch.now.summed.now) = c.courses_left.ensures.value in
     omega (arith, c.if-courses_left-eq0.false)) within.0 within.1 in
     record {
       goes_on =
-          taken_goes_on c.args.question.now c.requires.question c.args.summed.now c.requires.summed c.requires.node c.args.champion.now c.places.left c.places.champion
+          taken_goes_on c.args.branch.now.question.now (asked_of c.args.branch.now.question.now c.len.ensures.menu c.args.branch.now.looked_up) c.args.branch.now.summed.now c.args.branch.now.summed_is c.args.branch.now.is_node c.args.champion.now c.places.left c.places.champion
           c.places.invariant.goes_on (search rules) (omega arith)
           takable c.places.champion c.places.invariant.goes_on.is_champion (c.falls_short.ensures c.if-falls_short.true);
       fewer =
-          let before : c.places.left ≤ c.args.word = c.places.invariant.fewer in
+          let before : c.places.left ≤ c.args.branch.now.word = c.places.invariant.fewer in
           let falls =
-          word_falls (offer_asked c.args.question.now) c.requires.question.menu c.places.invariant.goes_on.from (chosen_of c.args.summed.now) c.places.left
+          word_falls (offer_asked c.args.branch.now.question.now) c.len.ensures.menu c.places.invariant.goes_on.from (chosen_of c.args.branch.now.summed.now) c.places.left
           (search rules) (omega arith) c.places.invariant.goes_on.is_word in
           omega arith;
     }
 
-pub invariant_of-step : goal.invariant_of-step
-invariant_of-step t c = record {
-  summed_is = c.requires.summed;
-  undecided =
-      next_later c.args.question.now c.requires.question c.args.summed.now c.requires.summed c.requires.node c.args.champion.now c.places.left c.places.champion
-      c.places.invariant.goes_on (search rules) (omega arith);
-  on_menu =
-      next_on_menu c.args.question.now c.requires.question c.args.summed.now c.requires.summed c.requires.node c.args.champion.now c.places.left c.places.champion
-      c.places.invariant.goes_on (search rules) (omega arith);
-}
-
-pub below-requires : goal.below-requires
-below-requires t c =
-    let on = next_on_menu c.args.question.now c.requires.question c.args.summed.now c.requires.summed c.requires.node c.args.champion.now c.places.left c.places.champion
+pub invariant_of-further : goal.invariant_of-further
+invariant_of-further t c =
+    let on = next_on_menu c.args.branch.now.question.now (asked_of c.args.branch.now.question.now c.len.ensures.menu c.args.branch.now.looked_up) c.args.branch.now.summed.now c.args.branch.now.summed_is c.args.branch.now.is_node c.args.champion.now c.places.left c.places.champion
     c.places.invariant.goes_on (search rules) (omega arith) in
-    let within = (c.fits.ensures c.requires.question on).0 c.if-not-fits.false in
+    let within = (c.fits.ensures (asked_of c.args.branch.now.question.now c.len.ensures.menu c.args.branch.now.looked_up) on).0 c.if-not-fits.false in
     let takable =
-    takable_where_fits c.args.question.now c.requires.question c.args.summed.now c.requires.summed c.requires.node c.args.champion.now c.places.left c.places.champion
+    takable_where_fits c.args.branch.now.question.now (asked_of c.args.branch.now.question.now c.len.ensures.menu c.args.branch.now.looked_up) c.args.branch.now.summed.now c.args.branch.now.summed_is c.args.branch.now.is_node c.args.champion.now c.places.left c.places.champion
     c.places.invariant.goes_on (search rules) (omega arith)
-    (let left : c.courses_left.result ≡ c.args.question.now.offer.now.menu.now.courses - length (chosen_of c.args.summed.now) = c.courses_left.ensures.value in
+    (let left : c.courses_left.result ≡ c.args.branch.now.question.now.offer.now.menu.now.courses - length (chosen_of c.args.branch.now.summed.now) = c.courses_left.ensures.value in
     omega (arith, c.if-courses_left-eq0.false)) within.0 within.1 in
     let place_is : c.with_place-with_it.result.node.place ≡ trailing_zeros w64 c.places.left + 1 = c.with_place-with_it.ensures.place in
     let chosen_is : chosen_of c.with_place-with_it.result
-    ≡ chosen_of c.args.summed.now ++ section_at c.args.question.now.offer.now.menu.now.places (trailing_zeros w64 c.places.left) ∷ [] =
+    ≡ chosen_of c.args.branch.now.summed.now ++ section_at c.args.branch.now.question.now.offer.now.menu.now.places (trailing_zeros w64 c.places.left) ∷ [] =
     c.with_place-with_it.ensures.chosen in
+    record {
+      looked_up = c.args.branch.now.looked_up;
+      summed_is = c.with_place-with_it.ensures.summed;
+      is_node =
+          rw (place_is, chosen_is)
+          (node_taken c.args.branch.now.question.now (asked_of c.args.branch.now.question.now c.len.ensures.menu c.args.branch.now.looked_up) c.args.branch.now.summed.now c.args.branch.now.summed_is c.args.branch.now.is_node c.args.champion.now c.places.left
+          c.places.champion c.places.invariant.goes_on (search rules) (omega arith) takable);
+      is_open =
+          rw (place_is, chosen_is)
+          (word_taken c.args.branch.now.question.now (asked_of c.args.branch.now.question.now c.len.ensures.menu c.args.branch.now.looked_up) c.args.branch.now.summed.now c.args.branch.now.summed_is c.args.branch.now.is_node c.args.champion.now c.places.left
+          c.places.champion c.places.invariant.goes_on (search rules) (omega arith) takable
+          (slice_index_or c.args.branch.now.question.now.goods.now.clashes c.from.result 0) (search rules)
+          (rw c.from.ensures (next_clashes c.args.branch.now.question.now (asked_of c.args.branch.now.question.now c.len.ensures.menu c.args.branch.now.looked_up) c.args.branch.now.summed.now c.args.branch.now.summed_is c.args.branch.now.is_node c.args.champion.now c.places.left
+          c.places.champion c.places.invariant.goes_on (search rules) (omega arith))));
+    }
+
+pub below-requires : goal.below-requires
+below-requires t c =
     let falls =
-    word_falls (offer_asked c.args.question.now) c.requires.question.menu c.places.invariant.goes_on.from (chosen_of c.args.summed.now) c.places.left
+    word_falls (offer_asked c.args.branch.now.question.now) c.len.ensures.menu c.places.invariant.goes_on.from (chosen_of c.args.branch.now.summed.now) c.places.left
     (search rules) (omega arith) c.places.invariant.goes_on.is_word in
-    let before : c.places.left ≤ c.args.word = c.places.invariant.fewer in
+    let before : c.places.left ≤ c.args.branch.now.word = c.places.invariant.fewer in
     let measure = c.decreases in (
-      omega (arith, and_le_l (bit_and c.places.left (bit_not w64 (1 * 2 ^ trailing_zeros w64 c.places.left % 2 ^ 64))) (bit_not w64 (slice_index_or c.args.question.now.goods.now.clashes c.from.result 0))),
-      (
-        c.requires.question,
-        (
-          c.with_place-with_it.ensures.summed,
-          (
-            rw (place_is, chosen_is)
-                (node_taken c.args.question.now c.requires.question c.args.summed.now c.requires.summed c.requires.node c.args.champion.now c.places.left c.places.champion
-                c.places.invariant.goes_on (search rules) (omega arith) takable),
-            (
-              rw (place_is, chosen_is)
-                  (word_taken c.args.question.now c.requires.question c.args.summed.now c.requires.summed c.requires.node c.args.champion.now c.places.left c.places.champion
-                  c.places.invariant.goes_on (search rules) (omega arith) takable
-                  (slice_index_or c.args.question.now.goods.now.clashes c.from.result 0) (search rules)
-                  (rw c.from.ensures (next_clashes c.args.question.now c.requires.question c.args.summed.now c.requires.summed c.requires.node c.args.champion.now c.places.left
-                  c.places.champion c.places.invariant.goes_on (search rules) (omega arith)))),
-              c.places.invariant.goes_on.is_champion,
-            ),
-          ),
-        ),
-      ),
+      omega (arith, and_le_l (bit_and c.places.left (bit_not w64 (1 * 2 ^ trailing_zeros w64 c.places.left % 2 ^ 64))) (bit_not w64 (slice_index_or c.args.branch.now.question.now.goods.now.clashes c.from.result 0))),
+      c.places.invariant.goes_on.is_champion,
     )
 
 pub returns-then-is_given-clause-searched : goal.returns-then-is_given-clause-searched
 returns-then-is_given-clause-searched t c =
-    let on = next_on_menu c.args.question.now c.requires.question c.args.summed.now c.requires.summed c.requires.node c.args.champion.now c.places.left c.places.champion
+    let on = next_on_menu c.args.branch.now.question.now (asked_of c.args.branch.now.question.now c.len.ensures.menu c.args.branch.now.looked_up) c.args.branch.now.summed.now c.args.branch.now.summed_is c.args.branch.now.is_node c.args.champion.now c.places.left c.places.champion
     c.places.invariant.goes_on (search rules) (omega arith) in
-    let within = (c.fits.ensures c.requires.question on).0 c.if-not-fits.false in
+    let within = (c.fits.ensures (asked_of c.args.branch.now.question.now c.len.ensures.menu c.args.branch.now.looked_up) on).0 c.if-not-fits.false in
     let takable =
-    takable_where_fits c.args.question.now c.requires.question c.args.summed.now c.requires.summed c.requires.node c.args.champion.now c.places.left c.places.champion
+    takable_where_fits c.args.branch.now.question.now (asked_of c.args.branch.now.question.now c.len.ensures.menu c.args.branch.now.looked_up) c.args.branch.now.summed.now c.args.branch.now.summed_is c.args.branch.now.is_node c.args.champion.now c.places.left c.places.champion
     c.places.invariant.goes_on (search rules) (omega arith)
-    (let left : c.courses_left.result ≡ c.args.question.now.offer.now.menu.now.courses - length (chosen_of c.args.summed.now) = c.courses_left.ensures.value in
+    (let left : c.courses_left.result ≡ c.args.branch.now.question.now.offer.now.menu.now.courses - length (chosen_of c.args.branch.now.summed.now) = c.courses_left.ensures.value in
     omega (arith, c.if-courses_left-eq0.false)) within.0 within.1 in
     let place_is : c.with_place-with_it.result.node.place ≡ trailing_zeros w64 c.places.left + 1 = c.with_place-with_it.ensures.place in
     let chosen_is : chosen_of c.with_place-with_it.result
-    ≡ chosen_of c.args.summed.now ++ section_at c.args.question.now.offer.now.menu.now.places (trailing_zeros w64 c.places.left) ∷ [] =
+    ≡ chosen_of c.args.branch.now.summed.now ++ section_at c.args.branch.now.question.now.offer.now.menu.now.places (trailing_zeros w64 c.places.left) ∷ [] =
     c.with_place-with_it.ensures.chosen in
-    given_searched c.args.question.now c.requires.question c.args.summed.now c.requires.summed c.requires.node c.args.champion.now c.places.left c.places.champion
+    given_searched c.args.branch.now.question.now (asked_of c.args.branch.now.question.now c.len.ensures.menu c.args.branch.now.looked_up) c.args.branch.now.summed.now c.args.branch.now.summed_is c.args.branch.now.is_node c.args.champion.now c.places.left c.places.champion
     c.places.invariant.goes_on (search rules) (omega arith) takable
     c.below.new.champion c.below.ensures.champion (rw (place_is, chosen_is) at c.below.ensures.searched) (c.is_given.ensures.0 c.if-is_given.true)
 
 pub places-smaller : goal.places-smaller
 places-smaller t c =
-    word_falls (offer_asked c.args.question.now) c.requires.question.menu c.places.invariant.goes_on.from (chosen_of c.args.summed.now) c.places.left (search rules)
+    word_falls (offer_asked c.args.branch.now.question.now) c.len.ensures.menu c.places.invariant.goes_on.from (chosen_of c.args.branch.now.summed.now) c.places.left (search rules)
     (omega arith) c.places.invariant.goes_on.is_word
 
 pub places-preserved : goal.places-preserved
 places-preserved t c =
-    let on = next_on_menu c.args.question.now c.requires.question c.args.summed.now c.requires.summed c.requires.node c.args.champion.now c.places.left c.places.champion
+    let on = next_on_menu c.args.branch.now.question.now (asked_of c.args.branch.now.question.now c.len.ensures.menu c.args.branch.now.looked_up) c.args.branch.now.summed.now c.args.branch.now.summed_is c.args.branch.now.is_node c.args.champion.now c.places.left c.places.champion
     c.places.invariant.goes_on (search rules) (omega arith) in
-    let within = (c.fits.ensures c.requires.question on).0 c.if-not-fits.false in
+    let within = (c.fits.ensures (asked_of c.args.branch.now.question.now c.len.ensures.menu c.args.branch.now.looked_up) on).0 c.if-not-fits.false in
     let takable =
-    takable_where_fits c.args.question.now c.requires.question c.args.summed.now c.requires.summed c.requires.node c.args.champion.now c.places.left c.places.champion
+    takable_where_fits c.args.branch.now.question.now (asked_of c.args.branch.now.question.now c.len.ensures.menu c.args.branch.now.looked_up) c.args.branch.now.summed.now c.args.branch.now.summed_is c.args.branch.now.is_node c.args.champion.now c.places.left c.places.champion
     c.places.invariant.goes_on (search rules) (omega arith)
-    (let left : c.courses_left.result ≡ c.args.question.now.offer.now.menu.now.courses - length (chosen_of c.args.summed.now) = c.courses_left.ensures.value in
+    (let left : c.courses_left.result ≡ c.args.branch.now.question.now.offer.now.menu.now.courses - length (chosen_of c.args.branch.now.summed.now) = c.courses_left.ensures.value in
     omega (arith, c.if-courses_left-eq0.false)) within.0 within.1 in
     let place_is : c.with_place-with_it.result.node.place ≡ trailing_zeros w64 c.places.left + 1 = c.with_place-with_it.ensures.place in
     let chosen_is : chosen_of c.with_place-with_it.result
-    ≡ chosen_of c.args.summed.now ++ section_at c.args.question.now.offer.now.menu.now.places (trailing_zeros w64 c.places.left) ∷ [] =
+    ≡ chosen_of c.args.branch.now.summed.now ++ section_at c.args.branch.now.question.now.offer.now.menu.now.places (trailing_zeros w64 c.places.left) ∷ [] =
     c.with_place-with_it.ensures.chosen in
     record {
       goes_on =
-          taken_goes_on c.args.question.now c.requires.question c.args.summed.now c.requires.summed c.requires.node c.args.champion.now c.places.left c.places.champion
+          taken_goes_on c.args.branch.now.question.now (asked_of c.args.branch.now.question.now c.len.ensures.menu c.args.branch.now.looked_up) c.args.branch.now.summed.now c.args.branch.now.summed_is c.args.branch.now.is_node c.args.champion.now c.places.left c.places.champion
           c.places.invariant.goes_on (search rules) (omega arith)
           takable c.below.new.champion c.below.ensures.champion (rw (place_is, chosen_is) at c.below.ensures.searched);
       fewer =
-          let before : c.places.left ≤ c.args.word = c.places.invariant.fewer in
+          let before : c.places.left ≤ c.args.branch.now.word = c.places.invariant.fewer in
           let falls =
-          word_falls (offer_asked c.args.question.now) c.requires.question.menu c.places.invariant.goes_on.from (chosen_of c.args.summed.now) c.places.left
+          word_falls (offer_asked c.args.branch.now.question.now) c.len.ensures.menu c.places.invariant.goes_on.from (chosen_of c.args.branch.now.summed.now) c.places.left
           (search rules) (omega arith) c.places.invariant.goes_on.is_word in
           omega arith;
     }
 
 pub returns-clause-searched : goal.returns-clause-searched
 returns-clause-searched t c =
-    end_searched c.args.question.now c.requires.question c.args.summed.now c.requires.summed c.requires.node c.args.champion.now c.places.left c.places.champion
+    end_searched c.args.branch.now.question.now (asked_of c.args.branch.now.question.now c.len.ensures.menu c.args.branch.now.looked_up) c.args.branch.now.summed.now c.args.branch.now.summed_is c.args.branch.now.is_node c.args.champion.now c.places.left c.places.champion
     c.places.invariant.goes_on c.put_better-2.new.champion (omega arith)
-    (λ k. compared c.args.question.now c.args.summed.now c.places.champion c.put_better-2.new.champion c.put_better-2.ensures k)
+    (λ k. compared c.args.branch.now.question.now c.args.branch.now.summed.now c.places.champion c.put_better-2.new.champion c.put_better-2.ensures k)

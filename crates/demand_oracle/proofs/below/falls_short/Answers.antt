@@ -39,7 +39,7 @@ returns c yes_ =
     let chosen = with_place_of menu summed place in
     let champion = chosen_of c.args.champion.now in
     let next : ℕ = trailing_zeros w64 c.args.apart in
-    let goods = c.requires.question.goods in
+    let goods = c.requires.question.looked_up.goods in
     let is_column =
     column_with offer c.requires.question.menu summed c.requires.summed place c.requires.undecided c.requires.on_menu
     question.reach.now c.column_with-column.result _ _ _ c.requires.node.takable refl
@@ -56,12 +56,12 @@ returns c yes_ =
     c.utility-2.result c.lacking-2.result
     record {
       is_added =
-          c.added-added.ensures.value offer chosen c.requires.question.menu on c.requires.question.reach
+          c.added-added.ensures.value offer chosen c.requires.question.menu on c.requires.question.looked_up.reach
           is_column node;
       hopes_are =
           c.hoped_with-hoped.ensures
           ∙ hopes_with offer c.requires.question.menu summed c.requires.summed place c.requires.undecided c.requires.on_menu question.reach.now.hopes next
-          c.requires.question.reach.hopes on node;
+          c.requires.question.looked_up.reach.hopes on node;
       u_is = c.utility_with-utility.ensures.value ∙ sym (utility_by_place menu chosen);
       worth_is = c.utility-2.ensures menu offer.price c.requires.champion.sums;
       lacks = omega (arith, ints, c.lacking-2.ensures.value);
