@@ -49,12 +49,8 @@ impl Tasks for InquiryTasks {
         self.count
     }
 
-    fn is_over(&self, _marks: &[Mark<Bundle>], _task: u32) -> bool {
-        false
-    }
-
-    fn tally(&self, _marks: &[Mark<Bundle>], _task: u32) -> u32 {
-        0
+    fn told_late(&self, _marks: &[Mark<Bundle>], _task: u32) -> Option<u32> {
+        None
     }
 
     fn note(&mut self, _marks: &[Mark<Bundle>], _task: u32, _bundle: Bundle) {}

@@ -2,7 +2,7 @@
 use Rattle.std.specs.Prelude.{ℕ, ◌<◌, ⊤, List}
 use Rattle.bundle_rules.specs.declared.bundle.Bundle.{Bundle}
 use Rattle.task_board.specs.Seats.{BoardOf, SeatOf}
-use Rattle.task_board.specs.Seats.{IsSeatOf as IsBoardSeat, HoldsNothing as HoldsNoTask, IsFree as IsFreeSeat, IsHolding as HoldsTask, IsFinished as IsFinishedSeat}
+use Rattle.task_board.specs.Seats.{IsSeatOf as IsBoardSeat, HoldsNothing as HoldsNoTask, MayDraw as MayDrawTask, IsFree as IsFreeSeat, IsHolding as HoldsTask, IsFinished as IsFinishedSeat}
 use Rattle.task_board.specs.Seats.{HasBegun as HasBoardBegun, AreBack as AreBoardBack}
 use Rattle.price_board.specs.declared.calls.Draw.{Draw}
 use Rattle.price_board.specs.declared.calls.Draw.TheVariants.{Task as Drawn, Done}
@@ -24,6 +24,10 @@ IsSeatOf board seat = IsBoardSeat round_rules board seat
 -- it holds no task
 abbrev pub HoldsNothing : RoundBoard → RoundSeat → Type 0
 HoldsNothing board seat = HoldsNoTask round_rules board seat
+
+-- it may draw
+abbrev pub MayDraw : RoundBoard → RoundSeat → Type 0
+MayDraw board seat = MayDrawTask round_rules board seat
 
 -- a worker that may draw
 abbrev pub IsFree : RoundBoard → RoundSeat → Type 0

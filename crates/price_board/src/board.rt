@@ -3,11 +3,11 @@ ghost use Rattle.std.specs.Prelude.{◌≡◌, ◌≤◌, ◌<◌, ℕ, IfOk};
 ghost use Rattle.std.specs.Arc.{arc_value};
 ghost use Rattle.bundle_rules.specs.Bundles.{sections_of};
 ghost use Rattle.task_board.specs.{Closings.IsEndOf, Fates.IsTaken, Fates.IsWorked};
-ghost use Rattle.task_board.specs.{Seats.dones, Seats.posts, Turns.HasDrawn, Turns.HasPosted};
+ghost use Rattle.task_board.specs.{Seats.posts, Turns.HasDrawn, Turns.HasPosted};
 ghost use Rattle.price_board.specs.{Asked.round_rules, Closings.AreSettled};
 ghost use Rattle.price_board.specs.Openings.{terms_of, IsRound};
 ghost use Rattle.price_board.specs.Rows.{number_drawn, number_of};
-ghost use Rattle.price_board.specs.Seats.{AreBack, HasBegun, HoldsNothing, IsSeatOf, IsWithin};
+ghost use Rattle.price_board.specs.Seats.{AreBack, HasBegun, IsSeatOf, IsWithin, MayDraw};
 ghost use Rattle.price_board.specs.Settling.{ask_of};
 ghost use Rattle.price_board.specs.Terms.{demand_of, student_count, task_count, version_count};
 
@@ -76,9 +76,7 @@ impl Board {
     /// settled version, and `Done` exactly where there is none. It takes no memory, and may wait
     /// for its turn.
     pub fn draw<R: Wait>(&self, rt: &R, seat: &mut BoardSeat) -> Draw
-        requires seat { IsSeatOf self.now seat.old }
-        requires holds_nothing { HoldsNothing self.now seat.old }
-        requires not_done { dones seat.old.own ≡ 0 }
+        requires { MayDraw self.now seat.old }
         ensures within { IsWithin self.now.base result }
         ensures drawn { HasDrawn round_rules self.now seat.old (number_drawn self.now.base result)
             seat.new }

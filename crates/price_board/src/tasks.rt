@@ -111,13 +111,13 @@ impl Tasks for RoundTasks {
         self.tallies.len() as u32 * self.students
     }
 
-    fn is_over(&self, _marks: &[Mark<Bundle>], task: u32) -> bool {
+    fn told_late(&self, _marks: &[Mark<Bundle>], task: u32) -> Option<u32> {
         let version = self.version_of(task);
-        settles(self.round.asks[version], self.tallies[version])
-    }
-
-    fn tally(&self, _marks: &[Mark<Bundle>], task: u32) -> u32 {
-        self.tallies[self.version_of(task)].count
+        let tally = self.tallies[version];
+        if settles(self.round.asks[version], tally) {
+            return Some(tally.count);
+        }
+        None
     }
 
     fn note(&mut self, _marks: &[Mark<Bundle>], task: u32, bundle: Bundle) {

@@ -85,6 +85,10 @@ module _ {B A : Type 0} (rules : Rules B A) where
   abbrev pub HoldsNothing : BoardOf B A → SeatOf B A → Type 0
   HoldsNothing board seat = (task : ℕ) → ¬ Holds board seat task
 
+  -- a seat of the board that may draw: it holds no task, and was not answered that there is none
+  abbrev pub MayDraw : BoardOf B A → SeatOf B A → Type 0
+  MayDraw board seat = IsSeatOf board seat × HoldsNothing board seat × (dones seat.own ≡ 0)
+
   -- it holds this task of the board and no other
   pub record HoldsOnly (board : BoardOf B A) (task : ℕ) (seat : SeatOf B A) : Type 0 where
     pub below : task < rules.count board.base

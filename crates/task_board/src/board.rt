@@ -1,7 +1,7 @@
 // The board that workers share.
 ghost use Rattle.std.specs.Prelude.{◌≡◌, ◌≤◌, ◌<◌, true, IfOk};
 ghost use Rattle.task_board.specs.{Closings.IsEndOf, Openings.no_answers};
-ghost use Rattle.task_board.specs.Seats.{AreBack, HasBegun, HoldsNothing, IsSeatOf, dones, posts};
+ghost use Rattle.task_board.specs.Seats.{AreBack, HasBegun, IsSeatOf, MayDraw, posts};
 ghost use Rattle.task_board.specs.Turns.{HasDrawn, HasPosted};
 
 use crate::answers::Answers;
@@ -59,9 +59,7 @@ impl<T: Tasks> Board<T> {
     /// Gives the seat the first task that nobody drew and that is not over, and `None` exactly where
     /// there is none. It takes no memory, and may wait for its turn.
     pub fn draw<R: Wait>(&self, rt: &R, seat: &mut BoardSeat<T>) -> Option<u32>
-        requires seat { IsSeatOf T.rules self.now seat.old }
-        requires holds_nothing { HoldsNothing T.rules self.now seat.old }
-        requires not_done { dones seat.old.own ≡ 0 }
+        requires { MayDraw T.rules self.now seat.old }
         ensures { HasDrawn T.rules self.now seat.old result seat.new }
     {
         match self.chronicle.call(rt, seat, Call::Draw) {

@@ -104,7 +104,7 @@ impl<T: Tasks> BoardState<T> {
         ensures { result ≡ is_left T.rules self.now.terms self.now.marks task }
     {
         match self.marks[task as usize] {
-            Mark::Open => !self.tasks.is_over(&self.marks, task),
+            Mark::Open => self.tasks.told_late(&self.marks, task).is_none(),
             Mark::Held(_) | Mark::Filled(_, _) | Mark::Spent(_) => false,
         }
     }
@@ -126,8 +126,7 @@ impl<T: Tasks> BoardState<T> {
         if !self.is_held_by(worker, task) {
             return Posted::NotYours;
         }
-        if self.tasks.is_over(&self.marks, task) {
-            let count = self.tasks.tally(&self.marks, task);
+        if let Some(count) = self.tasks.told_late(&self.marks, task) {
             self.marks[task as usize] = Mark::Spent(worker);
             return Posted::Late { count };
         }

@@ -1,5 +1,5 @@
 // What tasks are.
-ghost use Rattle.std.specs.Prelude.{◌≡◌, ◌<◌, ℕ, Option, Some, None, List, length, slice_set};
+ghost use Rattle.std.specs.Prelude.{◌≡◌, ◌<◌, ℕ, true, false, Option, Some, None, OnSome, IfSome, IfNone, List, length, slice_set};
 ghost use Rattle.task_board.specs.Marks.{answer_in, answers_in, mark_at};
 ghost use Rattle.task_board.specs.Rules.{IsLasting, Rules};
 
@@ -28,19 +28,18 @@ pub trait Tasks: Drop {
     fn count(&self) -> u32
         ensures { result ≡ rules.count (terms self.now) };
 
-    /// Whether the task is over: it is then drawn no more, and posted in vain.
-    fn is_over(&self, marks: &[Mark<Self::Answer>], task: u32) -> bool
+    /// Where the task is over, what is told to who posts it: it is then drawn no more, and posted in
+    /// vain. `None` exactly where it is not over.
+    fn told_late(&self, marks: &[Mark<Self::Answer>], task: u32) -> Option<u32>
         requires noted { noted self.now (answers_in marks.now) }
         requires each { length marks.now ≡ rules.count (terms self.now) }
         requires task { task < rules.count (terms self.now) }
-        ensures { result ≡ rules.is_over (terms self.now) (answers_in marks.now) task };
-
-    /// What is told to who posts the task when it is over.
-    fn tally(&self, marks: &[Mark<Self::Answer>], task: u32) -> u32
-        requires noted { noted self.now (answers_in marks.now) }
-        requires each { length marks.now ≡ rules.count (terms self.now) }
-        requires task { task < rules.count (terms self.now) }
-        ensures { result ≡ rules.tally (terms self.now) (answers_in marks.now) task };
+        ensures over { OnSome result
+            (rules.is_over (terms self.now) (answers_in marks.now) task ≡ true) }
+        ensures told { IfSome result
+            (λ count. count ≡ rules.tally (terms self.now) (answers_in marks.now) task) }
+        ensures not_over { IfNone result
+            (rules.is_over (terms self.now) (answers_in marks.now) task ≡ false) };
 
     /// Notes the answer to a task that has none yet.
     fn note(&mut self, marks: &[Mark<Self::Answer>], task: u32, answer: Self::Answer)
