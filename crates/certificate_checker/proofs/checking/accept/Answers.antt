@@ -20,13 +20,15 @@ written same is = sym same ∙ is
 pub accept_publication-requires-clause-entries : goal.accept_publication-requires-clause-entries
 accept_publication-requires-clause-entries c =
     let short : length c.in_ok-publication.publication.order.items ≤ length c.args.text.items =
-    order_in_text (tables_in (market_in c.args.market.now)) (publication_of c.in_ok-publication.publication) c.args.text.items (written c.deref.ensures.value c.in_ok-publication.ensures.text) in
+    order_in_text (tables_in (market_in c.args.market.now)) (publication_of c.in_ok-publication.publication) c.args.text.items
+    (written c.deref.ensures.value c.in_ok-publication.ensures.text) in
     let small = c.requires in
     omega arith
 
 pub accept_publication-requires-clause-turns : goal.accept_publication-requires-clause-turns
 accept_publication-requires-clause-turns c =
-    let short = turns_in_text (tables_in (market_in c.args.market.now)) (publication_of c.in_ok-publication.publication) c.args.text.items (written c.deref.ensures.value c.in_ok-publication.ensures.text) in
+    let short = turns_in_text (tables_in (market_in c.args.market.now)) (publication_of c.in_ok-publication.publication) c.args.text.items
+    (written c.deref.ensures.value c.in_ok-publication.ensures.text) in
     let long = length_map turn_of c.in_ok-publication.publication.turns.items in
     let small = c.requires in
     omega arith
@@ -35,7 +37,10 @@ pub returns-clause-text : goal.returns-clause-text
 returns-clause-text c =
     ok_then c.accept_publication.result
     (λ accepted same. subst (λ p. IsTextOf (market_in c.args.market.now) p c.args.text.items) (sym same)
-    (record { is_publication = c.in_ok-publication.ensures.publication; written = written c.deref.ensures.value c.in_ok-publication.ensures.text }))
+    (record {
+      is_publication = c.in_ok-publication.ensures.publication;
+      written = written c.deref.ensures.value c.in_ok-publication.ensures.text;
+    }))
     c.accept_publication.ensures.same
 
 pub returns-clause-holds : goal.returns-clause-holds
@@ -50,7 +55,10 @@ pub returns-clause-refused : goal.returns-clause-refused
 returns-clause-refused c =
     err_found c.accept_publication.result (λ finding is. first_refuses (market_in c.args.market.now) _ c.args.text.items finding c.len-few_sections.ensures.kept c.len-few_students.ensures.roll
     (text_first (market_in c.args.market.now) _ (publication_of c.in_ok-publication.publication) c.args.text.items finding
-    (record { is_publication = c.in_ok-publication.ensures.publication; written = written c.deref.ensures.value c.in_ok-publication.ensures.text }) is)) c.accept_publication.ensures.first
+    (record {
+      is_publication = c.in_ok-publication.ensures.publication;
+      written = written c.deref.ensures.value c.in_ok-publication.ensures.text;
+    }) is)) c.accept_publication.ensures.first
 
 pub returns-in_err-publication-clause-refused : goal.returns-in_err-publication-clause-refused
 returns-in_err-publication-clause-refused c =
