@@ -3,8 +3,8 @@
 // Neither: how many rounds it makes, and how long it takes.
 #![tactic(auto)]
 
+mod excess;
 pub mod laws;
-mod round;
 mod settling;
 
 pub use settling::{Settled, settle};

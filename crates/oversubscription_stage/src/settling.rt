@@ -3,7 +3,7 @@ ghost use Rattle.std.specs.Prelude.{◌≡◌, IfOk, length};
 ghost use Rattle.demand_api.specs.Asking.{ArePricesFor};
 ghost use Rattle.oversubscription_stage.specs.Rounds.{IsSettled, AreTaken};
 
-use crate::round::most_over;
+use crate::excess::most_over;
 use bundle_rules::Bundle;
 use demand_api::Demands;
 use market_units::{NoMemory, Tokens};

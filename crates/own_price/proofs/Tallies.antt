@@ -64,6 +64,7 @@ pub tally_exchanged : (n : ℕ) (bundles : List Bundle) (counts mid after : List
     → ((s : ℕ) → s < length counts → HasCounted mid counts old s) → ((s : ℕ) → s < length mid → HasCounted mid after new s)
     → IsTally n (slice_set bundles i other) after
 tally_exchanged n bundles counts mid after i bundle other old new tally low is held others within same_mid same_after uncounted counted = record {
+  low = tally.low;
   few = rw (length-set bundles i other) tally.few;
   within = λ j s has_it. within_set j s (ap (λ bs. has (slice_index_or bs j []) s) (sym (map-set sections_of bundles i other)) ∙ has_it);
   len = same_after ∙ same_mid ∙ tally.len;

@@ -71,6 +71,13 @@ impl Held {
         &self.prices
     }
 
+    /// How many sections have a price: at most 400.
+    pub fn sections(&self) -> u16
+        ensures { result ≡ length self.now.prices }
+    {
+        self.prices.len() as u16
+    }
+
     /// What each student takes at the prices, in file order.
     pub fn bundles(&self) -> &[Bundle]
         ensures { map sections_of result.now ≡ self.now.bundles }

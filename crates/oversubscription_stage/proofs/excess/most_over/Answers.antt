@@ -1,9 +1,9 @@
-use Rattle.std.proofs.Common.{◌≡◌, ◌-◌, ℕ, length, refl, arith, rules}
+use Rattle.std.proofs.Common.{◌≡◌, ◌∙◌, ◌-◌, ℕ, length, refl, sym, arith, rules}
 use Rattle.std.specs.Prelude.{slice_index}
 use Rattle.demand_api.specs.Crowds.{holders}
 use Rattle.oversubscription_stage.proofs.Finding.{most_more, most_same, most_some, most_none}
-use Rattle.oversubscription_stage.proofs.round.most_over.Goals.{then-over-greatest, else-over-greatest}
-use Rattle.oversubscription_stage.proofs.round.most_over.Goals as goal
+use Rattle.oversubscription_stage.proofs.excess.most_over.Goals.{then-over-greatest, else-over-greatest}
+use Rattle.oversubscription_stage.proofs.excess.most_over.Goals as goal
 
 pub loop-place-init : goal.loop-place-init
 loop-place-init c = (refl, λ t low. absurd (omega arith))
@@ -25,12 +25,16 @@ loop-place-preserved c =
 
 pub returns-clause-some : goal.returns-clause-some
 returns-clause-some c =
-    let past : length c.args.seats.now ≡ c.loop-place.place = search rules in
+    let end : c.sections-place-end.result ≡ length c.args.seats.now = c.sections-place-end.ensures ∙ sym c.requires in
+    let last : c.loop-place.place ≡ c.sections-place-end.result = search rules in
+    let past : length c.args.seats.now ≡ c.loop-place.place = sym (last ∙ end) in
     rw past
     (most_some (λ s. holders s c.args.held.now.bundles) c.args.seats.now c.loop-place.place c.loop-place.greatest c.loop-place.most c.loop-place.invariant)
 
 pub returns-clause-none : goal.returns-clause-none
 returns-clause-none c =
-    let past : length c.args.seats.now ≡ c.loop-place.place = search rules in
+    let end : c.sections-place-end.result ≡ length c.args.seats.now = c.sections-place-end.ensures ∙ sym c.requires in
+    let last : c.loop-place.place ≡ c.sections-place-end.result = search rules in
+    let past : length c.args.seats.now ≡ c.loop-place.place = sym (last ∙ end) in
     rw past
     (most_none (λ s. holders s c.args.held.now.bundles) c.args.seats.now c.loop-place.place c.loop-place.greatest c.loop-place.most c.loop-place.invariant)

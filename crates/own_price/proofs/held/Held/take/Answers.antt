@@ -55,6 +55,7 @@ invariant_of-result g c =
     let copied : c.in_ok-prices.prices.items ≡ c.args.prices.now = search rules in
     let are = subst (λ bs. AreCounts (length c.args.prices.now) (map sections_of bs) c.in_ok-counts.counts.items) c.deref-2.ensures.value c.in_ok-counts.ensures in
     subst (λ ps. IsTally (length ps) c.in_ok-bundles.bundles.items c.in_ok-counts.counts.items) (sym copied) (record {
+      low = let known = c.students.ensures.crowd in omega (arith, known.sections, c.requires.same);
       few =
           all_few (g.D.Demands.crowd c.args.demands.now) (price_in c.args.prices.now) c.in_ok-students.students.items c.in_ok-bundles.bundles.items
           c.students.result c.students.ensures.crowd c.students.ensures.value c.in_ok-students.ensures told;
