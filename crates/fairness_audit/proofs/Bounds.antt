@@ -1,9 +1,12 @@
 -- What is seen in a bundle is worth at most the weights of its sections.
-use Rattle.std.proofs.Common.{◌≡◌, ◌≢◌, ◌<◌, ◌≤◌, ◌+◌, ◌-◌, ◌+ℤ◌, ℕ, zero, suc, true, false, List, [], ◌∷◌, length, map, slice_index, slice_set, ap, sym, subst, arith, inl, inr}
-use Rattle.std.specs.Prelude.{ℤ, pos, negsuc, ◌≤ℤ◌, int_lt}
+use Rattle.std.proofs.Common.{◌≡◌, ◌≢◌, ◌<◌, ◌≤◌, ◌+◌, ◌++◌, ◌-◌, ◌+ℤ◌, ℕ, zero, suc, true, false, List, [], ◌∷◌, length, map, take, get_or, slice_index, slice_set, ap, sym, subst, arith, inl, inr}
+use Rattle.std.specs.Prelude.{ℤ, pos, negsuc, ◌≤ℤ◌, int_lt, All}
 use Rattle.std.proofs.lemmas.Bool.{cases_eq}
 use Rattle.std.proofs.lemmas.Int.{ints}
-use Rattle.std.proofs.lemmas.List.{get_or-set_other, get_or-set_same}
+use Rattle.std.proofs.lemmas.List.{get_or-set_other, get_or-set_same, map_more}
+use Rattle.market_units.proofs.Sums.{total-append}
+use Rattle.market_units.specs.declared.units.SectionNo.{SectionNo}
+use Rattle.bundle_rules.specs.Ordinals.{ordinals}
 use Rattle.market_units.specs.Totals.{signed_total, total}
 use Rattle.bundle_rules.specs.declared.menu.Rated.{Rated}
 use Rattle.bundle_rules.specs.Menus.{IsMenu, MenuData, adjustment_in, place_in, rating_at, section_at, wishes_of, worth}
@@ -18,6 +21,21 @@ use Rattle.bundle_rules.proofs.PlacesFirst.{place_in-rises, section_at-rises}
 use Rattle.fairness_audit.specs.Envy.{is_more, seen}
 use Rattle.bundle_bounds.specs.Opens.{above_zero}
 use Rattle.fairness_audit.specs.Weights.{AreWeights, gains, weight_at}
+
+-- a number of a list of numbers that are at most this, or 0
+pub at_most : (n : ℕ) (xs : List ℕ) → All (λ x. x ≤ n) xs → (i : ℕ) → slice_index xs i ≤ n
+at_most n [] each i = let g : 0 ≤ n = omega arith in g
+at_most n (x ∷ xs) each zero = each 0 x (let g : 0 < suc (length xs) = omega arith in g)
+at_most n (x ∷ xs) each (suc i) = at_most n xs (λ k d low. each (suc k) d (let g : suc k < suc (length xs) = omega (arith, low) in g)) i
+
+-- one section more in a sum
+pub sum_more : (f : ℕ → ℕ) (xs : List SectionNo) (i : ℕ) (d : SectionNo) (n : ℕ) → i < length xs → n ≡ f (get_or xs i d).0
+    → total f (ordinals (take i xs)) + n ≡ total f (ordinals (take (i + 1) xs))
+sum_more f xs i d n low is =
+    let all = total-append f (ordinals (take i xs)) ((get_or xs i d).0 ∷ []) in
+    let whole : total f (ordinals (take (i + 1) xs)) ≡ total f (ordinals (take i xs) ++ (get_or xs i d).0 ∷ []) =
+    ap (total f) (map_more (λ (section : SectionNo). section.0) xs i d low) in
+    omega (arith, all, whole, is)
 
 -- ---- what weights tell
 

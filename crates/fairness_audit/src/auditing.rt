@@ -62,22 +62,19 @@ fn work_and_write<R: Threads + Wait + Sync, G: Gate + Sync>(
     board: Board<AuditTasks>,
     mut seats: Vec<BoardSeat<AuditTasks>>,
     allocated: &Allocated,
-    rows: &mut [EnvyRow],
+    found: &mut [EnvyRow],
     gate: &G,
 )
     requires board { board.base.allocation
         ≡ allocation_of allocated.now.crowd.now allocated.now.bundles.now }
     requires begun { HasBegun audit_rules board seats.items (length seats.items) }
     requires enough { (1 ≤ length seats.items) × (length seats.items ≤ MAX_WORKERS) }
-    requires rows { length rows.old ≡ student_count board.base.allocation }
-    requires few { length rows.old ≤ MAX_STUDENTS }
-    ensures count { length rows.new ≡ length rows.old }
-    ensures each { (i : ℕ) (d : EnvyRow) → i < length rows.new
-        → row_of (slice_index_or rows.new i d) ≡ row board.base.allocation i }
+    requires found { length found.old ≡ student_count board.base.allocation }
+    ensures { map row_of found.new ≡ rows board.base.allocation }
 {
     work_all(rt, &board, seats.as_mut_slice(), allocated, gate);
     let answers = board.close(seats);
-    write_rows(&answers, rows);
+    write_rows(&answers, found);
 }
 
 // Each worker works at its seat, in a thread of its own where one can be started.

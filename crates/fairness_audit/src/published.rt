@@ -1,19 +1,14 @@
 // Envy at the bundles of an accepted text.
 ghost use Rattle.std.specs.Prelude.{◌≡◌, ◌≤◌, ◌<◌, ◌^◌, ◌-◌, IfOk, IfErr, length, map};
-ghost use Rattle.std.specs.Arc.{arc_value};
 ghost use Rattle.bundle_rules.specs.Bundles.{sections_of};
-ghost use Rattle.fairness_audit.specs.Allocations.{IsAllocation, allocation_of};
-ghost use Rattle.fairness_audit.specs.{Audits.IsAuditOf, Audits.IsAudited, Checked.IsChecked};
-ghost use Rattle.fairness_audit.specs.{Rows.rows, Texts.AreRowsAmong, Views.row_of};
+ghost use Rattle.fairness_audit.specs.Audits.{IsAuditOf};
 ghost use Rattle.market_certificate.specs.Views.{publication_of};
 ghost use Rattle.published_parts.specs.{Holdings.demanded, Views.market_in};
 ghost use Rattle.certificate_checker.specs.{Findings.OnFound, Refusals.IsRefused};
-ghost use Rattle.demand_api.specs.Views.{data_of};
 
-use crate::{EnvyRow, audit, put_rows};
+use crate::{audit, put_rows};
 use bundle_rules::Bundle;
 use certificate_checker::{Accepted, CheckEnd, accept};
-use demand_api::Crowd;
 use market_certificate::Publication;
 use market_edge::Gate;
 use market_units::{MAX_WORKERS, NoMemory};
@@ -50,31 +45,15 @@ pub fn published_audit<R: Threads + Wait + Sync, G: Gate + Sync>(
         text.items)) }
 {
     let accepted = accept(alloc, market, streams, text)?;
-    Ok(audit_accepted(rt, alloc, workers, market, accepted, gate)?)
-}
-
-// The text of an audit of what was checked.
-fn audit_accepted<R: Threads + Wait + Sync, G: Gate + Sync>(
-    rt: &R,
-    alloc: Global,
-    workers: u16,
-    market: &Market,
-    accepted: Accepted,
-    gate: &G,
-) -> Result<Vec<u8>, NoMemory>
-    requires workers { (1 ≤ workers) × (workers ≤ MAX_WORKERS) }
-    requires checked { IsChecked market.now.catalog.now market.now.roll.now
-        (publication_of accepted.publication) (data_of accepted.crowd) }
-    ensures { IfOk result
-        (λ audited. IsAudited market.now.catalog.now market.now.roll.now
-        (data_of accepted.crowd) (publication_of accepted.publication) audited.items) }
-{
     let Accepted { publication, crowd } = accepted;
-    let settled = settled_bundles(alloc, &publication)?;
+    let bundles = settled_bundles(alloc, &publication)?;
+    let settled = Arc::new(alloc, bundles)?;
+    let last_held = Arc::new(alloc, publication.allocation)?;
     let crowd = Arc::new(alloc, crowd)?;
-    let first = rows_with(rt, alloc, workers, &crowd, settled, gate)?;
-    let last = rows_with(rt, alloc, workers, &crowd, publication.allocation, gate)?;
-    put_rows(alloc, market.catalog, market.roll, &first, &last)
+    let shared = Arc::try_clone(&crowd)?;
+    let first = audit(rt, alloc, shared, settled, workers, gate)?;
+    let last = audit(rt, alloc, crowd, last_held, workers, gate)?;
+    Ok(put_rows(alloc, market.catalog, market.roll, &first, &last)?)
 }
 
 // Each student's bundle of the second stage.
@@ -87,27 +66,4 @@ fn settled_bundles(alloc: Global, publication: &Publication) -> Result<Vec<Bundl
         bundles.push(proved.bundle)?;
     }
     Ok(bundles)
-}
-
-// The rows of the students with these bundles.
-fn rows_with<R: Threads + Wait + Sync, G: Gate + Sync>(
-    rt: &R,
-    alloc: Global,
-    workers: u16,
-    crowd: &Arc<Crowd>,
-    bundles: Vec<Bundle>,
-    gate: &G,
-) -> Result<Vec<EnvyRow>, NoMemory>
-    requires workers { (1 ≤ workers) × (workers ≤ MAX_WORKERS) }
-    requires bundles { IsAllocation (allocation_of (arc_value crowd.now) bundles.items) }
-    ensures rows { IfOk result
-        (λ found. map row_of found.items
-        ≡ rows (allocation_of (arc_value crowd.now) bundles.items)) }
-    ensures among { IfOk result
-        (λ found. AreRowsAmong (length (arc_value crowd.now).menus.items)
-        (arc_value crowd.now).sections (map row_of found.items)) }
-{
-    let shared = Arc::try_clone(crowd)?;
-    let held = Arc::new(alloc, bundles)?;
-    audit(rt, alloc, shared, held, workers, gate)
 }

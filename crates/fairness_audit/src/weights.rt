@@ -1,16 +1,14 @@
 // Which bundles need no search, since all that could be seen in them is worth too little.
 ghost use Rattle.std.specs.Prelude.{◌≡◌, ◌≤◌, ◌<◌, ◌*◌, ◌+◌, ◌-◌, All, unsigned_abs, false, length, slice_index};
 ghost use Rattle.std.proofs.Props.{props};
-ghost use Rattle.market_units.specs.Totals.{total};
 ghost use Rattle.bundle_rules.specs.Bundles.{sections_of};
 ghost use Rattle.bundle_rules.specs.Menus.{adjustment_in, wishes_of};
-ghost use Rattle.bundle_rules.specs.Ordinals.{ordinals};
 ghost use Rattle.fairness_audit.specs.Envy.{is_more};
 ghost use Rattle.fairness_audit.specs.Weights.{AreWeights, gains, weight_at};
 ghost use Rattle.bundle_bounds.specs.Opens.{above_zero};
 
 use bundle_rules::{Bundle, Menu};
-use market_units::{MAX_ADJUSTMENT, MAX_COURSES, MAX_SECTIONS, SectionNo};
+use market_units::{MAX_ADJUSTMENT, MAX_SECTIONS, SectionNo};
 
 const SECTIONS: usize = MAX_SECTIONS as usize;
 
@@ -69,25 +67,16 @@ fn gain(adjustment: i16) -> u32
 pub(crate) fn may_be_more(weights: &Weights, own: i32, bundle: &Bundle) -> bool
     ensures { result ≡ false → is_more weights.now.menu.now own (sections_of bundle.now) ≡ false }
 {
-    i64::from(sum_of(weights, bundle.sections())) > i64::from(own)
-}
-
-// The weights of at most 8 sections, added up.
-fn sum_of(weights: &Weights, sections: &[SectionNo]) -> u32
-    requires { length sections.now ≤ MAX_COURSES }
-    ensures value { result ≡ total (slice_index weights.now.each) (ordinals sections.now) }
-    ensures few { result ≤ 20000 * length sections.now }
-{
-    match sections {
-        [] => 0,
-        [section, more @ ..] => weight_of(weights, *section) + sum_of(weights, more),
+    let mut sum: u32 = 0;
+    'looked: for section in bundle.sections() {
+        sum += weight_of(weights, *section);
     }
+    i64::from(sum) > i64::from(own)
 }
 
 // The weight of a section.
 fn weight_of(weights: &Weights, section: SectionNo) -> u32
-    ensures value { result ≡ slice_index weights.now.each section.0 }
-    ensures few { result ≤ 20000 }
+    ensures { result ≡ slice_index weights.now.each section.0 }
 {
     match weights.each.get(usize::from(section.0)) {
         Some(weight) => *weight,
