@@ -1,16 +1,16 @@
 // Whether students may hold what they hold when a desk opens.
-ghost use Rattle.std.specs.Prelude.{◌≡◌, ◌<◌, ◌≤◌, ◌*◌, ℕ, true, false, All, IfNone, IfSome, IsTrue, length};
+ghost use Rattle.std.specs.Prelude.{◌≡◌, ◌<◌, ℕ, true, false, All, IfNone, IfSome, IsTrue, length};
 ghost use Rattle.std.specs.List.{list_any};
-ghost use Rattle.market_units.specs.{Members.has, Totals.total};
+ghost use Rattle.market_units.specs.Members.{has};
 ghost use Rattle.bundle_rules.specs.{Bundles.sections_of, Ordinals.ordinals};
-ghost use Rattle.course_catalog.specs.Sections.{section_at, sections_clash};
+ghost use Rattle.course_catalog.specs.Sections.{sections_clash};
 ghost use Rattle.dropadd_desk.specs.{HallView.market_of, HallView.state_of, Openings.IsAllowed};
 ghost use Rattle.dropadd_hall.specs.Faults.{IsFaultless, IsFirstFault};
 
 use bundle_rules::Bundle;
 use course_catalog::Catalog;
 use dropadd_desk::HallDesk;
-use market_units::{MAX_COURSES, SectionNo, StudentNo};
+use market_units::{SectionNo, StudentNo};
 use student_roll::Roll;
 
 /// Why students may not hold what they hold.
@@ -72,29 +72,17 @@ fn may_hold(catalog: &Catalog, roll: &Roll, student: StudentNo, held: &Bundle) -
     if sections.len() > usize::from(roll.courses(student)) {
         return false;
     }
-    if sum_credits(catalog, sections) > u32::from(roll.credits(student)) {
-        return false;
-    }
+    let mut credits = 0;
     'looked: for section in sections {
         if clashes_with_one(catalog, *section, sections) {
             return false;
         }
+        credits += u32::from(catalog.credits(*section));
+    }
+    if credits > u32::from(roll.credits(student)) {
+        return false;
     }
     true
-}
-
-// The credits of these sections together.
-fn sum_credits(catalog: &Catalog, sections: &[SectionNo]) -> u32
-    requires few { length sections.now ≤ MAX_COURSES }
-    requires within { All (λ section. section.0 < length catalog.now.sections) sections.now }
-    ensures { result
-        ≡ total (λ s. (section_at catalog.now.sections s).credits) (ordinals sections.now) }
-{
-    let mut sum = 0;
-    'sections: for section in sections {
-        sum += u32::from(catalog.credits(*section));
-    }
-    sum
 }
 
 // Whether the section clashes with one of the others.

@@ -9,6 +9,7 @@ use crate::{open_hall, put_hall};
 use certificate_checker::CheckEnd;
 use course_catalog::Catalog;
 use dropadd_desk::HallCommand;
+use market_certificate::read_publication;
 use market_edge::Gate;
 use market_units::{MAX_COMMANDS, MAX_SESSIONS};
 use std::alloc::Global;
@@ -42,7 +43,10 @@ pub fn published_hall<R: Threads + Wait + Sync, G: Gate + Sync>(
         (λ end. OnFound end
         (IsNoOpening (record { catalog = catalog.now; roll = roll.now }) text.now)) }
 {
-    let desk = open_desk(alloc, catalog, roll, text)?;
+    let _few_sections = catalog.len();
+    let _few_students = roll.len();
+    let publication = read_publication(alloc, catalog, roll, text)?;
+    let desk = open_desk(alloc, catalog, roll, &publication.allocation)?;
     let hall = open_hall(rt, alloc, desk, streams, gate)?;
     let told = put_hall(alloc, catalog, roll, &hall)?;
     Ok(told)

@@ -1,49 +1,24 @@
 // The desk that opens with what a published text says that students hold.
-ghost use Rattle.std.specs.Prelude.{◌≡◌, ◌<◌, ◌^◌, ◌-◌, IfErr, IfOk, length, map};
+ghost use Rattle.std.specs.Prelude.{◌≡◌, IfErr, IfOk, length, map};
 ghost use Rattle.bundle_rules.specs.Bundles.{sections_of};
 ghost use Rattle.certificate_checker.specs.Findings.{OnFound};
 ghost use Rattle.dropadd_desk.specs.Halls.{opening};
 ghost use Rattle.held_seats.specs.Floors.{AreBelow};
-ghost use Rattle.market_certificate.specs.Publications.{Publication};
 ghost use Rattle.dropadd_hall.specs.Desks.{IsOpenDesk};
-ghost use Rattle.dropadd_hall.specs.Openings.{IsNoOpening, IsTextOf, TellsFault, finding_of};
+ghost use Rattle.dropadd_hall.specs.Openings.{TellsFault, finding_of};
 
 use crate::{OpeningFault, opening_fault};
 use bundle_rules::Bundle;
 use certificate_checker::{CheckEnd, Finding};
 use course_catalog::Catalog;
 use dropadd_desk::HallDesk;
-use market_certificate::read_publication;
 use market_units::MAX_COMMANDS;
 use std::alloc::Global;
 use student_roll::Roll;
 
-/// A desk at which students hold the final bundles of a published text, with room for all requests
-/// that sessions may have. Else the first finding for which the text opens no desk, or want of
-/// memory.
+/// A desk at which students hold these bundles, where they may, with room for all requests that
+/// sessions may have. Else the finding that tells the first fault, or want of memory.
 pub(crate) fn open_desk(
-    alloc: Global,
-    catalog: &Catalog,
-    roll: &Roll,
-    text: &[u8],
-) -> Result<HallDesk, CheckEnd>
-    requires { length text.now < 2 ^ 32 - 1 }
-    ensures opened { IfOk result
-        (λ desk. (p : Publication)
-        × IsTextOf (record { catalog = catalog.now; roll = roll.now }) p text.now
-        × IsOpenDesk (record { catalog = catalog.now; roll = roll.now }) p.allocation desk) }
-    ensures refused { IfErr result
-        (λ end. OnFound end
-        (IsNoOpening (record { catalog = catalog.now; roll = roll.now }) text.now)) }
-{
-    let _few_sections = catalog.len();
-    let _few_students = roll.len();
-    let publication = read_publication(alloc, catalog, roll, text)?;
-    open_with(alloc, catalog, roll, &publication.allocation)
-}
-
-// A desk at which students hold these bundles, where they may, or the first fault.
-fn open_with(
     alloc: Global,
     catalog: &Catalog,
     roll: &Roll,
