@@ -64,27 +64,6 @@ fn best_at<'a>(chosen: &Chosen<'a>, place: usize) -> Best<'a>
     }
 }
 
-// The turn of a number with the tree of its bundle, which is in the room where it fits.
-fn prove_turn(
-    alloc: Global,
-    chosen: &Chosen,
-    place: usize,
-    room: &Room,
-) -> Result<ProvedTurn, NoMemory>
-    requires place { place < length chosen.now.turns.now }
-    requires room { IsRoomOfTurn chosen.now place room.now }
-    ensures published { IfOk result
-        (λ proved. IsPublishedTurn (data_of chosen.now.crowd.now) chosen.now.prices.now
-        chosen.now.raise (turn_chosen chosen.now place) (published_of proved)) }
-    ensures form { IfOk result (λ proved. HasTurnForm (published_of proved)) }
-{
-    let turns = chosen.turns;
-    let turn = &turns[place];
-    let best = best_at(chosen, place);
-    let proved = prove_bundle(alloc, &best, room)?;
-    Ok(of_turn(turn.pass, turn.student, proved))
-}
-
 // Writes the trees of the turns from the first on to the rooms, one to each, in threads.
 fn fill_rooms<R: Threads + Sync>(
     rt: &R,
@@ -125,9 +104,13 @@ fn put_turns(
         (AreProvedTurns chosen.now.crowd.now chosen.now.prices.now chosen.now.raise
         chosen.now.turns.now all.new.items) }
 {
+    let turns = chosen.turns;
     'rooms: for room in rooms {
         let place = all.len();
-        all.push(prove_turn(alloc, chosen, place, room)?)?;
+        let turn = &turns[place];
+        let best = best_at(chosen, place);
+        let proved = prove_bundle(alloc, &best, room)?;
+        all.push(of_turn(turn.pass, turn.student, proved))?;
     }
     Ok(())
 }
