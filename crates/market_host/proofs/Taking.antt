@@ -16,7 +16,7 @@ use Rattle.market_host.specs.Outcomes.{IsLastAtEnd}
 use Rattle.market_host.specs.Reading.{IsRefusal, IsSurplus, IsTroubleOfSession, IsTroubleOfSessions}
 use Rattle.market_host.specs.Sessions.{command_count, session_text}
 use Rattle.market_host.specs.Sights.{sight}
-use Rattle.market_host.specs.Taking.{AreTaken, IsNotRead, IsReadWhole, IsTaken, Keeps, OneStops, Reads, SessionStops, Stops, Takes, TakesSession}
+use Rattle.market_host.specs.Taking.{AreTaken, InputStops, IsReadWhole, IsTaken, Keeps, OneStops, Reads, SessionStops, Stops, Takes, TakesSession}
 use Rattle.market_host.specs.Traces.{AreReadOut, AreReadUntil, trace}
 use Rattle.market_host.specs.Troubles.{HasTrouble}
 use Rattle.market_host.proofs.InputTroubles.{front_read, none_read, texts_long, trouble_before, trouble_of_refusal, trouble_of_unread}
@@ -44,7 +44,7 @@ module _ {H : Type 0} (shelf : Shelf.Ghosts H) where
 
   -- an input is read whole, or it is not
   module _ (a b : H) (kind : Kind) (name : List ℕ) (number : ℕ) (Q : List (List ℕ) → Type 0) where
-    pub unread_stops : (stop : Trouble) → IsNotRead shelf (limit_of kind) name number a b stop → Stops shelf kind name number Q a b stop
+    pub unread_stops : (stop : Trouble) → InputStops shelf (limit_of kind) name number a b stop → Stops shelf kind name number Q a b stop
     unread_stops stop said = record {
       trouble = λ form earlier texts later read of is holds.
           trouble_of_unread form (sight shelf a b) earlier texts later name number read is kind stop of said.unread;
@@ -76,7 +76,7 @@ module _ {H : Type 0} (shelf : Shelf.Ghosts H) where
 
   -- a session is read whole, or it is not
   module _ (a b : H) (name : List ℕ) (number room : ℕ) where
-    pub unread_session : (stop : Trouble) → IsNotRead shelf (limit_of Session) name number a b stop → SessionStops shelf name number room a b stop
+    pub unread_session : (stop : Trouble) → InputStops shelf (limit_of Session) name number a b stop → SessionStops shelf name number room a b stop
     unread_session stop said = record {
       trouble = λ form earlier texts later read streams behind is left.
           trouble_of_unread form (sight shelf a b) earlier texts later name number read is Session stop (is_session form (length earlier) streams behind)

@@ -30,8 +30,8 @@ pub record IsReadWhole {H : Type 0} (shelf : Shelf.Ghosts H) (limit : ℕ) (name
   pub used : AreReadOut (trace shelf old new) (name ∷ [])
   pub kept : Keeps shelf old new
 
--- an input of this name and number, which may have so many bytes, is not read
-pub record IsNotRead {H : Type 0} (shelf : Shelf.Ghosts H) (limit : ℕ) (name : List ℕ) (number : ℕ)
+-- an input of this name and number, which may have so many bytes, stops the call: it is not read
+pub record InputStops {H : Type 0} (shelf : Shelf.Ghosts H) (limit : ℕ) (name : List ℕ) (number : ℕ)
     (old new : H) (stop : Trouble) : Type 0 where
   pub unread : IsUnread limit (sight shelf old new) name number stop
   pub used : AreReadUntil (trace shelf old new) (name ∷ []) number stop
@@ -43,7 +43,7 @@ abbrev pub Reads : {H : Type 0} → Shelf.Ghosts H → ℕ → List ℕ → ℕ 
     → Result (Vec ℕ Global) Trouble → Type 0
 Reads shelf limit name number old new result =
     MatchResult result (λ text. IsReadWhole shelf limit name old new text.items)
-    (IsNotRead shelf limit name number old new)
+    (InputStops shelf limit name number old new)
 
 -- the session of this name is read to its end, these are the items that it says, line by line, and
 -- there is room for them
