@@ -81,8 +81,8 @@ impl Chooser {
         bundle
     }
 
-    // Whether the held bundle of the student at this place is known to be the best of sections
-    // among which are all of these that are on its menu.
+    // Whether what the student at this place holds is known to be the best of sections that include
+    // all the allowed ones of its menu.
     fn is_settled(&self, menu: &Menu, allowed: &SectionSet, place: usize) -> bool
         requires { place < length self.now.known.items }
         ensures { IsTrue result

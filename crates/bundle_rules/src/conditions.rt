@@ -110,7 +110,7 @@ pub(crate) fn are_clashes(places: &[Rated], clashes: &[u64]) -> bool
     true
 }
 
-// One of at most 60 places, with the word of each.
+// One of at most 60 places, and for each of them the word of the places that it clashes with.
 #[derive(Clone, Copy)]
 struct Row<'r> {
     places: &'r [Rated],

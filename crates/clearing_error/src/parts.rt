@@ -31,7 +31,7 @@ pub fn error(counts: &[u32], seats: &[u16], prices: &[Tokens]) -> u64
     error
 }
 
-// The square of a section's part.
+// What a section adds to the error: the square of its part.
 fn squared_part(count: u32, seats: u16, price: Tokens) -> u64
     requires { count ≤ MAX_STUDENTS }
     ensures value { result ≡ squared (part count seats price.0) }

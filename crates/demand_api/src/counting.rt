@@ -7,9 +7,8 @@ use bundle_rules::Bundle;
 use market_units::{NoMemory, SectionNo};
 use std::alloc::Global;
 
-/// How many of these bundles have each section, by ordinal. The bundles have no sections beyond the
-/// given number of sections, and there are so few that each count fits its type. The one error is
-/// the want of memory.
+/// How many of these bundles, fewer than 2,147,483,648, have each section, by ordinal. They have no
+/// sections beyond the given number of sections. The one error is the want of memory.
 pub fn count_bundles(
     alloc: Global,
     sections: usize,

@@ -12,7 +12,7 @@ use bundle_rules::{Bundle, best_plain};
 use market_units::{NoMemory, SectionNo, SectionSet, StudentNo, Tokens};
 use std::alloc::Global;
 
-/// A crowd, and prices at which it is asked.
+/// A crowd, and prices at which it is asked: one for each section, each at most the top.
 #[derive(Clone, Copy)]
 pub(crate) struct Priced<'a> {
     pub(crate) crowd: &'a Crowd,

@@ -51,7 +51,7 @@ const NO_ITEM: Item = Item {
     credits: 0,
 };
 
-// The items, and how many of them are picked at most.
+// The items, and how many of them are picked at most: no more than 8.
 #[derive(Clone, Copy)]
 struct Stock<'i> {
     items: &'i [Item],

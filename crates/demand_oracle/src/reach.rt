@@ -168,8 +168,8 @@ impl Reach {
         is_below(added, lacking + 1) && summed.is_behind(place, champion)
     }
 
-    /// The places of a node that begins well, as bits. They are chosen one after another, each the
-    /// one that adds most for what it takes, of those that fit. A search that begins with it as its
+    /// The places of a node that begins well, as bits: chosen one after another, each the one that
+    /// adds most for what it takes, of those that fit. A search that begins with that node as its
     /// champion prunes most nodes at once. The table is one that was measured for the same offer;
     /// with another the node may be worth little.
     pub fn drafted(&self, offer: &Offer) -> u64 {

@@ -4,7 +4,8 @@ ghost use Rattle.std.specs.Prelude.{◌≡◌, ◌<◌, ◌/◌, ◌^◌};
 use crate::tables::UNITS;
 use market_units::Tokens;
 
-/// A unit has a power of two of tokens, so that a node divides by a shift.
+/// A unit of tokens: 2 to the power of the shift, which is below 32, so that a node divides by a
+/// shift.
 #[derive(Clone, Copy)]
 pub(crate) struct Unit {
     pub(crate) shift: u32,
@@ -12,7 +13,7 @@ pub(crate) struct Unit {
 }
 
 impl Unit {
-    /// The least one of which a budget has fewer than the table has columns.
+    /// The smallest unit of which a budget has fewer than the table has columns.
     pub(crate) fn for_budget(budget: Tokens) -> Unit {
         for shift in 0..31 {
             if budget.0 >> shift < UNITS as u32 {
@@ -22,8 +23,8 @@ impl Unit {
         Unit { shift: 31 }
     }
 
-    /// How many whole ones are in so many tokens. Prices and what is left are both rounded down, so
-    /// nothing affordable is left out.
+    /// How many whole units are in so many tokens. Prices and what is left are both rounded down,
+    /// so nothing affordable is left out.
     #[inline(always)]
     pub(crate) fn whole_in(self, tokens: u32) -> u32
         ensures { result ≡ tokens / 2 ^ self.shift }

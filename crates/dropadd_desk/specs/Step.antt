@@ -44,7 +44,8 @@ first_of [] = None
 first_of (None ∷ more) = first_of more
 first_of (Some answer ∷ more) = Some answer
 
--- the first thing that stands against it that a student who holds this set takes the section too
+-- why a student who holds this set can not take the section too: a clash, else the credits, else
+-- the courses
 abbrev pub obstacle : Market → ℕ → ℕ → List ℕ → Option HallReply
 obstacle market i s set = first_of (
     option_map (λ (t : ℕ). reply.Clash (record { 0 = t })) (lowest_clash market s set)

@@ -3,9 +3,8 @@ ghost use Rattle.std.specs.Prelude.{◌≡◌, ◌<◌, ◌≤◌, ℕ, IfOk, le
 ghost use Rattle.std.specs.Ordering.{nat_cmp};
 ghost use Rattle.std.specs.FinSet as set;
 ghost use Rattle.market_units.specs.Name.{name_bytes};
-ghost use Rattle.course_catalog.specs.Catalog.{IsCatalog};
 ghost use Rattle.course_catalog.specs.Sections.{Section, sections_clash};
-ghost use Rattle.student_roll.specs.Students.{IsRoll, Student, names_of};
+ghost use Rattle.student_roll.specs.Students.{Student, names_of};
 ghost use Rattle.dropadd_desk.specs.Kept.{AreClashes, AreCaps};
 
 use crate::rules::Caps;

@@ -102,9 +102,9 @@ impl MarketRules {
         &self.seats
     }
 
-    /// The first thing that stands against it that the student, who holds this bundle, takes the
-    /// section too: a clash, the cap on credits, the cap on sections; `None` where nothing does.
-    /// Seats are not looked at.
+    /// Why the student, who holds this bundle, can not take the section too: the lowest section
+    /// that clashes, else the cap on credits, else that on sections; `None` where nothing stands
+    /// against it. Seats are not looked at.
     pub(crate) fn obstacle(
         &self,
         student: StudentNo,

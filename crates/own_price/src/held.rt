@@ -123,6 +123,7 @@ impl Held {
             }
         }
     }
+
     // The students whose bundle has the section, in file order. One pass over the bundles is little
     // beside the holders' demands, and a table of holders would want memory while bundles are
     // exchanged.

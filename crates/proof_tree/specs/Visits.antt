@@ -37,7 +37,7 @@ IsStemThere visit stem =
     IsStem (offer_in visit.claim) (champion_in visit.claim) visit.node.place
     (sections_of visit.node.chosen) stem
 
--- and stands at this index
+-- the stem at this index is at the node
 abbrev pub HasStemAt : Visit → List Stem → ℕ → Type 0
 HasStemAt visit stems at =
     IsStemAt (offer_in visit.claim) (champion_in visit.claim) stems at visit.node.place

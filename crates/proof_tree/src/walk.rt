@@ -120,8 +120,8 @@ impl Walk {
         self.count += 1;
     }
 
-    // Lets the nodes below a node wait, whose stem is behind those of the nodes that wait: theirs
-    // stand there then.
+    // Lets the nodes below a node wait. The stem of the node stands behind those of the nodes that
+    // wait; the stems of the nodes below it take its place.
     #[inline(always)]
     fn put_below(&mut self, visit: &Visit, sign: Sign)
         requires few { self.old.count ≤ MAX_COURSES }
