@@ -8,3 +8,4 @@ pub mod Working
 pub mod Noting
 pub mod Listing
 pub mod LeadingOthers
+pub mod Telling

@@ -1,14 +1,19 @@
 -- Holders that are popped and pushed.
-use Rattle.std.proofs.Common.{ℕ, ◌<◌, ◌∷◌, Some, List, All, arith}
+use Rattle.std.proofs.Common.{ℕ, ◌<◌, ◌≤◌, ◌∷◌, Some, List, All, length, arith}
 use Rattle.std.specs.List.Sorted.{IsPermutation}
-use Rattle.std.proofs.lemmas.List.Elements.{All-cons, All-tail}
 use Rattle.std.proofs.lemmas.List.Sorted.{All-permutation}
 use Rattle.market_units.specs.declared.units.SectionNo.{SectionNo}
-use Rattle.demand_api.specs.Crowds.{CrowdData}
+use Rattle.market_units.specs.declared.limits.TheConstants.{MAX_PRICE}
+use Rattle.demand_api.specs.Crowds.{CrowdData, top}
 use Rattle.demand_workers.specs.Leaving.{AreLeft, leaves}
 use Rattle.demand_workers.specs.Inquiring.{IsInquiry}
-use Rattle.demand_workers.specs.Walks.{IsListed}
 use Rattle.demand_workers.proofs.Surveying.{can_be_raised}
+
+-- a student of the crowd, listed by a price from which it does not keep what it holds, which is at most the top
+pub record IsListed (crowd : CrowdData) (holder : ℕ × ℕ) : Type 0 where
+  pub student : holder.1 < length crowd.students
+  pub room : holder.0 ≤ MAX_PRICE
+  pub capped : leaves holder ≤ top crowd
 
 -- the holders that are left are listed
 pub listed_left : (crowd : CrowdData) (price : ℕ → ℕ) (s level : ℕ) (hs : List (ℕ × ℕ)) → AreLeft crowd price s level hs → All (IsListed crowd) hs
@@ -18,23 +23,10 @@ listed_left crowd price s level hs left k d low = record {
   capped = (left.keep k d low).capped;
 }
 
--- the one that is popped, and the rest
+-- the one that is popped
 pub first_listed : (crowd : CrowdData) (hs rest : List (ℕ × ℕ)) (first : ℕ × ℕ) → IsPermutation hs (first ∷ rest) → All (IsListed crowd) hs
     → IsListed crowd first
 first_listed crowd hs rest first popped all = All-permutation (IsListed crowd) hs (first ∷ rest) popped all 0 first (omega arith)
-
-pub rest_listed : (crowd : CrowdData) (hs rest : List (ℕ × ℕ)) (first : ℕ × ℕ) → IsPermutation hs (first ∷ rest) → All (IsListed crowd) hs
-    → All (IsListed crowd) rest
-rest_listed crowd hs rest first popped all = All-tail (IsListed crowd) first rest (All-permutation (IsListed crowd) hs (first ∷ rest) popped all)
-
--- one that is pushed
-pub more_listed : (crowd : CrowdData) (rest new : List (ℕ × ℕ)) (holder : ℕ × ℕ) → IsPermutation (holder ∷ rest) new → IsListed crowd holder
-    → All (IsListed crowd) rest → All (IsListed crowd) new
-more_listed crowd rest new holder pushed is all = All-permutation (IsListed crowd) (holder ∷ rest) new pushed (All-cons (IsListed crowd) holder rest is all)
-
--- who leaves past the price at which the first left is listed below it
-pub leaves_after : (first again : ℕ × ℕ) → leaves first < leaves again → again.0 < first.0
-leaves_after first again later = omega (arith, later)
 
 -- a listed holder can be asked at the price from which it does not keep what it holds
 pub listed_inquiry : (crowd : CrowdData) (section : SectionNo) (first : ℕ × ℕ) → section.0 < crowd.sections → IsListed crowd first

@@ -2,6 +2,7 @@ pub mod Answering
 pub mod Asked
 pub mod Found
 pub mod Inquiring
+pub mod Lasting
 pub mod Leaving
 pub mod Notes
 pub mod Remembered

@@ -1,11 +1,11 @@
-// Walks to least prices, on which something is asked before they are gone.
-ghost use Rattle.std.specs.Prelude.{◌≡◌, ◌<◌, [], ◌∷◌, All, IfOk, IfSome, length};
+// Walks to least prices whose holders are asked before they are gone.
+ghost use Rattle.std.specs.Prelude.{◌≡◌, ◌<◌, ◌≤◌, ◌-◌, [], ◌∷◌, All, IfOk, IfSome, length};
 ghost use Rattle.std.specs.Arc.{arc_value};
 ghost use Rattle.bundle_rules.specs.Bundles.{sections_of};
 ghost use Rattle.demand_workers.specs.Inquiring.{IsInquiry, taken_at};
-ghost use Rattle.demand_workers.specs.{Leaving.leaves, Views.crowd_of};
-ghost use Rattle.demand_workers.specs.Walks.{IsForeseen, IsListed};
+ghost use Rattle.demand_workers.specs.Views.{crowd_of};
 
+use crate::ground::Ground;
 use crate::inquiry::Inquiry;
 use crate::leaving::{Holder, holder_of, holders_of};
 use crate::notes::Notes;
@@ -15,129 +15,159 @@ use crate::trial::{ROOM, raised_prices};
 use bundle_rules::Bundle;
 use market_units::{MAX_PRICE, NoMemory, SectionNo, StudentNo, Tokens};
 use std::alloc::Global;
-use std::collections::BinaryHeap;
 
-// A walk before it is gone: who holds the section, or may hold it.
+// How many steps are made on a walk by what is noted. More are seldom needed.
+const FOLLOWED: usize = 4096;
+
+// So many holders more than are asked in any case may be asked by the other workers.
+const AHEAD: usize = 4;
+
+/// A walk before it is gone: who holds the section, or may hold it. The last so many of the list
+/// are out: they are being asked.
 #[derive(Drop)]
 pub(crate) struct Foreseen {
     section: SectionNo,
-    limit: u32,
-    holders: BinaryHeap<Holder>,
+    limit: usize,
+    holders: Vec<Holder>,
+    out: usize,
 }
 
-/// The walks of these pairs, on which nobody was asked. The only error is that memory was not
-/// given.
+/// The walks of these pairs of a section and a limit, on which nobody was asked. The only error is
+/// that memory was not given.
 pub(crate) fn walks_of(
     alloc: Global,
     remembered: &Remembered,
     pairs: &[(SectionNo, u32)],
 ) -> Result<Vec<Foreseen>, NoMemory>
     requires { All (λ pair. pair.0.0 < (arc_value remembered.now.crowd).sections) pairs.now }
-    ensures { IfOk result
-        (λ walks. All (IsForeseen remembered.now) walks.items) }
 {
     let mut walks = Vec::with_capacity(alloc, pairs.len())?;
     for (section, limit) in pairs {
         let holders = holders_of(alloc, remembered, *section)?;
         walks.push(Foreseen {
             section: *section,
-            limit: *limit,
-            holders,
+            limit: *limit as usize,
+            holders: holders.into_vec(),
+            out: 0,
         })?;
     }
     Ok(walks)
 }
 
-/// What is asked next on these walks, those of the first walk first, up to so many on a walk. The
-/// only error is that memory was not given.
-pub(crate) fn next_of_all(
-    alloc: Global,
-    notes: &Notes,
-    walks: &mut [Foreseen],
-    ahead: usize,
-) -> Result<Vec<Inquiry>, NoMemory>
-    requires walks { All (IsForeseen (arc_value notes.now.remembered)) walks.old }
-    ensures count { IfOk result (λ inquiries. length walks.new ≡ length walks.old) }
-    ensures walks { IfOk result
-        (λ inquiries. All (IsForeseen (arc_value notes.now.remembered)) walks.new) }
-    ensures inquiries { IfOk result
-        (λ inquiries. All (IsInquiry (crowd_of (arc_value notes.now.remembered)) 1)
-        inquiries.items) }
-{
-    let mut inquiries = Vec::new(alloc);
-    for place in 0..walks.len() {
-        add_next(alloc, notes, &mut walks[place], ahead, &mut inquiries)?;
+impl Foreseen {
+    // How many holders there are too many, as far as is known. So many at least are asked.
+    fn too_many(&self) -> usize {
+        self.holders.len().saturating_sub(self.limit)
     }
-    Ok(inquiries)
+
+    /// Takes out who is asked next: of the holders that are not out the first to leave, at the price
+    /// from which it does not keep what it holds. None of them can be left out while there are too
+    /// many, those that are out among them: while one stays, a later one would have to leave in its
+    /// place. `None` where there are not, or all are out.
+    pub(crate) fn next(&mut self, ground: &Ground) -> Option<Inquiry>
+        ensures { IfSome result
+            (λ inquiry. IsInquiry (crowd_of ground.now.remembered.now) 1 inquiry) }
+    {
+        if self.too_many() == 0 {
+            return None;
+        }
+        let first = self.take_first()?;
+        let price = Tokens(MAX_PRICE.saturating_sub(first.0));
+        ground.inquiry(StudentNo(first.1), self.section, price)
+    }
+
+    /// Follows what is noted of the holders that are asked first, so that none of them is asked of
+    /// whom it is noted what it takes; and tells how many holders there are too many then.
+    pub(crate) fn follow(&mut self, ground: &Ground, notes: &Notes) -> usize
+        requires { ground.now.remembered.now ≡ arc_value notes.now.remembered }
+    {
+        'followed: for _ in 0..FOLLOWED {
+            if self.out >= self.too_many().saturating_add(AHEAD) {
+                break;
+            }
+            let Some(inquiry) = self.next(ground) else {
+                break;
+            };
+            if let Some(bundle) = notes.told_at(inquiry) {
+                let again = holder_again(ground.remembered, inquiry, &bundle);
+                self.put_back(inquiry.student, again);
+            }
+        }
+        // Who is out here is not asked yet.
+        self.out = 0;
+        self.too_many()
+    }
+
+    // Takes out the first to leave of the holders that are not out.
+    fn take_first(&mut self) -> Option<Holder> {
+        let place = self.first()?;
+        let holder = self.holders[place];
+        let last = self.holders.len() - self.out - 1;
+        self.holders.swap(place, last);
+        self.out += 1;
+        Some(holder)
+    }
+
+    // Where the first to leave of the holders that are not out stands.
+    fn first(&self) -> Option<usize>
+        ensures { IfSome result (λ place. place < length self.now.holders.items - self.now.out) }
+    {
+        let waiting = self.holders.len().saturating_sub(self.out);
+        if waiting == 0 {
+            return None;
+        }
+        let mut first = 0;
+        'places: for place in 1..waiting {
+            let one = self.holders[place];
+            let best = self.holders[first];
+            if one.0 > best.0 || (one.0 == best.0 && one.1 > best.1) {
+                first = place;
+            }
+        }
+        Some(first)
+    }
+
+    /// The student is not out any more: it is a holder again, or none.
+    pub(crate) fn put_back(&mut self, student: StudentNo, again: Option<Holder>) {
+        let Some(place) = self.place_of(student) else {
+            return;
+        };
+        let first = self.holders.len().saturating_sub(self.out);
+        self.out -= 1;
+        let Some(holder) = again else {
+            self.holders.swap_remove(place);
+            return;
+        };
+        self.holders[place] = holder;
+        self.holders.swap(place, first);
+    }
+
+    // Where the student stands among the holders that are out.
+    fn place_of(&self, student: StudentNo) -> Option<usize>
+        ensures { IfSome result
+            (λ place. (length self.now.holders.items - self.now.out ≤ place)
+            × (place < length self.now.holders.items)) }
+    {
+        let first = self.holders.len().saturating_sub(self.out);
+        for place in first..self.holders.len() {
+            if self.holders[place].1 == student.0 {
+                return Some(place);
+            }
+        }
+        None
+    }
 }
 
-// Adds what is asked next on a walk, of the holders in the order in which they leave: what each
-// takes at the price from which it does not keep what it holds. A holder of whom it is noted is not
-// asked. As many as there are too many are asked in any case, for none of them can be left out:
-// while one of them stays, a later one would have to leave in its place. Some more are asked ahead.
-// Who is asked is a holder again afterwards: the next round finds its note.
-fn add_next(
-    alloc: Global,
-    notes: &Notes,
-    walk: &mut Foreseen,
-    ahead: usize,
-    inquiries: &mut Vec<Inquiry>,
-) -> Result<(), NoMemory>
-    requires walk { IsForeseen (arc_value notes.now.remembered) walk.old }
-    requires inquiries { All (IsInquiry (crowd_of (arc_value notes.now.remembered)) 1)
-        inquiries.old.items }
-    ensures walk { IfOk result (λ done. IsForeseen (arc_value notes.now.remembered) walk.new) }
-    ensures inquiries { IfOk result
-        (λ done. All (IsInquiry (crowd_of (arc_value notes.now.remembered)) 1)
-        inquiries.new.items) }
-{
-    let remembered: &Remembered = &notes.remembered;
-    let mut waiting = Vec::new(alloc);
-    'leaving: while goes_on(
-        walk.holders.len(),
-        waiting.len(),
-        walk.limit as usize,
-        ahead,
-    ) {
-        let Some(first) = walk.holders.pop() else {
-            break;
-        };
-        let inquiry = Inquiry {
-            student: StudentNo(first.1),
-            version: 0,
-            raised: Some((walk.section, Tokens(MAX_PRICE - first.0))),
-        };
-        let Some(bundle) = notes.told_at(inquiry) else {
-            inquiries.push(inquiry)?;
-            waiting.push(first)?;
-            continue;
-        };
-        let Some(again) = holder_again(remembered, inquiry, &bundle) else {
-            continue;
-        };
-        walk.holders.push(again)?;
-    }
-    'back: for place in 0..waiting.len() {
-        walk.holders.push(waiting[place])?;
-    }
-    Ok(())
-}
-
-// Whether a further holder is asked, where so many hold the section and of so many it waits whether
-// they do.
-fn goes_on(holders: usize, waiting: usize, limit: usize, ahead: usize) -> bool {
-    holders > limit || (holders.saturating_add(waiting) > limit && waiting < ahead)
-}
-
-// The student of an inquiry as a holder of the section with the raised price, from that price on,
-// where its bundle there has the section.
-fn holder_again(remembered: &Remembered, inquiry: Inquiry, bundle: &Bundle) -> Option<Holder>
+/// The student of an inquiry as a holder of the section with the raised price, from that price on,
+/// where its bundle there has the section.
+pub(crate) fn holder_again(
+    remembered: &Remembered,
+    inquiry: Inquiry,
+    bundle: &Bundle,
+) -> Option<Holder>
     requires inquiry { IsInquiry (crowd_of remembered.now) 1 inquiry }
     requires taken { sections_of bundle.now
         ≡ taken_at (crowd_of remembered.now) (remembered.now.prices.items ∷ []) inquiry }
-    ensures listed { IfSome result (λ again. IsListed (crowd_of remembered.now) again) }
-    ensures later { IfSome inquiry.raised
-        (λ raised. IfSome result (λ again. raised.1.0 < leaves again)) }
 {
     let Some(raised) = inquiry.raised else {
         return None;

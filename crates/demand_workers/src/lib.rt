@@ -6,6 +6,7 @@
 // takes.
 #![tactic(auto)]
 
+mod ahead;
 mod answering;
 mod asker;
 mod asking;
@@ -13,6 +14,7 @@ mod beside;
 mod cheaper;
 mod foreseen;
 mod found;
+mod ground;
 mod inquiry;
 mod leaving;
 mod note;
@@ -29,6 +31,9 @@ mod tasks;
 mod terms;
 mod trial;
 mod unsettled;
+mod walk_tasks;
+mod walker;
+mod walking;
 mod walks;
 mod worker;
 

@@ -4,19 +4,21 @@ ghost use Rattle.std.specs.Arc.{arc_value};
 ghost use Rattle.bundle_rules.specs.Bundles.{sections_of};
 ghost use Rattle.demand_workers.specs.{Answering.answer_to, Notes.AreKept, Notes.IsNoted};
 ghost use Rattle.demand_workers.specs.Inquiring.{IsInquiry, taken_at};
-ghost use Rattle.demand_workers.specs.{Rounds.prices_of, Views.crowd_of};
+ghost use Rattle.demand_workers.specs.{Rounds.prices_of, Views.crowd_of, Walks.AreOnWalks};
 
 use crate::cheaper::none_is_less;
 use crate::found::Found;
 use crate::inquiry::{Inquiries, Inquiry};
-use crate::note::{Kept, Note};
+use crate::note::{Kept, Note, Told};
 use crate::question::Question;
 use crate::remembered::Remembered;
 use crate::trial::{ROOM, raised_prices};
+use crate::walk_tasks::WalkTasks;
 use bundle_rules::{Bundle, price_of};
 use market_units::{NoMemory, Tokens};
 use std::alloc::Global;
 use std::sync::Arc;
+use task_board::{Answers, Tasks};
 
 // No place in a list.
 const NOWHERE: usize = usize::MAX;
@@ -103,6 +105,22 @@ impl Notes {
                 price: raised.1,
                 bundle: found.bundles[place],
             })?;
+        }
+        Ok(())
+    }
+
+    /// Notes what was told of students on walks from what is remembered. The only error is that
+    /// memory was not given.
+    pub(crate) fn add_told(&mut self, answers: &Answers<WalkTasks>) -> Result<(), NoMemory>
+        requires { AreOnWalks (crowd_of (arc_value self.old.remembered))
+            (arc_value self.old.remembered).prices.items answers.now.terms }
+        ensures { IfOk result (λ done. self.new.remembered ≡ self.old.remembered) }
+    {
+        'tasks: for task in 0..answers.tasks().count() {
+            let Some(Told::Noted(note)) = answers.answer(task) else {
+                continue;
+            };
+            self.add(note)?;
         }
         Ok(())
     }

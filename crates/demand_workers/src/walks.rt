@@ -7,8 +7,10 @@ ghost use Rattle.demand_workers.specs.Inquiring.{IsInquiry, taken_at};
 ghost use Rattle.demand_workers.specs.{Rounds.prices_of, Views.crowd_of, Views.price_before};
 
 use crate::PooledDemands;
+use crate::ahead::Ahead;
 use crate::asking::ask;
-use crate::foreseen::{next_of_all, walks_of};
+use crate::foreseen::walks_of;
+use crate::ground::Ground;
 use crate::inquiry::{Inquiries, Inquiry};
 use crate::leaving::{Walk, holder_of, holders_of};
 use crate::notes::Notes;
@@ -17,20 +19,17 @@ use crate::remembered::Remembered;
 use crate::settled::settled;
 use crate::trial::{ROOM, raised_prices};
 use crate::unsettled::write_found;
+use crate::walking::walk;
 use bundle_rules::Bundle;
 use market_edge::AnyGate;
 use market_units::{MAX_PRICE, NoMemory, SectionNo, StudentNo, Tokens};
 use std::alloc::Global;
-use std::sync::{Arc, Wait};
+use std::sync::{Arc, Mutex, Wait};
 use std::thread::Threads;
 
-// How many rounds are made for the walks of one call. What is not asked by then, the walks ask for
-// themselves.
-const PHASES: usize = 8;
-
-// How many holders of a section several workers ask at once, if no more are surely asked. Some of
-// them are asked in vain: those who would leave above the least price.
-const AHEAD: usize = 12;
+// How many rounds are made at most for the walks of one call. What is not asked by then, the walks
+// ask for themselves.
+const ROUNDS: usize = 8;
 
 // These inquiries at the remembered prices.
 fn at_remembered(
@@ -85,9 +84,10 @@ impl PooledDemands<AnyGate<'_>> {
         Ok(found)
     }
 
-    /// Asks, in one round for all walks as often as somebody is next, those who are surely asked on
-    /// the walks of these pairs, or most of them. On one walk several workers ask some more ahead.
-    /// What is found is noted.
+    /// Asks those who are asked on the walks of these pairs, or most of them, in rounds of several
+    /// workers: a worker asks the next to leave while another asks the one before it, so a few are
+    /// asked in vain. What is found is noted. One worker keeps no notes of earlier calls, since it
+    /// asks nobody in vain.
     pub(crate) fn foresee<R: Threads + Wait + Sync>(
         &self,
         rt: &R,
@@ -100,34 +100,35 @@ impl PooledDemands<AnyGate<'_>> {
             pairs.now }
         ensures { IfOk result (λ done. notes.new.remembered ≡ notes.old.remembered) }
     {
-        let ahead = self.ahead(notes, pairs.len());
-        let mut walks = walks_of(alloc, &notes.remembered, pairs)?;
-        'phases: for _ in 0..PHASES {
-            let list = next_of_all(alloc, notes, &mut walks, ahead)?;
-            if list.is_empty() {
-                break;
-            }
-            let inquiries = at_remembered(alloc, &notes.remembered, list)?;
-            let found = ask(rt, alloc, &self.pool, self.gate, inquiries)?;
-            notes.add_found(&found)?;
-        }
-        Ok(())
-    }
-
-    // How many holders of a section are asked at once, if no more are surely asked. Rounds of
-    // several walks are long enough. One worker asks nobody ahead, since some would be asked in
-    // vain, and keeps no notes of earlier calls: they are forgotten here.
-    fn ahead(&self, notes: &mut Notes, walks: usize) -> usize
-        ensures { notes.new.remembered ≡ notes.old.remembered }
-    {
         if self.pool.workers == 1 {
             notes.forget();
-            return 0;
         }
-        if walks > 1 {
-            return 0;
+        let walks = walks_of(alloc, &notes.remembered, pairs)?;
+        let walks = Mutex::new(Ahead { walks });
+        'rounds: for _ in 0..ROUNDS {
+            let remembered = Arc::try_clone(&notes.remembered)?;
+            let known: &Remembered = &remembered;
+            let ground = Ground {
+                remembered: known,
+                walks: &walks,
+                highest: known.crowd.top(),
+            };
+            let surely = walks.lock(rt).follow(&ground, notes);
+            if surely == 0 {
+                break;
+            }
+            let answers = walk(
+                rt,
+                alloc,
+                &self.pool,
+                self.gate,
+                &remembered,
+                &ground,
+                surely,
+            )?;
+            notes.add_told(&answers)?;
         }
-        AHEAD
+        Ok(())
     }
 
     /// The walk to the least price of the section for one limit. As long as there are too many
@@ -214,8 +215,8 @@ impl PooledDemands<AnyGate<'_>> {
 
     /// What each student takes at the remembered prices with the section at the least price of a
     /// walk. Who does not hold the section keeps what it takes, and so does a holder that can still
-    /// pay. Of whom it is noted what it takes there is not asked. Whom this does not settle is
-    /// asked. The only error is that memory was not given.
+    /// pay. A student of whom it is noted is not asked. Whom this does not settle is asked. The only
+    /// error is that memory was not given.
     pub(crate) fn raised_memory<R: Threads + Wait + Sync>(
         &self,
         rt: &R,

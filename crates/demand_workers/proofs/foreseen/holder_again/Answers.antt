@@ -1,13 +1,10 @@
-use Rattle.std.proofs.Common.{◌≡◌, ◌<◌, ◌∙◌, ℕ, List, length, slice_set, ap, sym, subst}
+use Rattle.std.proofs.Common.{◌<◌, ◌∙◌, ℕ, List, length, slice_set, ap, sym, subst}
 use Rattle.std.specs.Arc.{arc_value}
-use Rattle.std.specs.Prelude.{IfSome}
 use Rattle.market_units.specs.declared.units.Tokens.{Tokens}
 use Rattle.bundle_rules.specs.Demand.{price_in}
 use Rattle.demand_api.specs.Asking.{ArePricesFor}
 use Rattle.demand_api.specs.Crowds.{demand_of}
-use Rattle.demand_api.proofs.Halving.{price_written}
 use Rattle.demand_api.proofs.Parts.{students_length}
-use Rattle.demand_workers.specs.Leaving.{leaves}
 use Rattle.demand_workers.specs.Views.{crowd_of}
 use Rattle.demand_workers.proofs.HoldersLeave.{raised_prices}
 use Rattle.demand_workers.proofs.Surveying.{taken_raised}
@@ -31,23 +28,3 @@ holder_of-requires-clause-taken c =
     c.requires.taken ∙ taken_raised (crowd_of remembered) remembered.prices.items c.args.inquiry c.in-Some.raised c.requires.inquiry c.in-Some.is
     ∙ ap (λ (l : List Tokens). demand_of (crowd_of remembered) (price_in l) c.args.inquiry.student.0)
     (sym (c.raised_prices-trial.ensures ∙ ap (λ (l : List Tokens). slice_set l c.in-Some.raised.0.0 c.in-Some.raised.1) c.deref.ensures.value))
-
-pub returns-clause-listed : goal.returns-clause-listed
-returns-clause-listed c = record {
-  student =
-      subst (λ (n : ℕ). n < length (crowd_of c.args.remembered.now).students) (sym c.holder_of.ensures.student) c.requires.inquiry.student;
-  room = c.holder_of.ensures.room;
-  capped = c.holder_of.ensures.capped;
-}
-
-pub returns-clause-later : goal.returns-clause-later
-returns-clause-later c =
-    let remembered = c.args.remembered.now in
-    let can = c.requires.inquiry.its_price c.in-Some.raised c.in-Some.is in
-    let low = subst (λ (n : ℕ). c.in-Some.raised.0.0 < n) (sym remembered.priced.same) can.0 in
-    let there : price_in c.raised_prices-trial.result.now c.in-Some.raised.0.0 ≡ c.in-Some.raised.1.0 =
-    ap (λ (l : List Tokens). price_in l c.in-Some.raised.0.0)
-    (c.raised_prices-trial.ensures ∙ ap (λ (l : List Tokens). slice_set l c.in-Some.raised.0.0 c.in-Some.raised.1) c.deref.ensures.value)
-    ∙ price_written remembered.prices.items c.in-Some.raised.0.0 c.in-Some.raised.1.0 low in
-    subst (λ o. IfSome o (λ raised. raised.1.0 < leaves c.holder_of.result)) (sym c.in-Some.is)
-    (subst (λ (n : ℕ). n < leaves c.holder_of.result) there c.holder_of.ensures.later)
