@@ -1,5 +1,5 @@
 -- What is told of students on walks.
-use Rattle.std.proofs.Common.{ℕ, zero, suc, ◌≡◌, ◌<◌, ◌∙◌, ◌||◌, Bool, true, false, Option, None, Some, List, length, slice_set, replicate, nat_lt, refl, ap, sym, subst}
+use Rattle.std.proofs.Common.{ℕ, zero, suc, ◌≡◌, ◌<◌, ◌∙◌, ◌||◌, Bool, true, false, None, Some, List, length, slice_set, replicate, nat_lt, refl, ap, sym, subst}
 use Rattle.std.proofs.lemmas.Bool.{and_from, and_parts, lt-ltb, ltb-true}
 use Rattle.std.proofs.lemmas.List.{get_or-map}
 use Rattle.market_units.specs.declared.units.SectionNo.{SectionNo}

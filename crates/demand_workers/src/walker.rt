@@ -37,8 +37,8 @@ pub(crate) trait Asks {
         ensures { may_be_told (crowd self.now) (prices self.now) result ≡ true };
 }
 
-/// Draws one task after another, and asks whoever is next, until nobody is left. The
-/// worker passes the gate before its first draw and after each of its posts.
+/// Draws one task after another, and asks whoever is next, until nobody is left. The worker passes
+/// the gate before its first draw and after each of its posts.
 pub(crate) fn walk_drawn<R: Wait, A: Asks>(
     rt: &R,
     board: &Board<WalkTasks>,

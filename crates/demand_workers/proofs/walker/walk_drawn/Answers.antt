@@ -1,4 +1,3 @@
-use Rattle.std.proofs.Common.{rules}
 use Rattle.demand_workers.proofs.walker.walk_drawn.Goals as goal
 
 pub post-requires-clause-answer : goal.post-requires-clause-answer
