@@ -1,0 +1,3 @@
+echo 15 > /proc/self/autogroup
+cd /work/h/plant-logs
+for c in utility_language timetable_rules market_settings course_catalog student_roll price_sheet market_words market_edge demand_api chronicle task_board price_neighbours market_menus preference_text session_hall market_crowd price_board oversubscription_stage tabu_search aftermarket_stage proof_tree demand_oracle demand_workers published_parts market_maker published_market market_run made_run certificate_checker accepted_publications explain_desk dropadd_desk dropadd_hall fairness_audit market_host market_certificate clearing_error budget_draw seed_words market_units status_line row_region; do nice -n 15 timeout 900 python3 list_plants.py /work/main $c > list/$c.part 2> list/$c.err; mv list/$c.part list/$c.txt; done

@@ -1,0 +1,1 @@
+cd /work/h/plants-work; date +%H:%M:%S; cat done.txt | tail -6; for f in logs/*.said; do :; done; ls -t logs/*.said | head -2 | while read f; do echo $f; grep -h "^===" $f | tail -3 | cut -c1-100; done; cat logs/*.err | tail -3; grep -v "wait\|^ok" /work/h/roll/status.txt | tr '\n' ';'; uptime
