@@ -13,7 +13,7 @@ or_with_true : (a : Bool) → (a || true) ≡ true
 or_with_true true = refl
 or_with_true false = refl
 
--- one answer more, where none stood
+-- with one answer more, where none stood, they are gone if it says so, or if they were
 pub gone_posted : (answers : List (Option Told)) (k : ℕ) (answer : Told)
     → slice_index_or answers k (Some answer) ≡ None
     → are_gone (slice_set answers k (Some answer)) ≡ (says_gone (Some answer) || are_gone answers)
@@ -24,6 +24,7 @@ gone_posted (old ∷ answers) (suc k) answer none =
     ap (λ b. says_gone old || b) (gone_posted answers k answer none)
     ∙ or_swapped (says_gone old) (says_gone (Some answer)) (are_gone answers)
 
+-- tasks that are over stay over
 pub gone_lasts : IsLasting walk_rules
 gone_lasts terms answers task other answer each below none over =
     gone_posted answers other answer none ∙ ap (λ b. says_gone (Some answer) || b) over

@@ -16,7 +16,7 @@ pub(crate) struct Next {
     pub inquiry: Inquiry,
 }
 
-/// Walks that are gone at once.
+/// Walks that are gone together.
 #[derive(Drop)]
 pub(crate) struct Ahead {
     pub walks: Vec<Foreseen>,

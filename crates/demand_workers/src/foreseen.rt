@@ -61,9 +61,9 @@ impl Foreseen {
     }
 
     /// Takes out who is asked next: of the holders that are not out the first to leave, at the price
-    /// from which it does not keep what it holds. None of them can be left out while there are too
-    /// many, those that are out among them: while one stays, a later one would have to leave in its
-    /// place. `None` where there are not, or all are out.
+    /// from which it does not keep what it holds. Where there are too many without those that are
+    /// out, it is asked in any case. Where there are too many only with them, it is asked in vain if
+    /// enough of them leave. `None` where there are not too many, or all are out.
     pub(crate) fn next(&mut self, ground: &Ground) -> Option<Inquiry>
         ensures { IfSome result
             (λ inquiry. IsInquiry (crowd_of ground.now.remembered.now) 1 inquiry) }

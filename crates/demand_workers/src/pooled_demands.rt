@@ -36,9 +36,8 @@ use std::thread::Threads;
 /// each in a thread of its own where one can be started, or the first worker alone, in the caller's
 /// thread, where the inquiries are few. Where nothing is remembered, and in `exceeds`, each student
 /// is a task of a price board. Workers pass the gate before their first draw and after each post.
-/// Students on the walks to least prices are asked in such rounds too, by several workers some
-/// ahead; what is found there is noted, and serves as long as no price falls. Its one form is
-/// `PooledDemands<AnyGate>`, which `make` gives.
+/// On walks to least prices a task is whoever is next to leave; what is found there is noted, and
+/// serves as long as no price falls. Its one form is `PooledDemands<AnyGate>`, which `make` gives.
 #[derive(Drop)]
 pub struct PooledDemands<G> {
     pub(crate) crowd: Arc<Crowd>,
