@@ -1,25 +1,28 @@
--- What is noted of students at raised prices, and what of it serves at others.
-use Rattle.std.proofs.Common.{ℕ, zero, suc, ◌≡◌, ◌≢◌, ◌<◌, ◌≤◌, ◌∙◌, List, [], ◌∷◌, length, slice_set, slice_index_or, true, false, refl, ap, sym, subst, arith, inl, inr}
-use Rattle.std.proofs.lemmas.Bool.{cases_order}
+-- What is noted of students, and where it serves.
+use Rattle.std.proofs.Common.{ℕ, zero, suc, ◌≡◌, ◌≢◌, ◌<◌, ◌≤◌, ◌+◌, ◌==◌, ◌∙◌, List, [], ◌∷◌, length, nat_lt, slice_set, slice_index_or, true, false, refl, ap, sym, subst, arith, inl, inr}
+use Rattle.std.proofs.lemmas.Bool.{and_from, and_parts, cases_Bool, cases_order, lt-ltb, ltb-true}
+use Rattle.std.proofs.lemmas.Bool.Decides.{nat_tests}
 use Rattle.std.proofs.lemmas.List.{get_or-map}
 use Rattle.market_units.specs.declared.units.Tokens.{Tokens}
 use Rattle.market_units.specs.Totals.{total}
 use Rattle.market_units.specs.Members.{has}
+use Rattle.bundle_rules.specs.declared.menu.Rated.{Rated}
 use Rattle.bundle_rules.specs.Bundles.{sections_of}
 use Rattle.bundle_rules.specs.Menus.{MenuData}
 use Rattle.bundle_rules.specs.Demand.{price_in}
 use Rattle.demand_api.specs.declared.crowd.Crowd.{Crowd}
-use Rattle.demand_api.specs.Asking.{ArePricesFor}
-use Rattle.demand_api.specs.Crowds.{Student, CrowdData, demand_of}
+use Rattle.demand_api.specs.Crowds.{Student, demand_of}
 use Rattle.demand_api.specs.Views.{data_of}
 use Rattle.demand_api.specs.Prices.{IsRaised}
-use Rattle.demand_api.proofs.Halving.{price_kept, price_written}
+use Rattle.price_board.specs.Terms.{same_sections}
+use Rattle.price_board.proofs.Numbering.{same_sections-is, same_sections-own}
+use Rattle.demand_api.proofs.Halving.{price_at, price_kept, price_written}
 use Rattle.demand_api.proofs.Keeping.{none_falls, same_cost}
 use Rattle.demand_api.proofs.Parts.{student_of, students_length}
 use Rattle.demand_api.proofs.Takers.{demand_within}
 use Rattle.demand_workers.specs.declared.note.Note.{Note}
-use Rattle.demand_workers.specs.declared.note.Kept.{Kept}
-use Rattle.demand_workers.specs.Notes.{NoneIsLess, budget_of, IsNoted, AreKept}
+use Rattle.demand_workers.specs.Notes.{budget_of, places_of, price_among, price_noted, IsNoted}
+use Rattle.demand_workers.specs.Walks.{is_right_note}
 use Rattle.demand_workers.proofs.HoldersLeave.{taken_affordable}
 use Rattle.demand_workers.proofs.Recalling.{kept_demand}
 
@@ -48,68 +51,123 @@ budget_is crowd i budget low is =
     ∙ ap (λ (s : Student). s.budget) (student_of crowd i d nobody budget low)
     ∙ ap (λ (b : Tokens). b.0) (sym is)
 
--- prices with another one for a section that are nowhere passed
-pub below_after : (prices : List Tokens) (s : ℕ) (price : Tokens) (after : ℕ → ℕ) → s < length prices → price.0 ≤ after s
-    → ((t : ℕ) → t ≢ s → price_in prices t ≤ after t) → (t : ℕ) → price_in (slice_set prices s price) t ≤ after t
-below_after prices s price after low here others t = elim (cases_order t s) [
-  | inl same ↦ let is : price_in (slice_set prices s price) s ≡ price.0 = price_written prices s price.0 low in rw same (omega (arith, is, here))
-  | inr (inl less) ↦ other (omega (arith, less))
-  | inr (inr more) ↦ other (omega (arith, more))
-]
-  where
-    other : t ≢ s → price_in (slice_set prices s price) t ≤ after t
-    other apart =
-        let is : price_in (slice_set prices s price) t ≡ price_in prices t = price_kept prices s price.0 t apart in
-        let below : price_in prices t ≤ after t = others t apart in
-        omega (arith, is, below)
+-- the places of a student's menu
+pub places_are : (crowd : Crowd) (i : ℕ) (menu : MenuData) → i < length crowd.menus.items → menu ≡ slice_index_or crowd.menus.items i menu
+    → places_of (data_of crowd) i ≡ menu.places
+places_are crowd i menu low is =
+    let d : Student = record { menu = menu; budget = 0 } in
+    get_or-map (λ (s : Student). s.menu.places) (data_of crowd).students i d [] (rw (students_length crowd) low)
+    ∙ ap (λ (s : Student). s.menu.places) (student_of crowd i d menu (record { 0 = 0 }) low)
+    ∙ ap (λ (m : MenuData). m.places) (sym is)
 
--- what a student takes where the section has the noted price is noted of it
-pub noted_asked : (crowd : Crowd) (prices : List Tokens) (note : Note) → ArePricesFor (data_of crowd) prices → note.section.0 < crowd.sections
-    → note.student.0 < length crowd.menus.items
-    → sections_of note.bundle ≡ demand_of (data_of crowd) (price_in (slice_set prices note.section.0 note.price)) note.student.0
-    → IsNoted (data_of crowd) prices note
-noted_asked crowd prices note are there low told =
+-- prices that stand in the order of these places
+abbrev pub AreAmong : List Rated → List Tokens → (ℕ → ℕ) → ℕ → Type 0
+AreAmong places noted price n = (k : ℕ) (d : Rated) → k < n → price_in noted k ≡ price (slice_index_or places k d).section.0
+
+-- no section costs more among them
+pub among_at_most : (places : List Rated) (noted : List Tokens) (price : ℕ → ℕ) → AreAmong places noted price (length places) → (s : ℕ)
+    → price_among places noted s ≤ price s
+among_at_most [] noted price are s = omega arith
+among_at_most (r ∷ places) [] price are s = omega arith
+among_at_most (r ∷ places) (p ∷ noted) price are s = elim (cases_Bool (r.section.0 == s)) [
+  | inl here ↦
+      let e : r.section.0 ≡ s = grind (arith, nat_tests) in
+      let first : p.0 ≡ price r.section.0 = are 0 r (let goal : 0 < suc (length places) = omega arith in goal) in
+      let same : price r.section.0 ≡ price s = ap price e in
+      rw here (let goal : p.0 ≤ price s = omega (arith, first, same) in goal)
+  | inr there ↦
+      rw there (among_at_most places noted price (λ k d low. are (suc k) d (let goal : suc k < suc (length places) = omega arith in goal)) s)
+]
+
+-- and a section of the places no less
+pub among_at_least : (places : List Rated) (noted : List Tokens) (price : ℕ → ℕ) → AreAmong places noted price (length places)
+    → length places ≤ length noted → (k : ℕ) (d : Rated) → k < length places
+    → price (slice_index_or places k d).section.0 ≤ price_among places noted (slice_index_or places k d).section.0
+among_at_least [] noted price are wide k d low = absurd (omega (arith, low))
+among_at_least (r ∷ places) [] price are wide k d low = absurd (omega (arith, wide))
+among_at_least (r ∷ places) (p ∷ noted) price are wide zero d low =
+    let here : (r.section.0 == r.section.0) ≡ true = grind (arith, nat_tests) in
+    let first : p.0 ≡ price r.section.0 = are 0 r (let goal : 0 < suc (length places) = omega arith in goal) in
+    rw here (let goal : price r.section.0 ≤ p.0 = omega (arith, first) in goal)
+among_at_least (r ∷ places) (p ∷ noted) price are wide (suc k) d low = elim (cases_Bool (r.section.0 == (slice_index_or places k d).section.0)) [
+  | inl here ↦
+      let e : r.section.0 ≡ (slice_index_or places k d).section.0 = grind (arith, nat_tests) in
+      let first : p.0 ≡ price r.section.0 = are 0 r (let goal : 0 < suc (length places) = omega arith in goal) in
+      let same : price r.section.0 ≡ price (slice_index_or places k d).section.0 = ap price e in
+      rw here (let goal : price (slice_index_or places k d).section.0 ≤ p.0 = omega (arith, first, same) in goal)
+  | inr there ↦
+      rw there
+      (among_at_least places noted price (λ i e inside. are (suc i) e (let goal : suc i < suc (length places) = omega arith in goal))
+      (let goal : length places ≤ length noted = omega (arith, wide) in goal) k d (let goal : k < length places = omega (arith, low) in goal))
+]
+
+-- one price more, of the section at the next place
+pub among_more : (places : List Rated) (noted prices : List Tokens) (n s : ℕ) (r : Rated) → AreAmong places noted (price_in prices) n → n < length noted
+    → n < length places → s ≡ (slice_index_or places n r).section.0 → s < length prices
+    → AreAmong places (slice_set noted n (slice_index_or prices s (record { 0 = 0 }))) (price_in prices) (n + 1)
+among_more places noted prices n s r are fits there is low k d below = elim (cases_order k n) [
+  | inl same ↦
+      rw same
+      (price_written noted n (slice_index_or prices s (record { 0 = 0 })).0 fits ∙ sym (price_at prices s (record { 0 = 0 }) low)
+      ∙ ap (price_in prices) (is ∙ ap (λ (one : Rated). one.section.0) (item_there places n r d there)))
+  | inr (inl less) ↦
+      let apart : k ≢ n = omega (arith, less) in price_kept noted n (slice_index_or prices s (record { 0 = 0 })).0 k apart ∙ are k d less
+  | inr (inr more) ↦ absurd (omega (arith, below, more))
+]
+
+-- a set costs no more where no section does
+total_at_most : (f g : ℕ → ℕ) → ((s : ℕ) → f s ≤ g s) → (ss : List ℕ) → total f ss ≤ total g ss
+total_at_most f g each [] = omega arith
+total_at_most f g each (s ∷ ss) =
+    let one : f s ≤ g s = each s in let rest : total f ss ≤ total g ss = total_at_most f g each ss in omega (arith, one, rest)
+
+-- what a student takes at these prices may be noted of it with them
+pub asked_noted : (crowd : Crowd) (price : ℕ → ℕ) (note : Note) (menu : MenuData) → note.student.0 < length crowd.menus.items
+    → menu ≡ slice_index_or crowd.menus.items note.student.0 menu → AreAmong menu.places note.prices price (length menu.places) → length menu.places ≤ length note.prices
+    → sections_of note.bundle ≡ demand_of (data_of crowd) price note.student.0 → is_right_note (data_of crowd) note ≡ true
+asked_noted crowd price note menu low menu_is are wide told =
     let i : ℕ = note.student.0 in
-    let s : ℕ = note.section.0 in
-    let wide : length prices ≡ crowd.sections = are.same in
-    let priced : s < length prices = omega (arith, wide, there) in
-    let inside : i < length crowd.budgets.items = omega (arith, crowd.same, low) in
+    let noted : ℕ → ℕ = price_among menu.places note.prices in
+    let inside : note.student.0 < length crowd.budgets.items = omega (arith, crowd.same, low) in
+    let budget : Tokens = slice_index_or crowd.budgets.items note.student.0 (record { 0 = 0 }) in
+    let budget_is : budget ≡ slice_index_or crowd.budgets.items note.student.0 budget =
+    item_there crowd.budgets.items note.student.0 (record { 0 = 0 }) budget inside in
+    let paid : total price (sections_of note.bundle) ≤ budget.0 =
+    taken_affordable crowd price i menu budget (sections_of note.bundle) low menu_is budget_is told in
+    let cheap : total (price_among menu.places note.prices) (sections_of note.bundle) ≤ total price (sections_of note.bundle) =
+    total_at_most noted price (among_at_most menu.places note.prices price are) (sections_of note.bundle) in
+    let there : sections_of note.bundle ≡ demand_of (data_of crowd) (price_among menu.places note.prices) note.student.0 =
+    kept_demand crowd price noted i menu budget (sections_of note.bundle) low menu_is budget_is (among_at_least menu.places note.prices price are wide)
+    (let goal : total (price_among menu.places note.prices) (sections_of note.bundle) ≤ budget.0 = omega (arith, paid, cheap) in goal) told in
+    and_from (nat_lt note.student.0 (length (data_of crowd).students))
+    (same_sections (sections_of note.bundle) (demand_of (data_of crowd) (price_noted (data_of crowd) note) note.student.0))
+    (lt-ltb note.student.0 (length (data_of crowd).students) (rw (students_length crowd) low))
+    (subst (λ (places : List Rated). same_sections (sections_of note.bundle) (demand_of (data_of crowd) (price_among places note.prices) note.student.0) ≡ true)
+    (sym (places_are crowd i menu low menu_is))
+    (subst (λ (l : List ℕ). same_sections (sections_of note.bundle) l ≡ true) there (same_sections-own (sections_of note.bundle))))
+
+-- a right note holds wherever no section costs less, and the bundle is affordable
+pub right_noted : (crowd : Crowd) (note : Note) → is_right_note (data_of crowd) note ≡ true → IsNoted (data_of crowd) note
+right_noted crowd note right =
+    let parts = and_parts (nat_lt note.student.0 (length (data_of crowd).students))
+    (same_sections (sections_of note.bundle) (demand_of (data_of crowd) (price_noted (data_of crowd) note) note.student.0)) right in
+    let there : note.student.0 < length (data_of crowd).students = ltb-true note.student.0 (length (data_of crowd).students) parts.0 in
+    let low : note.student.0 < length crowd.menus.items = subst (λ (n : ℕ). note.student.0 < n) (students_length crowd) there in
+    let told : sections_of note.bundle ≡ demand_of (data_of crowd) (price_noted (data_of crowd) note) note.student.0 =
+    same_sections-is (sections_of note.bundle) _ parts.1 in
+    let inside : note.student.0 < length crowd.budgets.items = omega (arith, crowd.same, low) in
     let budget : Tokens = slice_index_or crowd.budgets.items note.student.0 (record { 0 = 0 }) in
     let budget_there : budget ≡ slice_index_or crowd.budgets.items note.student.0 budget =
     item_there crowd.budgets.items note.student.0 (record { 0 = 0 }) budget inside in
     record {
-      student = subst (λ (n : ℕ). note.student.0 < n) (sym (students_length crowd)) low;
-      section = there;
-      within = λ t is.
-          demand_within (data_of crowd) (price_in (slice_set prices note.section.0 note.price)) note.student.0 t
-          (subst (λ (b : List ℕ). has b t ≡ true) told is);
-      taken = λ after here others paid.
-          kept_demand crowd (price_in (slice_set prices note.section.0 note.price)) after note.student.0
-          (slice_index_or crowd.menus.items note.student.0 nobody) budget (sections_of note.bundle) low
-          (menu_there crowd.menus.items note.student.0 low) budget_there
-          (λ (k : ℕ) d _. below_after prices note.section.0 note.price after priced here others _)
+      student = there;
+      within = λ s is.
+          demand_within (data_of crowd) (price_noted (data_of crowd) note) note.student.0 s (subst (λ (b : List ℕ). has b s ≡ true) told is);
+      taken = λ after none paid.
+          kept_demand crowd (price_noted (data_of crowd) note) after note.student.0 (slice_index_or crowd.menus.items note.student.0 nobody) budget
+          (sections_of note.bundle) low (menu_there crowd.menus.items note.student.0 low) budget_there (λ k d _. none _)
           (subst (λ (n : ℕ). total after (sections_of note.bundle) ≤ n) (budget_is crowd note.student.0 budget low budget_there) paid) told;
     }
-
--- what is noted holds where no section costs less
-pub noted_later : (crowd : CrowdData) (before after : List Tokens) (note : Note) → NoneIsLess (price_in before) (price_in after) → IsNoted crowd before note
-    → IsNoted crowd after note
-noted_later crowd before after note none is = record {
-  student = is.student;
-  section = is.section;
-  within = is.within;
-  taken = λ later here others paid.
-      is.taken later here
-      (λ t apart.
-      let one : price_in before t ≤ price_in after t = none t in
-      let other : price_in after t ≤ later t = others t apart in
-      omega (arith, one, other))
-      paid;
-}
-
-pub kept_later : (crowd : CrowdData) (before after : List Tokens) (kept : List Kept) → NoneIsLess (price_in before) (price_in after)
-    → AreKept crowd before kept → AreKept crowd after kept
-kept_later crowd before after kept none are k d low = noted_later crowd before after (slice_index_or kept k d).note none (are k d low)
 
 -- one price that is written over a lower one
 pub is_raised : (prices : List Tokens) (s : ℕ) (price : Tokens) → s < length prices → price_in prices s ≤ price.0
@@ -120,28 +178,6 @@ is_raised prices s price low up =
       others = λ t apart. price_kept prices s price.0 t apart;
       raised = (let goal : price_in prices s ≤ price_in (slice_set prices s price) s = omega (arith, here, up) in goal);
     }
-
-pub kept_raised : (crowd : CrowdData) (prices raised : List Tokens) (s : ℕ) (price : Tokens) (kept : List Kept) → s < length prices
-    → price_in prices s ≤ price.0 → raised ≡ slice_set prices s price → AreKept crowd prices kept → AreKept crowd raised kept
-kept_raised crowd prices raised s price kept low up written are =
-    subst (λ (l : List Tokens). AreKept crowd l kept) (sym written)
-    (kept_later crowd prices (slice_set prices s price) kept
-    (none_falls s (price_in prices) (price_in (slice_set prices s price)) (is_raised prices s price low up)) are)
-
--- what is noted is taken at the prices themselves, where the section costs enough and the bundle is affordable
-pub noted_taken : (crowd : CrowdData) (prices : List Tokens) (note : Note) (budget : ℕ) → IsNoted crowd prices note
-    → note.price.0 ≤ price_in prices note.section.0 → budget_of crowd note.student.0 ≡ budget
-    → total (price_in prices) (sections_of note.bundle) ≤ budget
-    → sections_of note.bundle ≡ demand_of crowd (price_in prices) note.student.0
-noted_taken crowd prices note budget is here has_it paid =
-    is.taken (price_in prices) here (λ t apart. omega arith)
-    (subst (λ (n : ℕ). total (price_in prices) (sections_of note.bundle) ≤ n) (sym has_it) paid)
-
--- a section that has no price costs nothing
-pub unpriced : (prices : List Tokens) (s : ℕ) → length prices ≤ s → price_in prices s ≡ 0
-unpriced [] s past = refl
-unpriced (price ∷ prices) zero past = absurd (omega (arith, past))
-unpriced (price ∷ prices) (suc s) past = unpriced prices s (let goal : length prices ≤ s = omega arith in goal)
 
 -- a bundle without the section stays where only the section's price rises
 pub lacking_stays : (crowd : Crowd) (prices raised : List Tokens) (s i : ℕ) (least : Tokens) (bundle : List ℕ)

@@ -9,18 +9,13 @@ use Rattle.bundle_rules.specs.declared.bundle.Bundle.{Bundle}
 use Rattle.bundle_rules.specs.declared.menu.Rated.{Rated}
 use Rattle.bundle_rules.specs.Bundles.{sections_of}
 use Rattle.bundle_rules.specs.Demand.{price_in}
-use Rattle.demand_api.specs.declared.crowd.Crowd.{Crowd}
-use Rattle.demand_api.specs.Asking.{ArePricesFor}
 use Rattle.demand_api.specs.Crowds.{CrowdData, demand_of, top}
-use Rattle.demand_api.specs.Views.{data_of}
-use Rattle.demand_api.proofs.Parts.{students_length}
 use Rattle.demand_workers.specs.declared.inquiry.Inquiry.{Inquiry}
 use Rattle.demand_workers.specs.Asked.{no_inquiry}
 use Rattle.demand_workers.specs.Inquiring.{CanBeRaised, IsInquiry, taken_at, with_raised}
 use Rattle.demand_workers.specs.Remembered.{AreTaken, AreWithin, IsKept, NoneIsCheaper}
 use Rattle.demand_workers.specs.Surveys.{IsLeftOut, AreOthersKept, IsSurvey}
-use Rattle.demand_workers.specs.Notes.{IsNoted}
-use Rattle.demand_workers.proofs.Noting.{item_there, noted_asked}
+use Rattle.demand_workers.proofs.Noting.{item_there}
 
 -- where nothing stands between, no section became cheaper
 pub none_between : (places : List Rated) (before after : List Tokens) (first past : ℕ) → AreWithin first past before after → past ≤ first
@@ -190,15 +185,6 @@ taken_raised crowd prices inquiry raised its is =
     let first : v ≡ 0 = omega arith in
     ap (λ r. demand_of crowd (price_in (with_raised r (slice_index_or (prices ∷ []) inquiry.version []))) inquiry.student.0) is
     ∙ ap (λ w. demand_of crowd (price_in (slice_set (slice_index_or (prices ∷ []) w []) raised.0.0 raised.1)) inquiry.student.0) first
-
--- and it is noted
-pub noted_raised : (crowd : Crowd) (prices : List Tokens) (inquiry : Inquiry) (raised : SectionNo × Tokens) (bundle : Bundle)
-    → ArePricesFor (data_of crowd) prices → IsInquiry (data_of crowd) 1 inquiry → inquiry.raised ≡ Some raised
-    → sections_of bundle ≡ taken_at (data_of crowd) (prices ∷ []) inquiry
-    → IsNoted (data_of crowd) prices (record { student = inquiry.student; section = raised.0; price = raised.1; bundle = bundle })
-noted_raised crowd prices inquiry raised bundle are its is found =
-    noted_asked crowd prices _ are (its.its_price raised is).0 (subst (λ (n : ℕ). inquiry.student.0 < n) (students_length crowd) its.student)
-    (found ∙ taken_raised (data_of crowd) prices inquiry raised its is)
 
 -- one student more, whose bundle is written
 pub first_written : (crowd : CrowdData) (bundles : List Bundle) (prices : List Tokens) (v n : ℕ) (inquiries : List Inquiry) (bundle : Bundle)

@@ -1,8 +1,7 @@
 // Where the sections stand that became cheaper.
 ghost use Rattle.std.specs.Prelude.{◌≡◌, ◌<◌, ◌≤◌, ◌↔◌, ◌+◌, All, IfSome, IsTrue, length};
 ghost use Rattle.bundle_rules.specs.Demand.{price_in};
-ghost use Rattle.demand_workers.specs.{Notes.NoneIsLess, Remembered.AreWithin};
-ghost use Rattle.demand_workers.specs.Remembered.{NoneIsCheaper};
+ghost use Rattle.demand_workers.specs.Remembered.{AreWithin, NoneIsCheaper};
 
 use bundle_rules::Rated;
 use market_units::{SectionNo, Tokens};
@@ -104,19 +103,4 @@ fn is_no_cheaper(place: usize, before: &[Tokens], after: &[Tokens]) -> bool
     ensures { IsTrue result ↔ (price_in before.now place ≤ price_in after.now place) }
 {
     before[place].0 <= after[place].0
-}
-
-/// Whether no section costs less at the later prices.
-pub(crate) fn none_is_less(before: &[Tokens], after: &[Tokens]) -> bool
-    ensures { IsTrue result → NoneIsLess (price_in before.now) (price_in after.now) }
-{
-    if after.len() < before.len() {
-        return false;
-    }
-    for place in 0..before.len() {
-        if !is_no_cheaper(place, before, after) {
-            return false;
-        }
-    }
-    true
 }

@@ -1,20 +1,19 @@
 //! The demands of a crowd, found by workers that draw their tasks from a board, each in a thread of
 //! its own.
 // Neither: that workers run beside one another, beyond a test of the whole program; which students
-// are asked, how many ahead, and by which thread; that all memory of a call is taken before its
-// first thread starts (between two boards memory may be wanted, when no thread runs); how long it
-// takes.
+// are asked, how many ahead, and by which thread; anything of a rehearsal but the notes that it
+// gives; that all memory of a call is taken before its first thread starts (between two boards
+// memory may be wanted, when no thread runs); how long it takes.
 #![tactic(auto)]
 
-mod ahead;
 mod answering;
 mod asker;
 mod asking;
 mod beside;
 mod cheaper;
-mod foreseen;
 mod found;
 mod ground;
+mod heard;
 mod inquiry;
 mod leaving;
 mod note;
@@ -22,9 +21,12 @@ mod notes;
 mod pool;
 mod pooled_demands;
 mod question;
+mod rehearsal;
+mod rehearsed_walk;
 mod remembered;
 mod round;
 mod settled;
+mod stand;
 mod survey;
 mod taking;
 mod tasks;

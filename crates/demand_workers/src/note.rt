@@ -1,14 +1,18 @@
-// What one student took at a raised price.
-use bundle_rules::Bundle;
-use market_units::{SectionNo, StudentNo, Tokens};
+// What one student took.
+ghost use Rattle.std.specs.Prelude.{◌≡◌, length};
+ghost use Rattle.market_units.specs.declared.limits.TheConstants.{MAX_RATINGS};
 
-/// What a student took where a section had this price.
+use bundle_rules::Bundle;
+use market_units::{MAX_RATINGS, StudentNo, Tokens};
+
+/// What a student took where the sections of its menu had these prices, in the order of the menu.
+/// What stands past them says nothing.
 #[derive(Clone, Copy)]
 pub struct Note {
     pub student: StudentNo,
-    pub section: SectionNo,
-    pub price: Tokens,
     pub bundle: Bundle,
+    pub prices: [Tokens; MAX_RATINGS],
+    pub ghost whole: { length prices ≡ MAX_RATINGS },
 }
 
 /// What is told of a walk: a note of whoever was asked on it, or that nobody is left to ask.

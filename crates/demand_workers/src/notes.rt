@@ -1,20 +1,20 @@
 // What is noted of students who were asked at raised prices, and what of it serves at others.
-ghost use Rattle.std.specs.Prelude.{◌≡◌, [], ◌∷◌, IfOk, IfSome, IsTrue};
+ghost use Rattle.std.specs.Prelude.{◌≡◌, ◌<◌, ◌≤◌, ℕ, [], ◌∷◌, All, IfOk, IfSome, IsTrue, length, true};
 ghost use Rattle.std.specs.Arc.{arc_value};
-ghost use Rattle.bundle_rules.specs.Bundles.{sections_of};
-ghost use Rattle.demand_workers.specs.{Answering.answer_to, Notes.AreKept, Notes.IsNoted};
+ghost use Rattle.bundle_rules.specs.{Bundles.sections_of, Demand.price_in};
+ghost use Rattle.demand_workers.specs.Answering.{answer_to};
+ghost use Rattle.demand_workers.specs.Notes.{AreKept, IsNoted, price_among};
 ghost use Rattle.demand_workers.specs.Inquiring.{IsInquiry, taken_at};
-ghost use Rattle.demand_workers.specs.{Rounds.prices_of, Views.crowd_of, Walks.AreOnWalks};
+ghost use Rattle.demand_workers.specs.{Rounds.prices_of, Views.crowd_of, Walks.is_right_note};
 
-use crate::cheaper::none_is_less;
 use crate::found::Found;
 use crate::inquiry::{Inquiries, Inquiry};
 use crate::note::{Kept, Note, Told};
 use crate::question::Question;
 use crate::remembered::Remembered;
-use crate::trial::{ROOM, raised_prices};
+use crate::trial::{ROOM, raised_question};
 use crate::walk_tasks::WalkTasks;
-use bundle_rules::{Bundle, price_of};
+use bundle_rules::{Bundle, Rated, price_of};
 use market_units::{NoMemory, Tokens};
 use std::alloc::Global;
 use std::sync::Arc;
@@ -24,26 +24,24 @@ use task_board::{Answers, Tasks};
 const NOWHERE: usize = usize::MAX;
 
 // How many of a student's notes are looked at. Earlier ones seldom serve.
-const LOOKS: usize = 32;
+const LOOKS: usize = 256;
 
-// A call begins with fewer notes of earlier calls than this, or with none. More than `LOOKS` of a
-// student are never looked at.
-const MOST: usize = 60_000;
+// A call begins with fewer notes of earlier calls than this, or with none.
+const MOST: usize = 16_000;
 
-/// What is remembered of a crowd, and notes of its students that hold from the remembered prices
-/// up. Those of one student are found from the latest to the earliest, without a look at the
-/// others.
+/// What is remembered of a crowd, and notes of its students, which hold at any prices. Those of one
+/// student are found from the latest to the earliest, without a look at the others.
 #[derive(Drop)]
 pub(crate) struct Notes {
     pub remembered: Arc<Remembered>,
     list: Vec<Kept>,
     // The place of each student's latest note.
     latest: Vec<usize>,
-    pub ghost noted: { AreKept (crowd_of (arc_value remembered)) (arc_value remembered).prices.items list.items },
+    pub ghost noted: { AreKept (crowd_of (arc_value remembered)) list.items },
 }
 
 impl Notes {
-    /// What was noted earlier, where it holds at what is remembered now. It takes no memory.
+    /// What was noted earlier, with what is remembered now. It takes no memory.
     pub(crate) fn at(alloc: Global, earlier: Option<Notes>, remembered: Arc<Remembered>) -> Notes
         requires { IfSome earlier
             (λ notes. crowd_of (arc_value notes.remembered) ≡ crowd_of (arc_value remembered)) }
@@ -60,18 +58,15 @@ impl Notes {
         notes
     }
 
-    // Something else is remembered of the crowd. Notes are kept where no section costs less at the
-    // later prices. Where one does, what was noted need not hold: it is forgotten.
+    // Something else is remembered of the crowd. Where notes are many they are forgotten: the latest
+    // serve most.
     fn follow(&mut self, remembered: Arc<Remembered>)
         requires { crowd_of (arc_value self.old.remembered) ≡ crowd_of (arc_value remembered) }
         ensures { self.new.remembered ≡ remembered }
     {
-        let few = self.list.len() < MOST;
-        if few && none_is_less(&self.remembered.prices, &remembered.prices) {
-            self.remembered = remembered;
-            return;
+        if self.list.len() >= MOST {
+            self.forget();
         }
-        self.forget();
         self.remembered = remembered;
     }
 
@@ -96,15 +91,10 @@ impl Notes {
         let inquiries: &Inquiries = &found.inquiries;
         'inquiries: for place in 0..found.bundles.len() {
             let inquiry = inquiries.list[place];
-            let Some(raised) = inquiry.raised else {
+            let Some(note) = raised_note(&self.remembered, inquiry, &found.bundles[place]) else {
                 continue;
             };
-            self.add(Note {
-                student: inquiry.student,
-                section: raised.0,
-                price: raised.1,
-                bundle: found.bundles[place],
-            })?;
+            self.add(note)?;
         }
         Ok(())
     }
@@ -112,8 +102,7 @@ impl Notes {
     /// Notes what was told of students on walks from what is remembered. The only error is that
     /// memory was not given.
     pub(crate) fn add_told(&mut self, answers: &Answers<WalkTasks>) -> Result<(), NoMemory>
-        requires { AreOnWalks (crowd_of (arc_value self.old.remembered))
-            (arc_value self.old.remembered).prices.items answers.now.terms }
+        requires { answers.now.terms.crowd ≡ crowd_of (arc_value self.old.remembered) }
         ensures { IfOk result (λ done. self.new.remembered ≡ self.old.remembered) }
     {
         'tasks: for task in 0..answers.tasks().count() {
@@ -127,8 +116,7 @@ impl Notes {
 
     // Adds a note, which is then its student's latest.
     fn add(&mut self, note: Note) -> Result<(), NoMemory>
-        requires { IsNoted (crowd_of (arc_value self.old.remembered))
-            (arc_value self.old.remembered).prices.items note }
+        requires { is_right_note (crowd_of (arc_value self.old.remembered)) note ≡ true }
         ensures { self.new.remembered ≡ self.old.remembered }
     {
         let student = usize::from(note.student.0);
@@ -152,28 +140,16 @@ impl Notes {
             ≡ taken_at (crowd_of (arc_value self.now.remembered))
             ((arc_value self.now.remembered).prices.items ∷ []) inquiry) }
     {
-        let remembered: &Remembered = &self.remembered;
-        let Some(raised) = inquiry.raised else {
-            return None;
-        };
-        if raised.1.0 < remembered.prices[usize::from(raised.0.0)].0 {
-            return None;
-        }
         let mut room = [Tokens(0); ROOM];
-        let trial = raised_prices(&mut room, &remembered.prices, raised.0, raised.1);
-        let question = Question {
-            remembered,
-            prices: trial,
-            student: inquiry.student,
+        let Some(question) = raised_question(&mut room, &self.remembered, inquiry) else {
+            return None;
         };
         self.told(&question)
     }
 
-    /// What is noted of the student lately, where it surely takes that at these prices, at which
-    /// the notes hold.
+    /// What is noted of the student lately, where it surely takes that at these prices.
     pub(crate) fn told(&self, question: &Question) -> Option<Bundle>
-        requires { AreKept (crowd_of question.now.remembered.now) question.now.prices.now
-            self.now.list.items }
+        requires { AreKept (crowd_of question.now.remembered.now) self.now.list.items }
         ensures { IfSome result (λ bundle. sections_of bundle ≡ answer_to question.now) }
     {
         let mut next = match self.latest.get(usize::from(question.student.0)) {
@@ -184,8 +160,8 @@ impl Notes {
             if next >= self.list.len() {
                 return None;
             }
-            let kept = self.list[next];
-            if serves(question, kept.note) {
+            let kept = &self.list[next];
+            if serves(question, &kept.note) {
                 return Some(kept.note.bundle);
             }
             next = kept.earlier;
@@ -194,17 +170,46 @@ impl Notes {
     }
 }
 
-// Whether the student surely takes the bundle of the note: the note is of this student, its section
-// costs at least what it did then, and the bundle is affordable.
-fn serves(question: &Question, note: Note) -> bool
-    requires { IsNoted (crowd_of question.now.remembered.now) question.now.prices.now note }
-    ensures { IsTrue result → sections_of note.bundle ≡ answer_to question.now }
+// A note of what the student of an inquiry takes at the remembered prices with the raised one. `None`
+// where none is raised.
+fn raised_note(remembered: &Remembered, inquiry: Inquiry, bundle: &Bundle) -> Option<Note>
+    requires inquiry { IsInquiry (crowd_of remembered.now) 1 inquiry }
+    requires taken { sections_of bundle.now
+        ≡ taken_at (crowd_of remembered.now) (remembered.now.prices.items ∷ []) inquiry }
+    ensures { IfSome result (λ note. is_right_note (crowd_of remembered.now) note ≡ true) }
+{
+    let mut room = [Tokens(0); ROOM];
+    let Some(question) = raised_question(&mut room, remembered, inquiry) else {
+        return None;
+    };
+    Some(question.note(*bundle))
+}
+
+// Whether the student surely takes the bundle of the note: the note is of this student, no section
+// of the menu costs less than it did then, and the bundle is affordable.
+fn serves(question: &Question, note: &Note) -> bool
+    requires { IsNoted (crowd_of question.now.remembered.now) note.now }
+    ensures { IsTrue result → sections_of note.now.bundle ≡ answer_to question.now }
 {
     if note.student != question.student {
         return false;
     }
-    if question.prices[usize::from(note.section.0)].0 < note.price.0 {
+    if price_of(question.prices, note.bundle.sections()) > question.budget().0 {
         return false;
     }
-    price_of(question.prices, note.bundle.sections()) <= question.budget().0
+    cost_enough(question.menu().places(), &note.prices, question.prices)
+}
+
+// Whether no section at these places costs less than among the noted prices.
+fn cost_enough(places: &[Rated], noted: &[Tokens], prices: &[Tokens]) -> bool
+    requires { All (λ rated. rated.section.0 < length prices.now) places.now }
+    ensures { IsTrue result → (s : ℕ) → price_among places.now noted.now s ≤ price_in prices.now s }
+{
+    let [rated, more @ ..] = places else {
+        return true;
+    };
+    let [price, others @ ..] = noted else {
+        return true;
+    };
+    price.0 <= prices[usize::from(rated.section.0)].0 && cost_enough(more, others, prices)
 }

@@ -15,6 +15,7 @@ use crate::answering::read_all;
 use crate::asking::ask;
 use crate::inquiry::Inquiries;
 use crate::notes::Notes;
+use crate::rehearsal::Course;
 use crate::remembered::{Remembered, are_same};
 use crate::round::{copies_of, work_and_close};
 use crate::survey::Survey;
@@ -36,8 +37,10 @@ use std::thread::Threads;
 /// each in a thread of its own where one can be started, or the first worker alone, in the caller's
 /// thread, where the inquiries are few. Where nothing is remembered, and in `exceeds`, each student
 /// is a task of a price board. Workers pass the gate before their first draw and after each post.
-/// On walks to least prices a task is whoever is next to leave; what is found there is noted, and
-/// serves as long as no price falls. Its one form is `PooledDemands<AnyGate>`, which `make` gives.
+/// Where holders have to be asked on walks to least prices, several workers rehearse these walks in
+/// one round, and where seats were told also those that an elimination goes from there: a task is
+/// whoever is next to leave. What is found is noted, and serves wherever no section of the student's
+/// menu costs less. Its one form is `PooledDemands<AnyGate>`, which `make` gives.
 #[derive(Drop)]
 pub struct PooledDemands<G> {
     pub(crate) crowd: Arc<Crowd>,
@@ -46,6 +49,8 @@ pub struct PooledDemands<G> {
     asked: u64,
     remembered: Option<Arc<Remembered>>,
     notes: Option<Notes>,
+    // How many seats each section has, where several workers ask ahead.
+    seats: Option<Vec<u16>>,
     ghost same: { IfSome remembered (λ memory. crowd_of (arc_value memory) ≡ data_of (arc_value crowd)) } by { Prim.hlevel (props, codes, rated.the_row.coded) },
     ghost noted: { IfSome notes (λ noted. crowd_of (arc_value noted.remembered) ≡ data_of (arc_value crowd)) } by { Prim.hlevel (props, codes, rated.the_row.coded) },
 }
@@ -69,7 +74,24 @@ impl<'g> PooledDemands<AnyGate<'g>> {
             asked: 0,
             remembered: None,
             notes: None,
+            seats: None,
         }
+    }
+
+    /// Tells how many seats each section has, so that several workers can ask ahead what an
+    /// elimination asks: this serves where prices are raised until no section has more students
+    /// than seats, each time for the section most over. Any seats are right. One worker asks nothing
+    /// ahead. The only error is that memory was not given.
+    pub fn tell_seats(&mut self, alloc: Global, seats: &[u16]) -> Result<(), NoMemory>
+        ensures crowd { ⟦<PooledDemands<AnyGate<'g>> as Demands>⟧.crowd self.new
+            ≡ ⟦<PooledDemands<AnyGate<'g>> as Demands>⟧.crowd self.old }
+        ensures asked { ⟦<PooledDemands<AnyGate<'g>> as Demands>⟧.asked self.new
+            ≡ ⟦<PooledDemands<AnyGate<'g>> as Demands>⟧.asked self.old }
+    {
+        if self.pool.workers > 1 {
+            self.seats = Some(seats.to_vec(alloc)?);
+        }
+        Ok(())
     }
 
     // What all workers find on a board where each student is a task, at these prices alone. All
@@ -221,6 +243,35 @@ impl<'g> PooledDemands<AnyGate<'g>> {
         Ok(memory)
     }
 
+    // What several workers rehearse for a call with these pairs.
+    fn course(
+        &self,
+        alloc: Global,
+        pairs: &[(SectionNo, u32)],
+    ) -> Result<Option<Course>, NoMemory> {
+        if self.pool.workers == 1 {
+            return Ok(None);
+        }
+        if let ([_], Some(seats)) = (pairs, &self.seats) {
+            return Ok(Some(Course::Elimination(seats.as_slice().to_vec(alloc)?)));
+        }
+        Ok(Some(Course::Pairs(pairs.to_vec(alloc)?)))
+    }
+
+    // What was noted earlier, with what is remembered now. One worker keeps no notes of earlier calls,
+    // since it asks nobody ahead.
+    fn notes_with(&mut self, alloc: Global, remembered: Arc<Remembered>) -> Notes
+        requires { crowd_of (arc_value remembered) ≡ data_of (arc_value self.old.crowd) }
+        ensures kept { (self.new.crowd ≡ self.old.crowd) × (self.new.asked ≡ self.old.asked) }
+        ensures remembered { result.remembered ≡ remembered }
+    {
+        let earlier = self.notes.take();
+        if self.pool.workers == 1 {
+            return Notes::at(alloc, None, remembered);
+        }
+        Notes::at(alloc, earlier, remembered)
+    }
+
     // What is remembered; where nothing is, what each student takes at these prices, which then is
     // remembered. Of several versions that lie close together one may serve for the others.
     fn recall_first<R: Threads + Wait + Sync>(
@@ -312,16 +363,15 @@ impl Demands for PooledDemands<AnyGate<'_>> {
         pairs: &[(SectionNo, u32)],
     ) -> Result<Vec<Tokens>, NoMemory> {
         let remembered = self.recall(rt, alloc, prices)?;
-        let earlier = self.notes.take();
-        let mut notes = Notes::at(alloc, earlier, remembered);
+        let mut notes = self.notes_with(alloc, remembered);
+        let mut course = self.course(alloc, pairs)?;
         let [(section, limit)] = pairs else {
-            let found = self.least_for_each(rt, alloc, &mut notes, pairs)?;
+            let found = self.least_for_each(rt, alloc, &mut notes, &mut course, pairs)?;
             self.notes = Some(notes);
             return Ok(found);
         };
         // What is taken at the least price is remembered: who raises the price asks for it next.
-        self.foresee(rt, alloc, &mut notes, pairs)?;
-        let walk = self.least_price(rt, alloc, &mut notes, *section, *limit)?;
+        let walk = self.least_price(rt, alloc, &mut notes, &mut course, *section, *limit)?;
         let memory = self.raised_memory(rt, alloc, &notes, &walk)?;
         let found = vec![in alloc; walk.least; 1]?;
         self.remembered = Some(Arc::new(alloc, memory)?);

@@ -5,9 +5,10 @@ ghost use Rattle.demand_api.specs.Asking.{ArePricesFor};
 ghost use Rattle.demand_workers.specs.Views.{crowd_of};
 
 use crate::cheaper::{Cheaper, spares};
+use crate::note::Note;
 use crate::remembered::Remembered;
 use bundle_rules::{Bundle, Menu, price_of};
-use market_units::{StudentNo, Tokens};
+use market_units::{MAX_RATINGS, StudentNo, Tokens};
 
 /// A student of a remembered crowd, and prices at which it is asked.
 #[derive(Clone, Copy)]
@@ -20,10 +21,11 @@ pub(crate) struct Question<'a> {
 }
 
 impl Question<'_> {
-    ghost use Rattle.std.specs.Prelude.{◌≡◌, IfSome, IsTrue, slice_index_or};
+    ghost use Rattle.std.specs.Prelude.{◌≡◌, IfSome, IsTrue, slice_index_or, true};
     ghost use Rattle.bundle_rules.specs.Bundles.{sections_of};
     ghost use Rattle.demand_workers.specs.Answering.{answer_to, taken_before};
     ghost use Rattle.demand_workers.specs.Remembered.{AreWithin};
+    ghost use Rattle.demand_workers.specs.Walks.{is_right_note};
 
     /// The student's menu.
     pub(crate) fn menu(&self) -> &Menu
@@ -48,6 +50,23 @@ impl Question<'_> {
         ensures { sections_of result.now ≡ taken_before self.now }
     {
         &self.remembered.bundles[usize::from(self.student.0)]
+    }
+
+    /// A note that the student takes this bundle at these prices.
+    pub(crate) fn note(&self, bundle: Bundle) -> Note
+        requires { sections_of bundle ≡ answer_to self.now }
+        ensures { is_right_note (crowd_of self.now.remembered.now) result ≡ true }
+    {
+        let places = self.menu().places();
+        let mut prices = [Tokens(0); MAX_RATINGS];
+        for place in 0..places.len() {
+            prices[place] = self.prices[usize::from(places[place].section.0)];
+        }
+        Note {
+            student: self.student,
+            bundle,
+            prices,
+        }
     }
 
     /// What is remembered of the student, where the student surely takes the same at these prices;

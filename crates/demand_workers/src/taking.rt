@@ -18,13 +18,20 @@ use market_units::{StudentNo, Tokens};
 pub(crate) fn asked_again(workspace: &mut Workspace, question: &Question) -> Bundle
     ensures { sections_of result ≡ answer_to question.now }
 {
+    asked_from(workspace, question, question.earlier())
+}
+
+/// The same, where the search begins with this bundle. Any bundle is right.
+pub(crate) fn asked_from(workspace: &mut Workspace, question: &Question, first: &Bundle) -> Bundle
+    ensures { sections_of result ≡ answer_to question.now }
+{
     demand_from(
         workspace,
         question.menu(),
         question.prices,
         question.budget(),
         &question.remembered.allowed,
-        question.earlier(),
+        first,
     )
 }
 

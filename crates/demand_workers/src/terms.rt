@@ -23,11 +23,9 @@ impl Model for InquiryTerms {
     ghost also_owns = { λ _. ftrue };
 }
 
-/// What no answer on walks changes: the crowd, the price of each section, and how many tasks there
-/// are. Contracts alone see it.
+/// What no answer on walks changes: the crowd, and how many tasks there are. Contracts alone see it.
 pub struct WalkTerms {
     pub ghost crowd: { CrowdData } by { Prim.hlevel (codes, rated.the_row.coded) },
-    pub ghost prices: { List Tokens } by { Prim.hlevel (codes, tokens.the_row.coded) },
     pub ghost count: { ℕ },
 }
 

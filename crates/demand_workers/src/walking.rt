@@ -2,7 +2,7 @@
 ghost use Rattle.std.specs.Prelude.{◌≡◌, ◌≤◌, ◌<◌, IfOk, length};
 ghost use Rattle.std.specs.Arc.{arc_value};
 ghost use Rattle.task_board.specs.Seats.{AreBack, HasBegun, IsFinished, IsFree};
-ghost use Rattle.demand_workers.specs.{Views.crowd_of, Walks.AreOnWalks, Walks.walk_rules};
+ghost use Rattle.demand_workers.specs.{Views.crowd_of, Walks.walk_rules};
 
 use crate::ground::Ground;
 use crate::pool::Pool;
@@ -18,18 +18,7 @@ use std::thread;
 use std::thread::Threads;
 use task_board::{Answers, Board, BoardSeat};
 
-// So few students are asked by the first worker alone, in the caller's thread: to start others takes
-// as long.
-const FEW: usize = 2;
-
-// A round has two tasks for each student that is asked in any case, up to so many of these, and some
-// more: who stays on a walk is asked again.
-const MANY: usize = 2000;
-
-const MORE: u32 = 16;
-
-/// Asks whoever is next on the walks until nobody is left, or all tasks are drawn, by all workers of
-/// a pool, or by its first alone, in the caller's thread, where only few are asked in any case. All
+/// Asks whoever is next until nobody is left, or so many were asked, by all workers of a pool. All
 /// memory is taken before the first worker starts, and the only error is that it was not given.
 pub(crate) fn walk<R: Threads + Wait + Sync>(
     rt: &R,
@@ -38,17 +27,14 @@ pub(crate) fn walk<R: Threads + Wait + Sync>(
     gate: &(dyn Gate + Sync),
     remembered: &Arc<Remembered>,
     ground: &Ground,
-    surely: usize,
+    count: u32,
 ) -> Result<Answers<WalkTasks>, NoMemory>
     requires { ground.now.remembered.now ≡ arc_value remembered.now }
     ensures { IfOk result
-        (λ answers. AreOnWalks (crowd_of ground.now.remembered.now)
-        ground.now.remembered.now.prices.items answers.terms) }
+        (λ answers. answers.terms.crowd ≡ crowd_of ground.now.remembered.now) }
 {
-    let workers = if surely <= FEW { 1 } else { pool.workers };
-    let count = 2 * surely.min(MANY) as u32 + MORE;
     let tasks = WalkTasks::new(Arc::try_clone(remembered)?, count);
-    let (board, seats) = Board::start(alloc, tasks, workers)?;
+    let (board, seats) = Board::start(alloc, tasks, pool.workers)?;
     Ok(walk_and_close(rt, board, seats, pool.workspaces(), ground, gate))
 }
 
@@ -62,7 +48,7 @@ fn walk_and_close<R: Threads + Wait + Sync, A: Asks + Sync>(
     asks: &A,
     gate: &(dyn Gate + Sync),
 ) -> Answers<WalkTasks>
-    requires board { AreOnWalks (A.crowd asks.now) (A.prices asks.now) board.base }
+    requires board { board.base.crowd ≡ A.crowd asks.now }
     requires begun { HasBegun walk_rules board seats.items (length seats.items) }
     requires enough { (1 ≤ length seats.items) × (length seats.items ≤ length workspaces.now)
         × (length workspaces.now ≤ MAX_WORKERS) }
@@ -82,7 +68,7 @@ fn walk_all<R: Threads + Wait + Sync, A: Asks + Sync>(
     asks: &A,
     gate: &(dyn Gate + Sync),
 )
-    requires board { AreOnWalks (A.crowd asks.now) (A.prices asks.now) board.now.base }
+    requires board { board.now.base.crowd ≡ A.crowd asks.now }
     requires begun { HasBegun walk_rules board.now seats.old (length seats.old) }
     requires enough { (1 ≤ length seats.old) × (length seats.old ≤ length workspaces.now)
         × (length workspaces.now ≤ MAX_WORKERS) }
@@ -97,7 +83,7 @@ fn walk_all<R: Threads + Wait + Sync, A: Asks + Sync>(
         &|n, seat|
             requires { (n < length workspaces.now) × (seat.now.number < MAX_WORKERS)
                 × IsFree walk_rules board.now seat.now
-                × AreOnWalks (A.crowd asks.now) (A.prices asks.now) board.now.base }
+                × (board.now.base.crowd ≡ A.crowd asks.now) }
             ensures { IsFinished walk_rules board.entry.now seat.exit.now
                 × (seat.exit.now.number ≡ seat.entry.now.number) }
         { walk_drawn(rt, board, seat, &workspaces[n], asks, gate) },

@@ -7,14 +7,13 @@ ghost use Rattle.demand_workers.specs.Inquiring.{IsInquiry, taken_at};
 ghost use Rattle.demand_workers.specs.{Rounds.prices_of, Views.crowd_of, Views.price_before};
 
 use crate::PooledDemands;
-use crate::ahead::Ahead;
 use crate::asking::ask;
-use crate::foreseen::walks_of;
 use crate::ground::Ground;
 use crate::inquiry::{Inquiries, Inquiry};
 use crate::leaving::{Walk, holder_of, holders_of};
 use crate::notes::Notes;
 use crate::question::Question;
+use crate::rehearsal::{Course, Rehearsal};
 use crate::remembered::Remembered;
 use crate::settled::settled;
 use crate::trial::{ROOM, raised_prices};
@@ -27,9 +26,11 @@ use std::alloc::Global;
 use std::sync::{Arc, Mutex, Wait};
 use std::thread::Threads;
 
-// How many rounds are made at most for the walks of one call. What is not asked by then, the walks
-// ask for themselves.
-const ROUNDS: usize = 8;
+// So many students are asked in one rehearsal at most, and so often each of them on the average: as
+// long as it goes on, no thread has to be started.
+const QUESTIONS: usize = 4096;
+
+const EACH: usize = 4;
 
 // These inquiries at the remembered prices.
 fn at_remembered(
@@ -64,6 +65,7 @@ impl PooledDemands<AnyGate<'_>> {
         rt: &R,
         alloc: Global,
         notes: &mut Notes,
+        course: &mut Option<Course>,
         pairs: &[(SectionNo, u32)],
     ) -> Result<Vec<Tokens>, NoMemory>
         requires { All
@@ -74,60 +76,45 @@ impl PooledDemands<AnyGate<'_>> {
             (λ found. AreLeastPrices (crowd_of (arc_value notes.old.remembered))
             (price_before (arc_value notes.old.remembered)) pairs.now found.items) }
     {
-        self.foresee(rt, alloc, notes, pairs)?;
         let mut found = Vec::new(alloc);
         for place in 0..pairs.len() {
             let (section, limit) = pairs[place];
-            let walk = self.least_price(rt, alloc, notes, section, limit)?;
+            let walk = self.least_price(rt, alloc, notes, course, section, limit)?;
             found.push(walk.least)?;
         }
         Ok(found)
     }
 
-    /// Asks those who are asked on the walks of these pairs, or most of them, in rounds of several
-    /// workers: a worker asks the next to leave while another asks the one before it, so a few are
-    /// asked in vain. What is found is noted. One worker keeps no notes of earlier calls, since it
-    /// asks nobody in vain.
-    pub(crate) fn foresee<R: Threads + Wait + Sync>(
+    // Asks ahead, by all workers, what will be asked on the walks of a course from what is
+    // remembered. What is found is noted, and what was noted is forgotten.
+    fn rehearse<R: Threads + Wait + Sync>(
         &self,
         rt: &R,
         alloc: Global,
         notes: &mut Notes,
-        pairs: &[(SectionNo, u32)],
+        course: Course,
     ) -> Result<(), NoMemory>
-        requires { All
-            (λ pair. pair.0.0 < (arc_value (arc_value notes.old.remembered).crowd).sections)
-            pairs.now }
         ensures { IfOk result (λ done. notes.new.remembered ≡ notes.old.remembered) }
     {
-        if self.pool.workers == 1 {
-            notes.forget();
-        }
-        let walks = walks_of(alloc, &notes.remembered, pairs)?;
-        let walks = Mutex::new(Ahead { walks });
-        'rounds: for _ in 0..ROUNDS {
-            let remembered = Arc::try_clone(&notes.remembered)?;
-            let known: &Remembered = &remembered;
-            let ground = Ground {
-                remembered: known,
-                walks: &walks,
-                highest: known.crowd.top(),
-            };
-            let surely = walks.lock(rt).follow(&ground, notes);
-            if surely == 0 {
-                break;
-            }
-            let answers = walk(
-                rt,
-                alloc,
-                &self.pool,
-                self.gate,
-                &remembered,
-                &ground,
-                surely,
-            )?;
-            notes.add_told(&answers)?;
-        }
+        notes.forget();
+        let remembered = Arc::try_clone(&notes.remembered)?;
+        let known: &Remembered = &remembered;
+        let count = known.bundles.len().saturating_mul(EACH).min(QUESTIONS);
+        let rehearsal = Mutex::new(Rehearsal::at(alloc, known, course, count)?);
+        let ground = Ground {
+            remembered: known,
+            rehearsal: &rehearsal,
+        };
+        let answers = walk(
+            rt,
+            alloc,
+            &self.pool,
+            self.gate,
+            &remembered,
+            &ground,
+            count as u32,
+        )?;
+        notes.add_told(&answers)?;
         Ok(())
     }
 
@@ -139,6 +126,7 @@ impl PooledDemands<AnyGate<'_>> {
         rt: &R,
         alloc: Global,
         notes: &mut Notes,
+        course: &mut Option<Course>,
         section: SectionNo,
         limit: u32,
     ) -> Result<Walk, NoMemory>
@@ -167,7 +155,7 @@ impl PooledDemands<AnyGate<'_>> {
                 version: 0,
                 raised: Some((section, least)),
             };
-            let bundle = self.told_or_asked(rt, alloc, notes, inquiry)?;
+            let bundle = self.told_or_asked(rt, alloc, notes, course, inquiry)?;
             if !bundle.has(section) {
                 continue;
             }
@@ -188,12 +176,14 @@ impl PooledDemands<AnyGate<'_>> {
     }
 
     // What the student of an inquiry takes at the remembered prices with the raised one: noted, or
-    // asked in a round of its own, which is noted then.
+    // asked. Where it is not noted, the course is rehearsed first, once: what is asked next is noted
+    // then.
     fn told_or_asked<R: Threads + Wait + Sync>(
         &self,
         rt: &R,
         alloc: Global,
         notes: &mut Notes,
+        course: &mut Option<Course>,
         inquiry: Inquiry,
     ) -> Result<Bundle, NoMemory>
         requires inquiry { IsInquiry (crowd_of (arc_value notes.old.remembered)) 1 inquiry }
@@ -206,6 +196,30 @@ impl PooledDemands<AnyGate<'_>> {
         if let Some(bundle) = notes.told_at(inquiry) {
             return Ok(bundle);
         }
+        if let Some(course) = course.take() {
+            self.rehearse(rt, alloc, notes, course)?;
+            if let Some(bundle) = notes.told_at(inquiry) {
+                return Ok(bundle);
+            }
+        }
+        self.asked_alone(rt, alloc, notes, inquiry)
+    }
+
+    // What the student of an inquiry takes there, asked in a round of its own, and noted.
+    fn asked_alone<R: Threads + Wait + Sync>(
+        &self,
+        rt: &R,
+        alloc: Global,
+        notes: &mut Notes,
+        inquiry: Inquiry,
+    ) -> Result<Bundle, NoMemory>
+        requires { IsInquiry (crowd_of (arc_value notes.old.remembered)) 1 inquiry }
+        ensures same { IfOk result (λ bundle. notes.new.remembered ≡ notes.old.remembered) }
+        ensures taken { IfOk result
+            (λ bundle. sections_of bundle
+            ≡ taken_at (crowd_of (arc_value notes.old.remembered))
+            ((arc_value notes.old.remembered).prices.items ∷ []) inquiry) }
+    {
         let list = vec![in alloc; inquiry; 1]?;
         let inquiries = at_remembered(alloc, &notes.remembered, list)?;
         let found = ask(rt, alloc, &self.pool, self.gate, inquiries)?;

@@ -80,6 +80,7 @@ fn two_workers_meet_in_the_elimination(rt: HostRuntime) -> Result<(), Fail> {
     let gate = LaterGate::open();
     let crowd = Arc::new(alloc, crowd)?;
     let mut demands = PooledDemands::make(Pool::reserve(alloc, 2)?, crowd, &gate);
+    demands.tell_seats(alloc, &[1])?;
     demands.bundles(&rt, alloc, &prices, &[])?;
     gate.shut();
     let settled = settle(&rt, alloc, &mut demands, &[1], &prices)?;

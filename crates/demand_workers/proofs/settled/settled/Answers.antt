@@ -11,7 +11,7 @@ use Rattle.demand_workers.specs.declared.remembered.Remembered.{Remembered}
 use Rattle.demand_workers.specs.Notes.{AreKept}
 use Rattle.demand_workers.specs.Views.{crowd_of, price_before}
 use Rattle.demand_workers.proofs.HoldersLeave.{raised_prices}
-use Rattle.demand_workers.proofs.Noting.{kept_raised, lacking_stays}
+use Rattle.demand_workers.proofs.Noting.{lacking_stays}
 use Rattle.demand_workers.proofs.settled.settled.Goals as goal
 
 -- the section of a walk has a remembered price
@@ -46,12 +46,8 @@ returns-then-not-has c =
 
 pub told-requires : goal.told-requires
 told-requires c =
-    let walk = c.args.walk.now in
-    let remembered = arc_value walk.remembered in
-    subst (λ (r : Remembered). AreKept (crowd_of r) c.args.prices.now c.args.notes.now.list.items) (sym c.deref-remembered.ensures)
-    (kept_raised (crowd_of remembered) remembered.prices.items c.args.prices.now walk.section.0 walk.least c.args.notes.now.list.items (there walk) walk.low
-    c.requires.raised
-    (subst (λ (r : Remembered). AreKept (crowd_of r) r.prices.items c.args.notes.now.list.items) c.requires.same c.args.notes.now.noted))
+    subst (λ (r : Remembered). AreKept (crowd_of r) c.args.notes.now.list.items) (c.requires.same ∙ sym c.deref-remembered.ensures)
+    c.args.notes.now.noted
 
 pub returns-in-Some : goal.returns-in-Some
 returns-in-Some c =

@@ -8,7 +8,7 @@ use Rattle.demand_workers.proofs.notes.Notes.told.Goals as goal
 pub serves-requires : goal.serves-requires
 serves-requires c =
     let low : c.loop.next < length c.args.self.now.list.items = search rules in
-    subst (λ (k : Kept). IsNoted (crowd_of c.args.question.now.remembered.now) c.args.question.now.prices.now k.note) (sym c.index-kept.ensures)
+    subst (λ (k : Kept). IsNoted (crowd_of c.args.question.now.remembered.now) k.note) (sym c.index-kept.ensures)
     (c.requires c.loop.next c.index-kept.result.now low)
 
 pub returns-then-serves : goal.returns-then-serves

@@ -26,7 +26,7 @@ returns-clause-value g c =
     let least = c.in_ok-walk.walk.least in
     let there : IsLeastFrom (price_before remembered pair.0.0) (crowd_of remembered) (price_before remembered) pair.0.0 pair.1 least.0 =
     subst (λ r. IsLeastFrom (price_before (arc_value r) pair.0.0) (crowd_of (arc_value r)) (price_before (arc_value r)) pair.0.0 pair.1 least.0)
-    (c.in_ok-foresee.ensures ∙ c.at-notes.ensures) c.in_ok-walk.ensures.least in
+    c.notes_with-notes.ensures.remembered c.in_ok-walk.ensures.least in
     least_one (data_of (arc_value c.args.self.now.crowd)) (price_in prices) c.args.pairs.now (record { 0 = 0 }, 0) c.in_ok-found-2.found.items least
     (search rules) (c.in_ok-found-2.ensures.items_if_clones_equal (λ y is. is))
     (subst (λ (w : CrowdData). IsLeastFrom (price_in prices pair.0.0) w (price_in prices) pair.0.0 pair.1 least.0) c.in_ok-remembered.ensures.crowd

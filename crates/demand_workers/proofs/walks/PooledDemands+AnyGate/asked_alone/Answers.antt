@@ -4,7 +4,7 @@ use Rattle.demand_api.specs.Crowds.{CrowdData}
 use Rattle.demand_workers.specs.declared.inquiry.Inquiry.{Inquiry}
 use Rattle.demand_workers.specs.Inquiring.{IsInquiry}
 use Rattle.demand_workers.specs.Views.{crowd_of}
-use Rattle.demand_workers.proofs.walks.PooledDemands+AnyGate.told_or_asked.Goals as goal
+use Rattle.demand_workers.proofs.walks.PooledDemands+AnyGate.asked_alone.Goals as goal
 
 only : (crowd : CrowdData) (inquiry : Inquiry) → IsInquiry crowd 1 inquiry → All (IsInquiry crowd 1) (inquiry ∷ [])
 only crowd inquiry is zero d low = is
@@ -14,4 +14,4 @@ pub at_remembered-requires : goal.at_remembered-requires
 at_remembered-requires g c =
     let remembered = arc_value c.args.notes.now.remembered in
     subst (All (IsInquiry (crowd_of remembered) 1)) (sym (c.in_ok-list.ensures.items_if_clones_equal (λ y is. is)))
-    (only (crowd_of remembered) c.args.inquiry c.requires.inquiry)
+    (only (crowd_of remembered) c.args.inquiry c.requires)
