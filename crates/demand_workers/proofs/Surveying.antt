@@ -1,21 +1,18 @@
 -- What a survey of versions settles.
-use Rattle.std.proofs.Common.{ℕ, ◌≡◌, ◌≢◌, ◌<◌, ◌≤◌, ◌+◌, ◌∙◌, ◌++◌, List, [], ◌∷◌, None, Some, All, length, slice_index_or, slice_set, ap, sym, subst, arith, inl, inr}
+use Rattle.std.proofs.Common.{ℕ, ◌≡◌, ◌≢◌, ◌<◌, ◌≤◌, ◌+◌, ◌∙◌, ◌++◌, List, [], ◌∷◌, None, Some, All, length, slice_index_or, sym, subst, arith, inl, inr}
 use Rattle.std.proofs.lemmas.Bool.{cases_order}
-use Rattle.std.proofs.lemmas.List.{get_or_append_left, get_or-append-add, get_or-set_same, get_or-set_other, length-append}
+use Rattle.std.proofs.lemmas.List.{get_or_append_left, get_or-append-add, length-append}
 use Rattle.std.proofs.lemmas.List.Elements.{All-push}
 use Rattle.market_units.specs.declared.units.SectionNo.{SectionNo}
 use Rattle.market_units.specs.declared.units.Tokens.{Tokens}
 use Rattle.bundle_rules.specs.declared.bundle.Bundle.{Bundle}
 use Rattle.bundle_rules.specs.declared.menu.Rated.{Rated}
-use Rattle.bundle_rules.specs.Bundles.{sections_of}
-use Rattle.bundle_rules.specs.Demand.{price_in}
-use Rattle.demand_api.specs.Crowds.{CrowdData, demand_of, top}
+use Rattle.demand_api.specs.Crowds.{CrowdData, top}
 use Rattle.demand_workers.specs.declared.inquiry.Inquiry.{Inquiry}
 use Rattle.demand_workers.specs.Asked.{no_inquiry}
-use Rattle.demand_workers.specs.Inquiring.{CanBeRaised, IsInquiry, taken_at, with_raised}
-use Rattle.demand_workers.specs.Remembered.{AreTaken, AreWithin, IsKept, NoneIsCheaper}
+use Rattle.demand_workers.specs.Inquiring.{CanBeRaised, IsInquiry}
+use Rattle.demand_workers.specs.Remembered.{AreWithin, IsKept, NoneIsCheaper}
 use Rattle.demand_workers.specs.Surveys.{IsLeftOut, AreOthersKept, IsSurvey}
-use Rattle.demand_workers.proofs.Noting.{item_there}
 
 -- where nothing stands between, no section became cheaper
 pub none_between : (places : List Rated) (before after : List Tokens) (first past : ℕ) → AreWithin first past before after → past ≤ first
@@ -49,10 +46,6 @@ left_out_after v s first more left k from low same =
 -- who of the first students is not asked at the version takes what is remembered
 abbrev pub AreFirstKept : CrowdData → List Bundle → List Tokens → ℕ → ℕ → List Inquiry → Type 0
 AreFirstKept crowd bundles prices v n inquiries = (s : ℕ) → s < n → IsLeftOut 0 v s inquiries → IsKept crowd prices bundles s
-
-pub none_first : (crowd : CrowdData) (bundles : List Bundle) (prices : List Tokens) (v : ℕ) (inquiries : List Inquiry)
-    → AreFirstKept crowd bundles prices v 0 inquiries
-none_first crowd bundles prices v inquiries s low left = absurd (omega (arith, low))
 
 -- one student more, who takes what is remembered
 pub first_kept : (crowd : CrowdData) (bundles : List Bundle) (prices : List Tokens) (v n : ℕ) (inquiries : List Inquiry)
@@ -116,83 +109,9 @@ module _ (crowd : CrowdData) (bundles : List Bundle) (versions : List (List Toke
 abbrev pub AreWritten : CrowdData → List Tokens → ℕ → ℕ → ℕ → List Inquiry → List Bundle → Type 0
 AreWritten crowd prices v n place inquiries bundles = (s : ℕ) → s < n → IsLeftOut place v s inquiries → IsKept crowd prices bundles s
 
--- an inquiry of another version
-pub written_other : (crowd : CrowdData) (prices : List Tokens) (v n i : ℕ) (inquiries : List Inquiry) (bundles : List Bundle) (inquiry : Inquiry)
-    → AreWritten crowd prices v n i inquiries bundles → i < length inquiries → inquiry ≡ slice_index_or inquiries i inquiry → inquiry.version ≢ v
-    → AreWritten crowd prices v n (i + 1) inquiries bundles
-written_other crowd prices v n i inquiries bundles inquiry are within is other s low left = are s low (λ k from below at. elim (cases_order k i) [
-  | inl same ↦
-      let there : slice_index_or inquiries k no_inquiry ≡ inquiry =
-      ap (λ m. slice_index_or inquiries m no_inquiry) same ∙ item_there inquiries i no_inquiry inquiry within ∙ sym is in
-      absurd (other (ap (λ (q : Inquiry). q.version) (sym there) ∙ at))
-  | inr (inl less) ↦ absurd (omega (arith, less, from))
-  | inr (inr more) ↦ left k (let goal : i + 1 ≤ k = omega (arith, more) in goal) below at
-])
-
--- an inquiry of the version, whose bundle is written
-pub written_one : (crowd : CrowdData) (prices : List Tokens) (v n i : ℕ) (inquiries : List Inquiry) (bundles : List Bundle) (inquiry : Inquiry)
-    (bundle : Bundle)
-    → AreWritten crowd prices v n i inquiries bundles → i < length inquiries → inquiry ≡ slice_index_or inquiries i inquiry
-    → inquiry.student.0 < length bundles
-    → sections_of bundle ≡ demand_of crowd (price_in prices) inquiry.student.0
-    → AreWritten crowd prices v n (i + 1) inquiries (slice_set bundles inquiry.student.0 bundle)
-written_one crowd prices v n i inquiries bundles inquiry bundle are within is listed found s low left d = elim (cases_order s inquiry.student.0) [
-  | inl same ↦ rw same (ap sections_of (get_or-set_same bundles inquiry.student.0 bundle d listed) ∙ found)
-  | inr (inl less) ↦ other (omega (arith, less))
-  | inr (inr more) ↦ other (omega (arith, more))
-]
-  where
-    other : s ≢ inquiry.student.0 → sections_of (slice_index_or (slice_set bundles inquiry.student.0 bundle) s d) ≡ demand_of crowd (price_in prices) s
-    other apart =
-        ap sections_of (get_or-set_other bundles inquiry.student.0 s bundle d apart)
-        ∙ are s low (λ k from below at. elim (cases_order k i) [
-          | inl same ↦
-              let there : slice_index_or inquiries k no_inquiry ≡ inquiry =
-              ap (λ m. slice_index_or inquiries m no_inquiry) same ∙ item_there inquiries i no_inquiry inquiry within ∙ sym is in
-              λ is_it. apart (sym is_it ∙ ap (λ (q : Inquiry). q.student.0) there)
-          | inr (inl less) ↦ absurd (omega (arith, less, from))
-          | inr (inr more) ↦ left k (let goal : i + 1 ≤ k = omega (arith, more) in goal) below at
-        ]) d
-
--- what was found for an inquiry at a version as it is
-pub found_plain : (crowd : CrowdData) (versions : List (List Tokens)) (v : ℕ) (inquiry : Inquiry) (bundle : List ℕ) → inquiry.raised ≡ None
-    → inquiry.version ≡ v → bundle ≡ taken_at crowd versions inquiry
-    → bundle ≡ demand_of crowd (price_in (slice_index_or versions v [])) inquiry.student.0
-found_plain crowd versions v inquiry bundle plain at found =
-    found ∙ ap (λ r. demand_of crowd (price_in (with_raised r (slice_index_or versions inquiry.version []))) inquiry.student.0) plain
-    ∙ ap (λ w. demand_of crowd (price_in (slice_index_or versions w [])) inquiry.student.0) at
-
--- past the last inquiry all bundles are what the students take
-pub written_all : (crowd : CrowdData) (prices : List Tokens) (v n i : ℕ) (inquiries : List Inquiry) (bundles : List Bundle)
-    → AreWritten crowd prices v n i inquiries bundles → length inquiries ≤ i → length bundles ≤ n → AreTaken crowd prices bundles
-written_all crowd prices v n i inquiries bundles are past few s d low =
-    are s (let goal : s < n = omega (arith, low, few) in goal) (λ k from below at. absurd (omega (arith, past, from, below))) d
-
 -- ---- inquiries with a told price
 
 -- a told price that can be asked
 pub can_be_raised : (crowd : CrowdData) (raised : SectionNo × Tokens) → raised.0.0 < crowd.sections → raised.1.0 ≤ top crowd → CanBeRaised crowd (Some raised)
 can_be_raised crowd raised low high told is =
     subst (λ (r : SectionNo × Tokens). (r.0.0 < crowd.sections) × (r.1.0 ≤ top crowd)) (let e : raised ≡ told = cc in e) (low, high)
-
--- what is taken at the one version with a told price
-pub taken_raised : (crowd : CrowdData) (prices : List Tokens) (inquiry : Inquiry) (raised : SectionNo × Tokens)
-    → IsInquiry crowd 1 inquiry → inquiry.raised ≡ Some raised
-    → taken_at crowd (prices ∷ []) inquiry ≡ demand_of crowd (price_in (slice_set prices raised.0.0 raised.1)) inquiry.student.0
-taken_raised crowd prices inquiry raised its is =
-    let v : ℕ = inquiry.version in
-    let low : v < 1 = its.its_version in
-    let first : v ≡ 0 = omega arith in
-    ap (λ r. demand_of crowd (price_in (with_raised r (slice_index_or (prices ∷ []) inquiry.version []))) inquiry.student.0) is
-    ∙ ap (λ w. demand_of crowd (price_in (slice_set (slice_index_or (prices ∷ []) w []) raised.0.0 raised.1)) inquiry.student.0) first
-
--- one student more, whose bundle is written
-pub first_written : (crowd : CrowdData) (bundles : List Bundle) (prices : List Tokens) (v n : ℕ) (inquiries : List Inquiry) (bundle : Bundle)
-    → AreFirstKept crowd bundles prices v n inquiries → n < length bundles → sections_of bundle ≡ demand_of crowd (price_in prices) n
-    → AreFirstKept crowd (slice_set bundles n bundle) prices v (n + 1) inquiries
-first_written crowd bundles prices v n inquiries bundle kept inside is s low left d = elim (cases_order s n) [
-  | inl same ↦ rw same (ap sections_of (get_or-set_same bundles n bundle d inside) ∙ is)
-  | inr (inl less) ↦
-      let apart : s ≢ n = omega (arith, less) in ap sections_of (get_or-set_other bundles n s bundle d apart) ∙ kept s less left d
-  | inr (inr more) ↦ absurd (omega (arith, low, more))
-]

@@ -19,7 +19,8 @@ abbrev pub places_of : CrowdData → ℕ → List Rated
 places_of crowd i =
     slice_index_or (map (λ (student : Student). student.menu.places) crowd.students) i []
 
--- the price of a section among prices in the order of these places, 0 where it is at none of them
+-- the price of a section among prices in the order of these places, 0 where it is at none of them,
+-- or the prices end before it
 abbrev pub price_among : List Rated → List Tokens → ℕ → ℕ
 price_among [] prices s = 0
 price_among (rated ∷ places) [] s = 0
@@ -30,8 +31,8 @@ price_among (rated ∷ places) (price ∷ prices) s =
 abbrev pub price_noted : CrowdData → Note → ℕ → ℕ
 price_noted crowd note = price_among (places_of crowd note.student.0) note.prices
 
--- The student of a note takes its bundle wherever no section costs less than by the note, and the
--- bundle is affordable
+-- The student of a note is of the crowd, its bundle has sections of the crowd, and the student takes
+-- it wherever no section costs less than by the note and the bundle is affordable
 pub record IsNoted (crowd : CrowdData) (note : Note) : Type 0 where
   pub student : note.student.0 < length crowd.students
   pub within : (s : ℕ) → has (sections_of note.bundle) s ≡ true → s < crowd.sections

@@ -19,12 +19,13 @@ is_right_note crowd note =
     && same_sections (sections_of note.bundle)
     (demand_of crowd (price_noted crowd note) note.student.0)
 
--- what may be told of a student on a walk: a right note, or that nobody is left to ask
+-- what may be told of a student on a walk: a right note; or that nobody is left to ask, or nobody
+-- was found for so long, of which nothing is claimed
 abbrev pub may_be_told : CrowdData → Told → Bool
 may_be_told crowd Gone = true
 may_be_told crowd (Noted note) = is_right_note crowd note
 
--- whether an answer was posted that says that nobody is left to ask
+-- whether an answer was posted that says that nobody is left to ask, or was found for so long
 abbrev pub says_gone : Option Told → Bool
 says_gone None = false
 says_gone (Some Gone) = true
@@ -36,7 +37,7 @@ are_gone [] = false
 are_gone (answer ∷ answers) = says_gone answer || are_gone answers
 
 -- So many tasks, to each of which whoever is next on the walks is asked. All are over once it was
--- posted that nobody is left to ask
+-- posted that nobody is left to ask, or was found for so long
 abbrev pub walk_rules : Rules WalkTerms Told
 walk_rules =
     record {
@@ -46,6 +47,6 @@ walk_rules =
       tally = λ terms answers task. 0;
     }
 
--- so many tasks on walks from what is remembered
+-- so many tasks on walks of the crowd of which something is remembered
 abbrev pub walk_terms : Remembered → ℕ → WalkTerms
 walk_terms remembered count = record { crowd = crowd_of remembered; count = count }

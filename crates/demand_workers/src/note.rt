@@ -15,12 +15,13 @@ pub struct Note {
     pub ghost whole: { length prices ≡ MAX_RATINGS },
 }
 
-/// What is told of a walk: a note of whoever was asked on it, or that nobody is left to ask.
+/// What is told of walks: a note of whoever was asked on them, or that nobody is left to ask, or was
+/// found for so long.
 #[derive(Clone, Copy)]
 pub enum Told {
     /// What the student that was asked takes.
     Noted(Note),
-    /// Nobody is left to ask.
+    /// Nobody is left to ask, or nobody was found for so long.
     Gone,
 }
 

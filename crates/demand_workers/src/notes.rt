@@ -1,5 +1,5 @@
 // What is noted of students who were asked at raised prices, and what of it serves at others.
-ghost use Rattle.std.specs.Prelude.{◌≡◌, ◌<◌, ◌≤◌, ℕ, [], ◌∷◌, All, IfOk, IfSome, IsTrue, length, true};
+ghost use Rattle.std.specs.Prelude.{◌≡◌, ◌<◌, ◌≤◌, ℕ, [], ◌∷◌, All, IfOk, IfSome, IsTrue, None, length, true};
 ghost use Rattle.std.specs.Arc.{arc_value};
 ghost use Rattle.bundle_rules.specs.{Bundles.sections_of, Demand.price_in};
 ghost use Rattle.demand_workers.specs.Answering.{answer_to};
@@ -23,14 +23,16 @@ use task_board::{Answers, Tasks};
 // No place in a list.
 const NOWHERE: usize = usize::MAX;
 
-// How many of a student's notes are looked at. Earlier ones seldom serve.
+// How many of a student's notes are looked at. The caller comes after a rehearsal, and needs the
+// earliest first.
 const LOOKS: usize = 256;
 
-// A call begins with fewer notes of earlier calls than this, or with none.
+// A call begins with fewer notes of earlier calls than this, or with none. Within a call there may be
+// more: one for each answer.
 const MOST: usize = 16_000;
 
-/// What is remembered of a crowd, and notes of its students, which hold at any prices. Those of one
-/// student are found from the latest to the earliest, without a look at the others.
+/// What is remembered of a crowd, and notes of its students, which do not depend on what is
+/// remembered. Those of one student are found from the latest to the earliest, without a look at the others.
 #[derive(Drop)]
 pub(crate) struct Notes {
     pub remembered: Arc<Remembered>,
@@ -58,8 +60,8 @@ impl Notes {
         notes
     }
 
-    // Something else is remembered of the crowd. Where notes are many they are forgotten: the latest
-    // serve most.
+    // Something else is remembered of the crowd. Where notes are many they are forgotten: a rehearsal
+    // notes anew.
     fn follow(&mut self, remembered: Arc<Remembered>)
         requires { crowd_of (arc_value self.old.remembered) ≡ crowd_of (arc_value remembered) }
         ensures { self.new.remembered ≡ remembered }
@@ -176,7 +178,9 @@ fn raised_note(remembered: &Remembered, inquiry: Inquiry, bundle: &Bundle) -> Op
     requires inquiry { IsInquiry (crowd_of remembered.now) 1 inquiry }
     requires taken { sections_of bundle.now
         ≡ taken_at (crowd_of remembered.now) (remembered.now.prices.items ∷ []) inquiry }
-    ensures { IfSome result (λ note. is_right_note (crowd_of remembered.now) note ≡ true) }
+    ensures none { result ≡ None → inquiry.raised ≡ None }
+    ensures right { IfSome result
+        (λ note. is_right_note (crowd_of remembered.now) note ≡ true) }
 {
     let mut room = [Tokens(0); ROOM];
     let Some(question) = raised_question(&mut room, remembered, inquiry) else {

@@ -15,7 +15,6 @@ use crate::answering::read_all;
 use crate::asking::ask;
 use crate::inquiry::Inquiries;
 use crate::notes::Notes;
-use crate::rehearsal::Course;
 use crate::remembered::{Remembered, are_same};
 use crate::round::{copies_of, work_and_close};
 use crate::survey::Survey;
@@ -37,10 +36,10 @@ use std::thread::Threads;
 /// each in a thread of its own where one can be started, or the first worker alone, in the caller's
 /// thread, where the inquiries are few. Where nothing is remembered, and in `exceeds`, each student
 /// is a task of a price board. Workers pass the gate before their first draw and after each post.
-/// Where holders have to be asked on walks to least prices, several workers rehearse these walks in
-/// one round, and where seats were told also those that an elimination goes from there: a task is
-/// whoever is next to leave. What is found is noted, and serves wherever no section of the student's
-/// menu costs less. Its one form is `PooledDemands<AnyGate>`, which `make` gives.
+/// Where holders have to be asked on walks to least prices, several workers rehearse in one round
+/// what comes: these walks, or, where seats were told and there is one pair, an elimination from
+/// there, if it begins with this pair. A task is whoever is next to leave. What is found is noted, and
+/// serves wherever no section of the student's menu costs less. Its one form is `PooledDemands<AnyGate>`, which `make` gives.
 #[derive(Drop)]
 pub struct PooledDemands<G> {
     pub(crate) crowd: Arc<Crowd>,
@@ -49,8 +48,8 @@ pub struct PooledDemands<G> {
     asked: u64,
     remembered: Option<Arc<Remembered>>,
     notes: Option<Notes>,
-    // How many seats each section has, where several workers ask ahead.
-    seats: Option<Vec<u16>>,
+    // How many seats each section has, where that was told, and there are several workers.
+    pub(crate) seats: Option<Vec<u16>>,
     ghost same: { IfSome remembered (λ memory. crowd_of (arc_value memory) ≡ data_of (arc_value crowd)) } by { Prim.hlevel (props, codes, rated.the_row.coded) },
     ghost noted: { IfSome notes (λ noted. crowd_of (arc_value noted.remembered) ≡ data_of (arc_value crowd)) } by { Prim.hlevel (props, codes, rated.the_row.coded) },
 }
@@ -243,21 +242,6 @@ impl<'g> PooledDemands<AnyGate<'g>> {
         Ok(memory)
     }
 
-    // What several workers rehearse for a call with these pairs.
-    fn course(
-        &self,
-        alloc: Global,
-        pairs: &[(SectionNo, u32)],
-    ) -> Result<Option<Course>, NoMemory> {
-        if self.pool.workers == 1 {
-            return Ok(None);
-        }
-        if let ([_], Some(seats)) = (pairs, &self.seats) {
-            return Ok(Some(Course::Elimination(seats.as_slice().to_vec(alloc)?)));
-        }
-        Ok(Some(Course::Pairs(pairs.to_vec(alloc)?)))
-    }
-
     // What was noted earlier, with what is remembered now. One worker keeps no notes of earlier calls,
     // since it asks nobody ahead.
     fn notes_with(&mut self, alloc: Global, remembered: Arc<Remembered>) -> Notes
@@ -266,10 +250,11 @@ impl<'g> PooledDemands<AnyGate<'g>> {
         ensures remembered { result.remembered ≡ remembered }
     {
         let earlier = self.notes.take();
+        let mut notes = Notes::at(alloc, earlier, remembered);
         if self.pool.workers == 1 {
-            return Notes::at(alloc, None, remembered);
+            notes.forget();
         }
-        Notes::at(alloc, earlier, remembered)
+        notes
     }
 
     // What is remembered; where nothing is, what each student takes at these prices, which then is
@@ -364,14 +349,14 @@ impl Demands for PooledDemands<AnyGate<'_>> {
     ) -> Result<Vec<Tokens>, NoMemory> {
         let remembered = self.recall(rt, alloc, prices)?;
         let mut notes = self.notes_with(alloc, remembered);
-        let mut course = self.course(alloc, pairs)?;
         let [(section, limit)] = pairs else {
-            let found = self.least_for_each(rt, alloc, &mut notes, &mut course, pairs)?;
+            let found = self.least_for_each(rt, alloc, &mut notes, pairs)?;
             self.notes = Some(notes);
             return Ok(found);
         };
         // What is taken at the least price is remembered: who raises the price asks for it next.
-        let walk = self.least_price(rt, alloc, &mut notes, &mut course, *section, *limit)?;
+        let mut ahead = self.ahead(alloc, pairs)?;
+        let walk = self.least_price(rt, alloc, &mut notes, &mut ahead, *section, *limit)?;
         let memory = self.raised_memory(rt, alloc, &notes, &walk)?;
         let found = vec![in alloc; walk.least; 1]?;
         self.remembered = Some(Arc::new(alloc, memory)?);

@@ -55,7 +55,9 @@ impl Question<'_> {
     /// A note that the student takes this bundle at these prices.
     pub(crate) fn note(&self, bundle: Bundle) -> Note
         requires { sections_of bundle ≡ answer_to self.now }
-        ensures { is_right_note (crowd_of self.now.remembered.now) result ≡ true }
+        ensures student { result.student ≡ self.now.student }
+        ensures bundle { result.bundle ≡ bundle }
+        ensures right { is_right_note (crowd_of self.now.remembered.now) result ≡ true }
     {
         let places = self.menu().places();
         let mut prices = [Tokens(0); MAX_RATINGS];

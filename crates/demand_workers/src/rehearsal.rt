@@ -1,4 +1,4 @@
-// An elimination that is rehearsed: its questions are asked before the caller comes to them.
+// Walks that are rehearsed: their questions are asked before the caller comes to them.
 use crate::heard::Heard;
 use crate::rehearsed_walk::{Leaver, RehearsedWalk};
 use crate::remembered::Remembered;
@@ -8,9 +8,9 @@ use bundle_rules::Bundle;
 use market_units::{MAX_SECTIONS, MAX_STUDENTS, NoMemory, SectionNo, StudentNo, Tokens};
 use std::alloc::Global;
 
-// On the walks of so many sections students are asked: those most over their seats. With more of
-// them workers wait less, and more is asked in vain.
-const WALKS: usize = 4;
+/// On the walks of so many sections students are asked: those most over their seats, or the first
+/// pairs left. With more of them workers wait less, and more is asked in vain.
+pub(crate) const WALKS: u16 = 8;
 
 // How many walks that are at their ends are gone at once. More are seldom.
 const STEPS: usize = 4096;
@@ -23,15 +23,15 @@ pub(crate) struct Next {
     pub held: Bundle,
 }
 
-/// Which walks are rehearsed, one after another.
+// Which walks are rehearsed, one after another.
 #[derive(Drop)]
-pub(crate) enum Course {
-    /// Those of an elimination over so many seats of each section. This repeats the rule of the
-    /// elimination, which is not this crate's, to guess what the caller will ask: the section most
-    /// over its seats, the lowest ordinal among equals, gets the least price at which half of those
-    /// who are too many stay, rounded down.
+enum Plan {
+    // Those of an elimination over so many seats of each section. This repeats the rule of the
+    // elimination, which is not this crate's, to guess what the caller will ask: the section most
+    // over its seats, the lowest ordinal among equals, gets the least price at which half of those
+    // who are too many stay, rounded down.
     Elimination(Vec<u16>),
-    /// Those to the least prices of pairs of a section and a limit, the other prices as remembered.
+    // Those to the least prices of pairs of a section and a limit, the other prices as remembered.
     Pairs(Vec<(SectionNo, u32)>),
 }
 
@@ -40,7 +40,7 @@ pub(crate) enum Course {
 /// beginning.
 #[derive(Drop)]
 pub(crate) struct Rehearsal {
-    course: Course,
+    plan: Plan,
     // So many walks are at their ends.
     gone: usize,
     stand: Stand,
@@ -53,35 +53,55 @@ pub(crate) struct Rehearsal {
 }
 
 impl Rehearsal {
-    /// A rehearsal of a course from what is remembered, of so many questions. The only error is that
-    /// memory was not given.
+    /// A rehearsal from what is remembered, with so many questions: of an elimination over so many
+    /// seats of each section, where it begins with the one pair, else of the walks of these pairs. The
+    /// only error is that memory was not given.
     pub(crate) fn at(
         alloc: Global,
         remembered: &Remembered,
-        course: Course,
+        seats: &[u16],
+        pairs: Vec<(SectionNo, u32)>,
         questions: usize,
     ) -> Result<Rehearsal, NoMemory> {
         let students = remembered.bundles.len();
-        let mut walks = Vec::with_capacity(alloc, WALKS)?;
+        let mut walks = Vec::with_capacity(alloc, usize::from(WALKS))?;
         for _ in 0..WALKS {
             let walk = RehearsedWalk::reserve(alloc, students)?;
             walks.push(walk)?;
         }
-        Ok(Rehearsal {
-            course,
+        let mut rehearsal = Rehearsal {
+            plan: Plan::Pairs(pairs),
             gone: 0,
             stand: Stand::at(alloc, remembered)?,
             heard: Heard::reserve(alloc, students, questions)?,
             walks,
             made: 0,
             asked: vec![in alloc; false; students]?,
-        })
+        };
+        if rehearsal.eliminates(seats) {
+            rehearsal.plan = Plan::Elimination(seats.to_vec(alloc)?);
+        }
+        Ok(rehearsal)
     }
 
-    /// Who is asked next, and into the room the prices at which: whom the caller will ask in any
-    /// case, on the walks of the sections most over. `None` where there is nobody.
+    // Whether an elimination over so many seats begins with the one pair.
+    fn eliminates(&self, seats: &[u16]) -> bool {
+        let Plan::Pairs(pairs) = &self.plan else {
+            return false;
+        };
+        let [(section, limit)] = pairs.as_slice() else {
+            return false;
+        };
+        match self.most_over(seats) {
+            Some(most) => most.0 == *section && most.1 == *limit,
+            None => false,
+        }
+    }
+
+    /// Who is asked next, and into the room the prices at which: who is asked in any case on one of
+    /// the walks. `None` where there is nobody.
     pub(crate) fn next(&mut self, room: &mut [Tokens; ROOM]) -> Option<Next> {
-        for place in 0..WALKS {
+        for place in 0..self.walks.len() {
             if place > self.made {
                 break;
             }
@@ -149,9 +169,9 @@ impl Rehearsal {
 
     // Of which section a walk is made next, and how many may stay in it.
     fn upcoming(&self) -> Option<(SectionNo, u32)> {
-        match &self.course {
-            Course::Elimination(seats) => self.most_over(seats),
-            Course::Pairs(pairs) => {
+        match &self.plan {
+            Plan::Elimination(seats) => self.most_over(seats),
+            Plan::Pairs(pairs) => {
                 let pair = pairs.get(self.gone.saturating_add(self.made))?;
                 Some(*pair)
             }
@@ -193,9 +213,9 @@ impl Rehearsal {
     fn end(&mut self, raise: Raise) {
         self.made = 0;
         self.gone = self.gone.saturating_add(1);
-        match self.course {
-            Course::Elimination(_) => self.stand_at(raise),
-            Course::Pairs(_) => {}
+        match self.plan {
+            Plan::Elimination(_) => self.stand_at(raise),
+            Plan::Pairs(_) => {}
         }
     }
 

@@ -154,7 +154,7 @@ impl RehearsedWalk {
         }
     }
 
-    // Who waits at this place is the last to be taken out: it stands where those that wait end.
+    // Takes out who waits at this place: it then stands first of those that are out.
     fn take_out(&mut self, place: usize) {
         self.swap(place, self.waiting().saturating_sub(1));
         self.out = self.out.saturating_add(1);

@@ -1,12 +1,12 @@
-// Where a rehearsed elimination stands.
+// Where a rehearsal stands.
 use crate::remembered::Remembered;
 use bundle_rules::Bundle;
 use demand_api::Crowd;
-use market_units::{NoMemory, SectionNo, StudentNo, Tokens};
+use market_units::{MAX_STUDENTS, NoMemory, SectionNo, StudentNo, Tokens};
 use std::alloc::Global;
 
-// Words of 64 bits, with a bit for each of 2,000 students.
-const WORDS: u16 = 32;
+// Words of 64 bits, with a bit for each student.
+const WORDS: u16 = (MAX_STUDENTS + 63) / 64;
 
 /// A section, and the price that is tried for it, the others as they stand.
 #[derive(Clone, Copy)]
@@ -45,11 +45,6 @@ impl Stand {
             student = StudentNo(student.0.saturating_add(1));
         }
         Ok(stand)
-    }
-
-    /// The prices as they stand.
-    pub(crate) fn prices(&self) -> &[Tokens] {
-        &self.prices
     }
 
     /// What the student takes, as it stands.

@@ -21,13 +21,14 @@ pub(crate) trait Asks {
     /// The crowd whose students are asked.
     ghost crowd: { Self → CrowdData };
 
-    /// A note of what the student takes that is next, asked; or that nobody is left to ask.
+    /// Asks who is next: a note of what it takes, or that nobody is left to ask, or was found for so
+    /// long.
     fn tell_next<R: Wait>(&self, rt: &R, workspace: &mut Workspace) -> Told
         ensures { may_be_told (crowd self.now) result ≡ true };
 }
 
-/// Draws one task after another, and asks whoever is next, until nobody is left. The worker passes
-/// the gate before its first draw and after each of its posts.
+/// Draws one task after another, and asks whoever is next, until nobody is left or was found. The
+/// worker passes the gate before its first draw and after each of its posts.
 pub(crate) fn walk_drawn<R: Wait, A: Asks>(
     rt: &R,
     board: &Board<WalkTasks>,

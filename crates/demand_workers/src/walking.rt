@@ -6,6 +6,7 @@ ghost use Rattle.demand_workers.specs.{Views.crowd_of, Walks.walk_rules};
 
 use crate::ground::Ground;
 use crate::pool::Pool;
+use crate::rehearsal::WALKS;
 use crate::remembered::Remembered;
 use crate::walk_tasks::WalkTasks;
 use crate::walker::{Asks, walk_drawn};
@@ -18,9 +19,10 @@ use std::thread;
 use std::thread::Threads;
 use task_board::{Answers, Board, BoardSeat};
 
-/// Asks whoever is next until nobody is left, or so many were asked, by all workers of a pool. All
-/// memory is taken before the first worker starts, and the only error is that it was not given.
-pub(crate) fn walk<R: Threads + Wait + Sync>(
+/// Asks whoever is next until nobody is left, or nobody was found for so long, or so many were asked:
+/// by a worker of a pool for each walk that is looked at, or by all where they are fewer. All memory
+/// is taken before the first worker starts, and the only error is that it was not given.
+pub(crate) fn rehearse_by_all<R: Threads + Wait + Sync>(
     rt: &R,
     alloc: Global,
     pool: &Pool,
@@ -34,13 +36,13 @@ pub(crate) fn walk<R: Threads + Wait + Sync>(
         (λ answers. answers.terms.crowd ≡ crowd_of ground.now.remembered.now) }
 {
     let tasks = WalkTasks::new(Arc::try_clone(remembered)?, count);
-    let (board, seats) = Board::start(alloc, tasks, pool.workers)?;
-    Ok(walk_and_close(rt, board, seats, pool.workspaces(), ground, gate))
+    let (board, seats) = Board::start(alloc, tasks, pool.workers.min(WALKS))?;
+    Ok(rehearse_and_close(rt, board, seats, pool.workspaces(), ground, gate))
 }
 
 // From the start of the first worker to the answers: it is given no allocator and has no error, so
 // no memory is taken meanwhile.
-fn walk_and_close<R: Threads + Wait + Sync, A: Asks + Sync>(
+fn rehearse_and_close<R: Threads + Wait + Sync, A: Asks + Sync>(
     rt: &R,
     board: Board<WalkTasks>,
     mut seats: Vec<BoardSeat<WalkTasks>>,

@@ -1,4 +1,4 @@
-// Walks to least prices, over rounds of inquiries.
+// Walks to least prices, by what is noted, rehearsed or asked.
 ghost use Rattle.std.specs.Prelude.{◌≡◌, ◌<◌, [], ◌∷◌, All, IfOk};
 ghost use Rattle.std.specs.Arc.{arc_value};
 ghost use Rattle.bundle_rules.specs.Bundles.{sections_of};
@@ -13,24 +13,18 @@ use crate::inquiry::{Inquiries, Inquiry};
 use crate::leaving::{Walk, holder_of, holders_of};
 use crate::notes::Notes;
 use crate::question::Question;
-use crate::rehearsal::{Course, Rehearsal};
+use crate::rehearsal::Rehearsal;
 use crate::remembered::Remembered;
 use crate::settled::settled;
 use crate::trial::{ROOM, raised_prices};
 use crate::unsettled::write_found;
-use crate::walking::walk;
+use crate::walking::rehearse_by_all;
 use bundle_rules::Bundle;
 use market_edge::AnyGate;
-use market_units::{MAX_PRICE, NoMemory, SectionNo, StudentNo, Tokens};
+use market_units::{MAX_PRICE, MAX_STUDENTS, NoMemory, SectionNo, StudentNo, Tokens};
 use std::alloc::Global;
 use std::sync::{Arc, Mutex, Wait};
 use std::thread::Threads;
-
-// So many students are asked in one rehearsal at most, and so often each of them on the average: as
-// long as it goes on, no thread has to be started.
-const QUESTIONS: usize = 4096;
-
-const EACH: usize = 4;
 
 // These inquiries at the remembered prices.
 fn at_remembered(
@@ -65,7 +59,6 @@ impl PooledDemands<AnyGate<'_>> {
         rt: &R,
         alloc: Global,
         notes: &mut Notes,
-        course: &mut Option<Course>,
         pairs: &[(SectionNo, u32)],
     ) -> Result<Vec<Tokens>, NoMemory>
         requires { All
@@ -79,33 +72,53 @@ impl PooledDemands<AnyGate<'_>> {
         let mut found = Vec::new(alloc);
         for place in 0..pairs.len() {
             let (section, limit) = pairs[place];
-            let walk = self.least_price(rt, alloc, notes, course, section, limit)?;
+            let mut ahead = self.ahead(alloc, &pairs[place..])?;
+            let walk = self.least_price(rt, alloc, notes, &mut ahead, section, limit)?;
             found.push(walk.least)?;
         }
         Ok(found)
     }
 
-    // Asks ahead, by all workers, what will be asked on the walks of a course from what is
-    // remembered. What is found is noted, and what was noted is forgotten.
+    /// The pairs whose walks are rehearsed where somebody has to be asked on the first of them. `None`
+    /// for one worker, which asks nobody ahead. The only error is that memory was not given.
+    pub(crate) fn ahead(
+        &self,
+        alloc: Global,
+        pairs: &[(SectionNo, u32)],
+    ) -> Result<Option<Vec<(SectionNo, u32)>>, NoMemory> {
+        if self.pool.workers == 1 {
+            return Ok(None);
+        }
+        Ok(Some(pairs.to_vec(alloc)?))
+    }
+
+    // Asks ahead, by several workers, what will be asked on the walks of these pairs, or in the
+    // elimination that begins with the one pair, from what is remembered: as many students as there
+    // are, who is asked twice counted twice. So no thread has to be started meanwhile, and the board
+    // reserves for no more answers. What is found is noted, and what was noted is forgotten.
     fn rehearse<R: Threads + Wait + Sync>(
         &self,
         rt: &R,
         alloc: Global,
         notes: &mut Notes,
-        course: Course,
+        pairs: Vec<(SectionNo, u32)>,
     ) -> Result<(), NoMemory>
         ensures { IfOk result (λ done. notes.new.remembered ≡ notes.old.remembered) }
     {
         notes.forget();
         let remembered = Arc::try_clone(&notes.remembered)?;
         let known: &Remembered = &remembered;
-        let count = known.bundles.len().saturating_mul(EACH).min(QUESTIONS);
-        let rehearsal = Mutex::new(Rehearsal::at(alloc, known, course, count)?);
+        let seats: &[u16] = match &self.seats {
+            Some(seats) => seats,
+            None => &[],
+        };
+        let count = known.bundles.len().min(usize::from(MAX_STUDENTS));
+        let rehearsal = Mutex::new(Rehearsal::at(alloc, known, seats, pairs, count)?);
         let ground = Ground {
             remembered: known,
             rehearsal: &rehearsal,
         };
-        let answers = walk(
+        let answers = rehearse_by_all(
             rt,
             alloc,
             &self.pool,
@@ -120,13 +133,14 @@ impl PooledDemands<AnyGate<'_>> {
 
     /// The walk to the least price of the section for one limit. As long as there are too many
     /// holders, the first of them to leave is asked at the price from which it does not keep what
-    /// it holds: it holds the section from then on up to another price, or leaves.
+    /// it holds: it holds the section from then on up to another price, or leaves. Before the first
+    /// is asked the walks ahead are rehearsed, if there are any.
     pub(crate) fn least_price<R: Threads + Wait + Sync>(
         &self,
         rt: &R,
         alloc: Global,
         notes: &mut Notes,
-        course: &mut Option<Course>,
+        ahead: &mut Option<Vec<(SectionNo, u32)>>,
         section: SectionNo,
         limit: u32,
     ) -> Result<Walk, NoMemory>
@@ -155,7 +169,7 @@ impl PooledDemands<AnyGate<'_>> {
                 version: 0,
                 raised: Some((section, least)),
             };
-            let bundle = self.told_or_asked(rt, alloc, notes, course, inquiry)?;
+            let bundle = self.told_or_asked(rt, alloc, notes, ahead, inquiry)?;
             if !bundle.has(section) {
                 continue;
             }
@@ -176,14 +190,14 @@ impl PooledDemands<AnyGate<'_>> {
     }
 
     // What the student of an inquiry takes at the remembered prices with the raised one: noted, or
-    // asked. Where it is not noted, the course is rehearsed first, once: what is asked next is noted
-    // then.
+    // asked. Where it is not noted, the walks ahead are rehearsed first, once: what is asked next is
+    // noted then, and what is left after that is asked alone.
     fn told_or_asked<R: Threads + Wait + Sync>(
         &self,
         rt: &R,
         alloc: Global,
         notes: &mut Notes,
-        course: &mut Option<Course>,
+        ahead: &mut Option<Vec<(SectionNo, u32)>>,
         inquiry: Inquiry,
     ) -> Result<Bundle, NoMemory>
         requires inquiry { IsInquiry (crowd_of (arc_value notes.old.remembered)) 1 inquiry }
@@ -196,8 +210,8 @@ impl PooledDemands<AnyGate<'_>> {
         if let Some(bundle) = notes.told_at(inquiry) {
             return Ok(bundle);
         }
-        if let Some(course) = course.take() {
-            self.rehearse(rt, alloc, notes, course)?;
+        if let Some(pairs) = ahead.take() {
+            self.rehearse(rt, alloc, notes, pairs)?;
             if let Some(bundle) = notes.told_at(inquiry) {
                 return Ok(bundle);
             }

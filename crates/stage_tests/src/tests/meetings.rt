@@ -14,7 +14,7 @@ use std::sync::atomic::{AtomicU64, Ordering};
 use std::test::Fail;
 use tabu_search::{SearchEnd, search};
 
-// So many that a round of half of them is worth the start of a thread.
+// So many that in the search a round of half of them is worth the start of a thread.
 const STUDENTS: u16 = 300;
 
 /// Lets everything pass until it is shut; then workers meet at it.

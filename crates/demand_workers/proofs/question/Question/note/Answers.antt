@@ -34,8 +34,8 @@ loop-place-preserved c =
           question.listed (c.menu.ensures c.menu.result.now) c.places-places.ensures.value question.priced.same c.loop-place.place _ low));
     }
 
-pub returns : goal.returns
-returns c =
+pub returns-clause-right : goal.returns-clause-right
+returns-clause-right c =
     let question = c.args.self.now in
     let note : Note =
     record { student = question.student; bundle = c.args.bundle; prices = c.loop-place.prices; whole = c.loop-place.invariant.len } in
