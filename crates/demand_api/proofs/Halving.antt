@@ -13,15 +13,15 @@ use Rattle.bundle_rules.specs.Demand.{price_in}
 use Rattle.demand_api.specs.Crowds.{CrowdData, top, count}
 use Rattle.demand_api.specs.Prices.{with_price, IsRaised, IsLeastFrom}
 use Rattle.market_units.specs.Counts.{one_more}
-use Rattle.demand_api.specs.Asking.{ArePricesFor}
+use Rattle.demand_api.specs.Asking.{ArePricesFor, RoseAtMost}
 
 -- a copy of the prices
 pub record IsTrial (crowd : CrowdData) (prices trial : List Tokens) : Type 0 where
   pub fits : ArePricesFor crowd trial
   pub same : (t : ℕ) → price_in trial t ≡ price_in prices t
 
--- the least price is from low to high, the trial is the prices but for the section, and the questions that are left fit the digits of the top
-pub record IsHalving (crowd : CrowdData) (prices trial : List Tokens) (s limit low high before now : ℕ) : Type 0 where
+-- the least price is from low to high, and the trial is the prices but for the section
+pub record IsHalving (crowd : CrowdData) (prices trial : List Tokens) (s limit low high : ℕ) : Type 0 where
   pub trial_fits : ArePricesFor crowd trial
   pub others : (t : ℕ) → t ≢ s → price_in trial t ≡ price_in prices t
   pub from : price_in prices s ≤ low
@@ -29,8 +29,58 @@ pub record IsHalving (crowd : CrowdData) (prices trial : List Tokens) (s limit l
   pub below_top : high ≤ top crowd
   pub lower : (p : ℕ) → price_in prices s ≤ p → p < low → limit < count crowd (with_price (price_in prices) s p) s
   pub within : count crowd (with_price (price_in prices) s high) s ≤ limit
+
+-- the count did not fall, and rose at most so much for each halving: those that are left fit the digits of n
+pub record AreHalvings (each n low high before now : ℕ) : Type 0 where
   pub kept : min before (2 ^ 64 - 1) ≤ now
-  pub asked : (digits : ℕ) → top crowd < 2 ^ digits → (left : ℕ) × (high - low < 2 ^ left) × (now + left ≤ before + digits)
+  pub most : (digits : ℕ) → n < 2 ^ digits → (left : ℕ) × (high - low < 2 ^ left) × (now + left * each ≤ before + digits * each)
+
+pub halvings_begin : (each n low high before : ℕ) → high ≤ n → AreHalvings each n low high before before
+halvings_begin each n low high before within = record { kept = omega arith; most = λ digits fits. (digits, omega arith, omega arith) }
+
+-- one halving more, after which the upper half is left
+pub halvings_up : (each n low high before now after : ℕ) → AreHalvings each n low high before now → low < high → RoseAtMost each now after
+    → AreHalvings each n (low + (high - low) / 2 + 1) high before after
+halvings_up each n low high before now after are apart rose = record {
+  kept = let so_far = are.kept in let kept = rose.kept in omega arith;
+  most = λ digits fits. one_less digits (are.most digits fits);
+}
+  where
+    one_less : (digits : ℕ) → (left : ℕ) × (high - low < 2 ^ left) × (now + left * each ≤ before + digits * each)
+        → (left : ℕ) × (high - (low + (high - low) / 2 + 1) < 2 ^ left) × (after + left * each ≤ before + digits * each)
+    one_less digits (zero, small, few) = absurd (omega arith)
+    one_less digits (suc less, small, few) =
+        let double : 2 ^ suc less ≡ 2 ^ less * 2 = pow-suc 2 less in
+        let most : after ≤ now + each = rose.most in
+        (less, omega arith, omega arith)
+
+-- and after which the lower half is left
+pub halvings_down : (each n low high before now after : ℕ) → AreHalvings each n low high before now → low < high → RoseAtMost each now after
+    → AreHalvings each n low (low + (high - low) / 2) before after
+halvings_down each n low high before now after are apart rose = record {
+  kept = let so_far = are.kept in let kept = rose.kept in omega arith;
+  most = λ digits fits. one_less digits (are.most digits fits);
+}
+  where
+    one_less : (digits : ℕ) → (left : ℕ) × (high - low < 2 ^ left) × (now + left * each ≤ before + digits * each)
+        → (left : ℕ) × (low + (high - low) / 2 - low < 2 ^ left) × (after + left * each ≤ before + digits * each)
+    one_less digits (zero, small, few) = absurd (omega arith)
+    one_less digits (suc less, small, few) =
+        let double : 2 ^ suc less ≡ 2 ^ less * 2 = pow-suc 2 less in
+        let most : after ≤ now + each = rose.most in
+        (less, omega arith, omega arith)
+
+-- all halvings of one price
+pub halvings_most : (each n low high before now digits : ℕ) → AreHalvings each n low high before now → n < 2 ^ digits → now ≤ before + digits * each
+halvings_most each n low high before now digits are fits = let few = (are.most digits fits).2 in omega arith
+
+-- a sum that stands still at the greatest u64
+pub rose_by : (rise n before after : ℕ) → after ≡ min (before + n) (2 ^ 64 - 1) → n ≤ rise → RoseAtMost rise before after
+rose_by rise n before after is within = record { kept = omega arith; most = omega arith }
+
+-- one call more
+pub rose_by_one : (now after : ℕ) → after ≡ one_more now → RoseAtMost 1 now after
+rose_by_one now after is = record { kept = omega arith; most = omega arith }
 
 -- the price at a section, as a list is read
 pub price_at : (prices : List Tokens) (s : ℕ) (d : Tokens) → s < length prices → price_in prices s ≡ (slice_index_or prices s d).0
@@ -83,10 +133,10 @@ with_raised price s p q more = record {
 pub count_falls_with : (crowd : CrowdData) (price : ℕ → ℕ) (s p q : ℕ) → p ≤ q → count crowd (with_price price s q) s ≤ count crowd (with_price price s p) s
 count_falls_with crowd price s p q more = count_falls crowd s (with_price price s p) (with_price price s q) (with_raised price s p q more)
 
-pub halving_begins : (crowd : CrowdData) (prices trial : List Tokens) (s limit low high before : ℕ) → ArePricesFor crowd prices → IsTrial crowd prices trial
+pub halving_begins : (crowd : CrowdData) (prices trial : List Tokens) (s limit low high : ℕ) → ArePricesFor crowd prices → IsTrial crowd prices trial
     → s < crowd.sections
-    → low ≡ (slice_index_or prices s (record { 0 = 0 })).0 → high ≡ top crowd → IsHalving crowd prices trial s limit low high before before
-halving_begins crowd prices trial s limit low high before are is in_range at at_top =
+    → low ≡ (slice_index_or prices s (record { 0 = 0 })).0 → high ≡ top crowd → IsHalving crowd prices trial s limit low high
+halving_begins crowd prices trial s limit low high are is in_range at at_top =
     let length_is : length prices ≡ crowd.sections = are.same in
     let here : price_in prices s ≡ (slice_index_or prices s (record { 0 = 0 })).0 = price_at prices s (record { 0 = 0 }) (omega arith) in
     let most : (slice_index_or prices s (record { 0 = 0 })).0 ≤ top crowd = are.high s (record { 0 = 0 }) (omega arith) in
@@ -101,8 +151,6 @@ halving_begins crowd prices trial s limit low high before are is in_range at at_
           let none : count crowd (with_price (price_in prices) s high) s ≡ 0 =
           none_at_top crowd s (with_price (price_in prices) s high) (rw (with_here (price_in prices) s high) (omega arith)) in
           omega arith;
-      kept = omega arith;
-      asked = λ digits fits. (digits, omega arith, omega arith);
     }
 
 -- the prices of the trial are the given ones with the tried price
@@ -119,7 +167,7 @@ tried crowd prices trial s p fits others in_range t = elim (cases_Bool (t == s))
       price_kept trial s p t other ∙ others t other ∙ sym (with_there (price_in prices) s p t other)
 ]
 
-module _ (crowd : CrowdData) (prices trial : List Tokens) (s limit low high before now : ℕ) (is : IsHalving crowd prices trial s limit low high before now)
+module _ (crowd : CrowdData) (prices trial : List Tokens) (s limit low high : ℕ) (is : IsHalving crowd prices trial s limit low high)
     (in_range : s < crowd.sections) (apart : low < high) where
   -- the price in the middle
   abbrev middle : ℕ
@@ -140,7 +188,7 @@ module _ (crowd : CrowdData) (prices trial : List Tokens) (s limit low high befo
       (tried crowd prices trial s middle is.trial_fits is.others in_range)
 
   pub halving_up : limit < count crowd (price_in (slice_set trial s (record { 0 = middle }))) s
-      → IsHalving crowd prices (slice_set trial s (record { 0 = middle })) s limit (middle + 1) high before (one_more now)
+      → IsHalving crowd prices (slice_set trial s (record { 0 = middle })) s limit (middle + 1) high
   halving_up more =
       let from : price_in prices s ≤ low = is.from in
       record {
@@ -156,19 +204,10 @@ module _ (crowd : CrowdData) (prices trial : List Tokens) (s limit low high befo
             count_then in
             omega arith;
         within = is.within;
-        kept = let so_far : min before (2 ^ 64 - 1) ≤ now = is.kept in omega arith;
-        asked = λ digits fits. asked_up digits (is.asked digits fits);
       }
-    where
-      asked_up : (digits : ℕ) → (left : ℕ) × (high - low < 2 ^ left) × (now + left ≤ before + digits)
-          → (left : ℕ) × (high - (middle + 1) < 2 ^ left) × (one_more now + left ≤ before + digits)
-      asked_up digits (zero, small, few) = absurd (omega arith)
-      asked_up digits (suc less, small, few) =
-          let double : 2 ^ suc less ≡ 2 ^ less * 2 = pow-suc 2 less in
-          (less, omega arith, omega arith)
 
   pub halving_down : ¬ (limit < count crowd (price_in (slice_set trial s (record { 0 = middle }))) s)
-      → IsHalving crowd prices (slice_set trial s (record { 0 = middle })) s limit low middle before (one_more now)
+      → IsHalving crowd prices (slice_set trial s (record { 0 = middle })) s limit low middle
   halving_down few_enough =
       let capped : high ≤ top crowd = is.below_top in
       record {
@@ -185,41 +224,32 @@ module _ (crowd : CrowdData) (prices trial : List Tokens) (s limit low high befo
               | inl more ↦ absurd (few_enough more)
               | inr within ↦ omega arith
             ];
-        kept = let so_far : min before (2 ^ 64 - 1) ≤ now = is.kept in omega arith;
-        asked = λ digits fits. asked_down digits (is.asked digits fits);
       }
-    where
-      asked_down : (digits : ℕ) → (left : ℕ) × (high - low < 2 ^ left) × (now + left ≤ before + digits)
-          → (left : ℕ) × (middle - low < 2 ^ left) × (one_more now + left ≤ before + digits)
-      asked_down digits (zero, small, few) = absurd (omega arith)
-      asked_down digits (suc less, small, few) =
-          let double : 2 ^ suc less ≡ 2 ^ less * 2 = pow-suc 2 less in
-          (less, omega arith, omega arith)
 
 -- a step, as the code has it
-pub step_up : (crowd : CrowdData) (prices trial : List Tokens) (s index limit low high before now after : ℕ)
-    → IsHalving crowd prices trial s limit low high before now → s < crowd.sections → low < high → index ≡ s → after ≡ one_more now
+pub step_up : (crowd : CrowdData) (prices trial : List Tokens) (s index limit low high : ℕ)
+    → IsHalving crowd prices trial s limit low high → s < crowd.sections → low < high → index ≡ s
     → limit < count crowd (price_in (slice_set trial index (record { 0 = low + (high - low) / 2 }))) s
-    → IsHalving crowd prices (slice_set trial index (record { 0 = low + (high - low) / 2 })) s limit (low + (high - low) / 2 + 1) high before after
-step_up crowd prices trial s index limit low high before now after is in_range apart at asked more =
-    rw (at, asked)
-    (halving_up crowd prices trial s limit low high before now is in_range apart
+    → IsHalving crowd prices (slice_set trial index (record { 0 = low + (high - low) / 2 })) s limit (low + (high - low) / 2 + 1) high
+step_up crowd prices trial s index limit low high is in_range apart at more =
+    rw at
+    (halving_up crowd prices trial s limit low high is in_range apart
     (subst (λ i. limit < count crowd (price_in (slice_set trial i (record { 0 = low + (high - low) / 2 }))) s) at more))
 
-pub step_down : (crowd : CrowdData) (prices trial : List Tokens) (s index limit low high before now after : ℕ)
-    → IsHalving crowd prices trial s limit low high before now → s < crowd.sections → low < high → index ≡ s → after ≡ one_more now
+pub step_down : (crowd : CrowdData) (prices trial : List Tokens) (s index limit low high : ℕ)
+    → IsHalving crowd prices trial s limit low high → s < crowd.sections → low < high → index ≡ s
     → ¬ (limit < count crowd (price_in (slice_set trial index (record { 0 = low + (high - low) / 2 }))) s)
-    → IsHalving crowd prices (slice_set trial index (record { 0 = low + (high - low) / 2 })) s limit low (low + (high - low) / 2) before after
-step_down crowd prices trial s index limit low high before now after is in_range apart at asked few =
-    rw (at, asked)
-    (halving_down crowd prices trial s limit low high before now is in_range apart
+    → IsHalving crowd prices (slice_set trial index (record { 0 = low + (high - low) / 2 })) s limit low (low + (high - low) / 2)
+step_down crowd prices trial s index limit low high is in_range apart at few =
+    rw at
+    (halving_down crowd prices trial s limit low high is in_range apart
     (subst (λ i. ¬ (limit < count crowd (price_in (slice_set trial i (record { 0 = low + (high - low) / 2 }))) s)) at few))
 
 -- the price is put back
-pub trial_again : (crowd : CrowdData) (prices trial : List Tokens) (s index limit low high before now : ℕ) (d : Tokens) → ArePricesFor crowd prices
-    → IsHalving crowd prices trial s limit low high before now → s < crowd.sections → index ≡ s
+pub trial_again : (crowd : CrowdData) (prices trial : List Tokens) (s index limit low high : ℕ) (d : Tokens) → ArePricesFor crowd prices
+    → IsHalving crowd prices trial s limit low high → s < crowd.sections → index ≡ s
     → IsTrial crowd prices (slice_set trial index (slice_index_or prices index d))
-trial_again crowd prices trial s index limit low high before now d are is in_range at =
+trial_again crowd prices trial s index limit low high d are is in_range at =
     let length_is : length prices ≡ crowd.sections = are.same in
     let here : price_in prices s ≡ (slice_index_or prices s d).0 = price_at prices s d (omega arith) in
     let p : ℕ = (slice_index_or prices s d).0 in
@@ -238,9 +268,9 @@ trial_again crowd prices trial s index limit low high before now d are is in_ran
     ]
 
 -- what is left when low meets high
-pub halved : (crowd : CrowdData) (prices trial : List Tokens) (s limit low high before now : ℕ) → IsHalving crowd prices trial s limit low high before now
+pub halved : (crowd : CrowdData) (prices trial : List Tokens) (s limit low high : ℕ) → IsHalving crowd prices trial s limit low high
     → ¬ (low < high) → IsLeastFrom (price_in prices s) crowd (price_in prices) s limit low
-halved crowd prices trial s limit low high before now is met =
+halved crowd prices trial s limit low high is met =
     let ordered : low ≤ high = is.ordered in
     let e : high ≡ low = omega arith in
     record { from = is.from; within = subst (λ p. count crowd (with_price (price_in prices) s p) s ≤ limit) e is.within; lower = is.lower }

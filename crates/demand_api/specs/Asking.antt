@@ -1,4 +1,4 @@
--- What a crowd may be asked, and how often it was.
+-- What a crowd may be asked, how often it was, and how many of its students were.
 use Rattle.std.specs.Prelude.{◌*◌, ℕ, ◌<◌, ◌≤◌, ◌≡◌, ◌+◌, ◌-◌, ◌^◌, List, All, length, min}
 use Rattle.market_units.specs.declared.limits.TheConstants.{MAX_PRICE}
 use Rattle.market_units.specs.declared.units.Tokens.{Tokens}
@@ -13,6 +13,11 @@ pub record AreSectionPrices (sections : ℕ) (prices : List Tokens) : Type 0 whe
 pub record ArePricesFor (crowd : CrowdData) (prices : List Tokens) : Type 0 where
   pub same : length prices ≡ crowd.sections
   pub high : All (λ price. price.0 ≤ top crowd) prices
+
+-- the count, which is a u64, did not fall, and rose at most by this
+pub record RoseAtMost (rise before now : ℕ) : Type 0 where
+  pub kept : min before (2 ^ 64 - 1) ≤ now
+  pub most : now ≤ before + rise
 
 -- the count, which is a u64, did not fall, and rose at most by so many times the binary digits of n
 -- plus 1

@@ -1,8 +1,9 @@
 // What can be asked of a crowd.
-ghost use Rattle.std.specs.Prelude.{◌≡◌, ◌<◌, ◌≤◌, ◌↔◌, ℕ, IsTrue, IfOk, All, length, map};
+ghost use Rattle.std.specs.Prelude.{◌≡◌, ◌<◌, ◌≤◌, ◌↔◌, ◌+◌, ◌*◌, ◌^◌, ℕ, IsTrue, IfOk, All};
+ghost use Rattle.std.specs.Prelude.{length, map, max};
 ghost use Rattle.std.specs.Thread.{IsSync};
 ghost use Rattle.bundle_rules.specs.{Bundles.sections_of, Demand.price_in};
-ghost use Rattle.demand_api.specs.Asking.{ArePricesFor, RoseByDigits};
+ghost use Rattle.demand_api.specs.Asking.{ArePricesFor, RoseAtMost, RoseByDigits};
 ghost use Rattle.demand_api.specs.Crowds.{CrowdData, IsCrowd, top, demand_of, count, counts};
 ghost use Rattle.demand_api.specs.Prices.{AreLeastPrices};
 ghost use Rattle.market_units.specs.Counts.{one_more};
@@ -27,6 +28,10 @@ pub trait Demands {
     /// How many calls of `counts`, `bundles` and `exceeds` were made, up to the greatest `u64`.
     ghost asked: { Self → ℕ };
 
+    /// How many students were asked what they take, over all calls, up to the greatest `u64`. Who is
+    /// asked twice is counted twice.
+    ghost inquiries: { Self → ℕ };
+
     /// The top price: one more than the greatest budget, and 1 without students.
     fn top(&self) -> Tokens
         ensures value { result.0 ≡ top (crowd self.now) }
@@ -37,7 +42,8 @@ pub trait Demands {
         ensures value { result ≡ length (crowd self.now).students }
         ensures crowd { IsCrowd (crowd self.now) };
 
-    /// How many students take each section, at each of 1 to 16 vectors of prices.
+    /// How many students take each section, at each of 1 to 16 vectors of prices. Each student is
+    /// asked at most once at each, and once more: what is remembered first takes a round of its own.
     fn counts<R: Threads + Wait + Sync>(
         &mut self,
         rt: &R,
@@ -50,9 +56,13 @@ pub trait Demands {
         requires prices { All (λ prices. ArePricesFor (crowd self.old) prices.items) batch.now }
         ensures crowd { crowd self.new ≡ crowd self.old }
         ensures asked { asked self.new ≡ one_more (asked self.old) }
+        ensures inquiries { RoseAtMost
+            ((length batch.now + 1) * length (crowd self.old).students) (inquiries self.old)
+            (inquiries self.new) }
         ensures value { IfOk result (λ found. map (λ counts. counts.items) found.items ≡ map (λ prices. counts (crowd self.old) (price_in prices.items)) batch.now) };
 
-    /// What each of at most 2,000 students takes, in the order of the list.
+    /// What each of at most 2,000 students takes, in the order of the list. So many students are
+    /// asked at most, or all of the crowd once.
     fn bundles<R: Threads + Wait + Sync>(
         &mut self,
         rt: &R,
@@ -67,9 +77,12 @@ pub trait Demands {
             students.now }
         ensures crowd { crowd self.new ≡ crowd self.old }
         ensures asked { asked self.new ≡ one_more (asked self.old) }
+        ensures inquiries { RoseAtMost
+            (max (length students.now) (length (crowd self.old).students)) (inquiries self.old)
+            (inquiries self.new) }
         ensures value { IfOk result (λ bundles. map sections_of bundles.items ≡ map (λ student. demand_of (crowd self.old) (price_in prices.now) student.0) students.now) };
 
-    /// Whether more than `limit` students take the section.
+    /// Whether more than `limit` students take the section. Each student is asked at most once.
     fn exceeds<R: Threads + Wait + Sync>(
         &mut self,
         rt: &R,
@@ -83,13 +96,16 @@ pub trait Demands {
         requires section { section.0 < (crowd self.old).sections }
         ensures crowd { crowd self.new ≡ crowd self.old }
         ensures asked { asked self.new ≡ one_more (asked self.old) }
+        ensures inquiries { RoseAtMost (length (crowd self.old).students) (inquiries self.old)
+            (inquiries self.new) }
         ensures value { IfOk result (λ more. IsTrue more ↔ (limit < count (crowd self.old) (price_in prices.now) section.0)) };
 
     /// For each of at most 400 pairs of a section and a limit the least price of the section, from
     /// its present one up, at which at most that many students take it, the other prices as given.
     /// The number of calls made does not fall, and rises at most by the binary digits of the top,
-    /// and one more, for each pair. The provided body halves; who knows the students' other choices
-    /// can answer from them.
+    /// and one more, for each pair; that of students asked at most by twice these digits, and one
+    /// more, for each pair and student. The provided body halves; who knows the students' other
+    /// choices can answer from them.
     fn least_prices<R: Threads + Wait + Sync>(
         &mut self,
         rt: &R,
@@ -104,6 +120,10 @@ pub trait Demands {
         ensures crowd { crowd self.new ≡ crowd self.old }
         ensures asked { RoseByDigits (length pairs.now) (top (crowd self.old)) (asked self.old)
             (asked self.new) }
+        ensures inquiries { (digits : ℕ) → top (crowd self.old) < 2 ^ digits
+            → RoseAtMost
+            (length pairs.now * length (crowd self.old).students * (2 * digits + 1))
+            (inquiries self.old) (inquiries self.new) }
         ensures value { IfOk result
             (λ least. AreLeastPrices (crowd self.old) (price_in prices.now) pairs.now least.items) }
     {

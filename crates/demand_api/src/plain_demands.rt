@@ -17,6 +17,7 @@ use std::thread::Threads;
 pub struct PlainDemands {
     crowd: Arc<Crowd>,
     asked: u64,
+    inquiries: u64,
 }
 
 impl PlainDemands {
@@ -24,8 +25,13 @@ impl PlainDemands {
     pub fn make(crowd: Arc<Crowd>) -> PlainDemands
         ensures crowd { ⟦<PlainDemands as Demands>⟧.crowd result ≡ data_of (arc_value crowd) }
         ensures asked { ⟦<PlainDemands as Demands>⟧.asked result ≡ 0 }
+        ensures inquiries { ⟦<PlainDemands as Demands>⟧.inquiries result ≡ 0 }
     {
-        PlainDemands { crowd, asked: 0 }
+        PlainDemands {
+            crowd,
+            asked: 0,
+            inquiries: 0,
+        }
     }
 }
 
@@ -33,6 +39,8 @@ impl Demands for PlainDemands {
     ghost crowd = { λ demands. data_of (arc_value demands.crowd) };
 
     ghost asked = { λ demands. demands.asked };
+
+    ghost inquiries = { λ demands. demands.inquiries };
 
     fn top(&self) -> Tokens {
         self.crowd.top()
@@ -50,6 +58,8 @@ impl Demands for PlainDemands {
         batch: &[Vec<Tokens>],
     ) -> Result<Vec<Vec<u32>>, NoMemory> {
         self.asked = self.asked.saturating_add(1);
+        let round = self.crowd.menus.len();
+        self.inquiries = self.inquiries.saturating_add((batch.len() * round) as u64);
         let crowd: &Crowd = &self.crowd;
         let mut found = Vec::new(alloc);
         for prices in batch {
@@ -67,6 +77,7 @@ impl Demands for PlainDemands {
         students: &[StudentNo],
     ) -> Result<Vec<Bundle>, NoMemory> {
         self.asked = self.asked.saturating_add(1);
+        self.inquiries = self.inquiries.saturating_add(students.len() as u64);
         let crowd: &Crowd = &self.crowd;
         bundles(alloc, &Priced { crowd, prices }, students)
     }
@@ -80,6 +91,8 @@ impl Demands for PlainDemands {
         limit: u32,
     ) -> Result<bool, NoMemory> {
         self.asked = self.asked.saturating_add(1);
+        let round = self.crowd.menus.len();
+        self.inquiries = self.inquiries.saturating_add(round as u64);
         let crowd: &Crowd = &self.crowd;
         Ok(count_of(&Priced { crowd, prices }, section) > limit)
     }

@@ -5,6 +5,7 @@ mod crowds;
 mod driver;
 mod held_workers;
 mod menus;
+mod one_by_one;
 mod plain_demands;
 mod rivals;
 mod trees;

@@ -1,7 +1,9 @@
+pub mod Allowing
 pub mod Surveying
 pub mod Counting
 pub mod HolderSums
 pub mod HoldersLeave
+pub mod Halved
 pub mod Recalling
 pub mod Rounds
 pub mod Working

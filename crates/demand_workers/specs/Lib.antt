@@ -1,3 +1,4 @@
+pub mod Allowances
 pub mod Answering
 pub mod Asked
 pub mod Found

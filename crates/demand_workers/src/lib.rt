@@ -6,11 +6,13 @@
 // memory may be wanted, when no thread runs); how long it takes.
 #![tactic(auto)]
 
+mod allowance;
 mod answering;
 mod asker;
 mod asking;
 mod beside;
 mod cheaper;
+mod counted;
 mod found;
 mod ground;
 mod heard;

@@ -1,8 +1,8 @@
 // Demands of a crowd that workers find.
-ghost use Rattle.std.specs.Prelude.{◌≡◌, [], ◌∷◌, IfOk, IfSome, length};
+ghost use Rattle.std.specs.Prelude.{◌≡◌, ◌*◌, [], IfOk, IfSome, length};
 ghost use Rattle.std.specs.Arc.{arc_value};
-ghost use Rattle.demand_api.specs.{Asking.ArePricesFor, Views.data_of};
-ghost use Rattle.price_board.specs.{Openings.IsAskOf, declared.terms.Terms.Terms};
+ghost use Rattle.demand_api.specs.Asking.{ArePricesFor, RoseAtMost};
+ghost use Rattle.demand_api.specs.Views.{data_of};
 ghost use Rattle.demand_workers.specs.Rounds.{AreVersionsFor, prices_of};
 ghost use Rattle.demand_workers.specs.Remembered.{AreTaken};
 ghost use Rattle.demand_workers.specs.Views.{crowd_of};
@@ -11,21 +11,20 @@ ghost use Rattle.std.specs.Coded.{codes};
 ghost use Rattle.bundle_rules.specs.contracts.menu.Rated as rated;
 
 use crate::Pool;
+use crate::allowance::walks_for;
 use crate::answering::read_all;
-use crate::asking::ask;
 use crate::inquiry::Inquiries;
 use crate::notes::Notes;
 use crate::remembered::{Remembered, are_same};
-use crate::round::{copies_of, work_and_close};
+use crate::round::copies_of;
 use crate::survey::Survey;
 use crate::taking::read_listed;
 use crate::unsettled::unsettled;
-use crate::worker::Lent;
 use bundle_rules::Bundle;
 use demand_api::{Crowd, Demands};
 use market_edge::{AnyGate, Gate};
 use market_units::{NoMemory, SectionNo, SectionSet, StudentNo, Tokens};
-use price_board::{Answers, Ask, Board, Round};
+use price_board::Ask;
 use std::alloc::Global;
 use std::sync::{Arc, Wait};
 use std::thread::Threads;
@@ -46,10 +45,16 @@ pub struct PooledDemands<G> {
     pub(crate) pool: Pool,
     pub(crate) gate: G,
     asked: u64,
-    remembered: Option<Arc<Remembered>>,
+    // How many students were asked: each inquiry of a round, each note that a rehearsal told, and each
+    // student of a price board.
+    pub(crate) inquiries: u64,
+    pub(crate) remembered: Option<Arc<Remembered>>,
     notes: Option<Notes>,
     // How many seats each section has, where that was told, and there are several workers.
     pub(crate) seats: Option<Vec<u16>>,
+    // The pairs of a call whose walks are rehearsed where somebody has to be asked; `None` where they
+    // were, and for one worker.
+    pub(crate) ahead: Option<Vec<(SectionNo, u32)>>,
     ghost same: { IfSome remembered (λ memory. crowd_of (arc_value memory) ≡ data_of (arc_value crowd)) } by { Prim.hlevel (props, codes, rated.the_row.coded) },
     ghost noted: { IfSome notes (λ noted. crowd_of (arc_value noted.remembered) ≡ data_of (arc_value crowd)) } by { Prim.hlevel (props, codes, rated.the_row.coded) },
 }
@@ -65,15 +70,18 @@ impl<'g> PooledDemands<AnyGate<'g>> {
         ensures crowd { ⟦<PooledDemands<AnyGate<'g>> as Demands>⟧.crowd result
             ≡ data_of (arc_value crowd) }
         ensures asked { ⟦<PooledDemands<AnyGate<'g>> as Demands>⟧.asked result ≡ 0 }
+        ensures inquiries { ⟦<PooledDemands<AnyGate<'g>> as Demands>⟧.inquiries result ≡ 0 }
     {
         PooledDemands {
             crowd,
             pool,
             gate,
             asked: 0,
+            inquiries: 0,
             remembered: None,
             notes: None,
             seats: None,
+            ahead: None,
         }
     }
 
@@ -86,6 +94,8 @@ impl<'g> PooledDemands<AnyGate<'g>> {
             ≡ ⟦<PooledDemands<AnyGate<'g>> as Demands>⟧.crowd self.old }
         ensures asked { ⟦<PooledDemands<AnyGate<'g>> as Demands>⟧.asked self.new
             ≡ ⟦<PooledDemands<AnyGate<'g>> as Demands>⟧.asked self.old }
+        ensures inquiries { ⟦<PooledDemands<AnyGate<'g>> as Demands>⟧.inquiries self.new
+            ≡ ⟦<PooledDemands<AnyGate<'g>> as Demands>⟧.inquiries self.old }
     {
         if self.pool.workers > 1 {
             self.seats = Some(seats.to_vec(alloc)?);
@@ -93,58 +103,28 @@ impl<'g> PooledDemands<AnyGate<'g>> {
         Ok(())
     }
 
-    // What all workers find on a board where each student is a task, at these prices alone. All
-    // memory is taken before the first worker starts.
-    fn ask_board<R: Threads + Wait + Sync>(
-        &self,
-        rt: &R,
-        alloc: Global,
-        prices: &[Tokens],
-        ask: Ask,
-    ) -> Result<Answers, NoMemory>
-        requires prices { ArePricesFor (data_of (arc_value self.now.crowd)) prices.now }
-        requires section { IsAskOf (arc_value self.now.crowd).sections ask }
-        ensures { IfOk result
-            (λ answers. answers.terms
-            ≡ record {
-              crowd = data_of (arc_value self.now.crowd);
-              versions = prices.now ∷ [];
-              asks = ask ∷ [];
-            }) }
-    {
-        let version = prices.to_vec(alloc)?;
-        let mut versions = Vec::with_capacity(alloc, 1)?;
-        versions.push(version)?;
-        let asks = vec![in alloc; ask; 1]?;
-        let round = Round { versions, asks };
-        let crowd = Arc::try_clone(&self.crowd)?;
-        let (board, seats) = Board::start(alloc, crowd, round, self.pool.workers)?;
-        let lent = Lent {
-            crowd: &self.crowd,
-            prices,
-            allowed: &SectionSet::full(self.crowd.sections),
-            remembered: &self.remembered,
-        };
-        Ok(work_and_close(rt, board, seats, self.pool.workspaces(), &lent, self.gate))
-    }
-
     // What each student takes at these prices, as it will be remembered.
     fn memory_at<R: Threads + Wait + Sync>(
-        &self,
+        &mut self,
         rt: &R,
         alloc: Global,
         prices: &[Tokens],
     ) -> Result<Remembered, NoMemory>
-        requires { ArePricesFor (data_of (arc_value self.now.crowd)) prices.now }
+        requires { ArePricesFor (data_of (arc_value self.old.crowd)) prices.now }
+        ensures kept { (self.new.crowd ≡ self.old.crowd) × (self.new.asked ≡ self.old.asked) }
+        ensures inquiries { RoseAtMost (length (data_of (arc_value self.old.crowd)).students)
+            self.old.inquiries self.new.inquiries }
         ensures crowd { IfOk result
-            (λ memory. crowd_of memory ≡ data_of (arc_value self.now.crowd)) }
+            (λ memory. crowd_of memory ≡ data_of (arc_value self.old.crowd)) }
         ensures prices { IfOk result (λ memory. memory.prices.items ≡ prices.now) }
     {
         let copy = prices.to_vec(alloc)?;
+        let crowd = Arc::try_clone(&self.crowd)?;
+        let allowed = SectionSet::full(crowd.sections);
         let bundles = self.all_bundles(rt, alloc, prices)?;
         Ok(Remembered {
-            crowd: Arc::try_clone(&self.crowd)?,
-            allowed: SectionSet::full(self.crowd.sections),
+            crowd,
+            allowed,
             prices: copy,
             bundles,
         })
@@ -152,19 +132,23 @@ impl<'g> PooledDemands<AnyGate<'g>> {
 
     // What each student takes at these prices.
     fn all_bundles<R: Threads + Wait + Sync>(
-        &self,
+        &mut self,
         rt: &R,
         alloc: Global,
         prices: &[Tokens],
     ) -> Result<Vec<Bundle>, NoMemory>
-        requires { ArePricesFor (data_of (arc_value self.now.crowd)) prices.now }
+        requires { ArePricesFor (data_of (arc_value self.old.crowd)) prices.now }
+        ensures kept { (self.new.crowd ≡ self.old.crowd) × (self.new.asked ≡ self.old.asked) }
+        ensures inquiries { RoseAtMost (length (data_of (arc_value self.old.crowd)).students)
+            self.old.inquiries self.new.inquiries }
         ensures len { IfOk result
-            (λ bundles. length bundles.items ≡ length (arc_value self.now.crowd).menus.items) }
+            (λ bundles. length bundles.items ≡ length (arc_value self.old.crowd).menus.items) }
         ensures taken { IfOk result
-            (λ bundles. AreTaken (data_of (arc_value self.now.crowd)) prices.now bundles.items) }
+            (λ bundles. AreTaken (data_of (arc_value self.old.crowd)) prices.now bundles.items) }
     {
         if let Some(remembered) = &self.remembered {
-            return self.bundles_near(rt, alloc, remembered, prices);
+            let remembered = Arc::try_clone(remembered)?;
+            return self.bundles_near(rt, alloc, &remembered, prices);
         }
         let mut bundles = vec![in alloc; Bundle::empty(); self.crowd.menus.len()]?;
         let answers = self.ask_board(rt, alloc, prices, Ask::Counts)?;
@@ -174,13 +158,16 @@ impl<'g> PooledDemands<AnyGate<'g>> {
 
     // What each student takes at these prices: remembered, or asked.
     fn bundles_near<R: Threads + Wait + Sync>(
-        &self,
+        &mut self,
         rt: &R,
         alloc: Global,
         remembered: &Arc<Remembered>,
         prices: &[Tokens],
     ) -> Result<Vec<Bundle>, NoMemory>
         requires { ArePricesFor (crowd_of (arc_value remembered.now)) prices.now }
+        ensures kept { (self.new.crowd ≡ self.old.crowd) × (self.new.asked ≡ self.old.asked) }
+        ensures inquiries { RoseAtMost (length (crowd_of (arc_value remembered.now)).students)
+            self.old.inquiries self.new.inquiries }
         ensures len { IfOk result
             (λ bundles. length bundles.items
             ≡ length (crowd_of (arc_value remembered.now)).students) }
@@ -195,13 +182,17 @@ impl<'g> PooledDemands<AnyGate<'g>> {
     // What is found at these versions, each student asked of whom the remembered bundle is not known
     // to be right.
     fn survey<R: Threads + Wait + Sync>(
-        &self,
+        &mut self,
         rt: &R,
         alloc: Global,
         remembered: &Arc<Remembered>,
         versions: &[Vec<Tokens>],
     ) -> Result<Survey, NoMemory>
         requires { AreVersionsFor (crowd_of (arc_value remembered.now)) versions.now }
+        ensures kept { (self.new.crowd ≡ self.old.crowd) × (self.new.asked ≡ self.old.asked) }
+        ensures inquiries { RoseAtMost
+            (length versions.now * length (crowd_of (arc_value remembered.now)).students)
+            self.old.inquiries self.new.inquiries }
         ensures remembered { IfOk result
             (λ survey. arc_value (arc_value survey.found.inquiries).remembered
             ≡ arc_value remembered.now) }
@@ -215,7 +206,7 @@ impl<'g> PooledDemands<AnyGate<'g>> {
             versions: copies_of(alloc, versions)?,
             list,
         };
-        let found = ask(rt, alloc, &self.pool, self.gate, inquiries)?;
+        let found = self.inquire(rt, alloc, inquiries)?;
         Ok(Survey { found })
     }
 
@@ -228,6 +219,8 @@ impl<'g> PooledDemands<AnyGate<'g>> {
     ) -> Result<Arc<Remembered>, NoMemory>
         requires { ArePricesFor (data_of (arc_value self.old.crowd)) prices.now }
         ensures kept { (self.new.crowd ≡ self.old.crowd) × (self.new.asked ≡ self.old.asked) }
+        ensures inquiries { RoseAtMost (length (data_of (arc_value self.old.crowd)).students)
+            self.old.inquiries self.new.inquiries }
         ensures crowd { IfOk result
             (λ memory. crowd_of (arc_value memory) ≡ data_of (arc_value self.old.crowd)) }
         ensures prices { IfOk result (λ memory. (arc_value memory).prices.items ≡ prices.now) }
@@ -247,6 +240,7 @@ impl<'g> PooledDemands<AnyGate<'g>> {
     fn notes_with(&mut self, alloc: Global, remembered: Arc<Remembered>) -> Notes
         requires { crowd_of (arc_value remembered) ≡ data_of (arc_value self.old.crowd) }
         ensures kept { (self.new.crowd ≡ self.old.crowd) × (self.new.asked ≡ self.old.asked) }
+        ensures inquiries { self.new.inquiries ≡ self.old.inquiries }
         ensures remembered { result.remembered ≡ remembered }
     {
         let earlier = self.notes.take();
@@ -267,6 +261,8 @@ impl<'g> PooledDemands<AnyGate<'g>> {
     ) -> Result<Arc<Remembered>, NoMemory>
         requires { ArePricesFor (data_of (arc_value self.old.crowd)) prices.now }
         ensures kept { (self.new.crowd ≡ self.old.crowd) × (self.new.asked ≡ self.old.asked) }
+        ensures inquiries { RoseAtMost (length (data_of (arc_value self.old.crowd)).students)
+            self.old.inquiries self.new.inquiries }
         ensures crowd { IfOk result
             (λ memory. crowd_of (arc_value memory) ≡ data_of (arc_value self.old.crowd)) }
     {
@@ -281,6 +277,8 @@ impl Demands for PooledDemands<AnyGate<'_>> {
     ghost crowd = { λ demands. data_of (arc_value demands.crowd) };
 
     ghost asked = { λ demands. demands.asked };
+
+    ghost inquiries = { λ demands. demands.inquiries };
 
     fn top(&self) -> Tokens {
         self.crowd.top()
@@ -333,11 +331,7 @@ impl Demands for PooledDemands<AnyGate<'_>> {
         limit: u32,
     ) -> Result<bool, NoMemory> {
         self.asked = self.asked.saturating_add(1);
-        let answers = self.ask_board(rt, alloc, prices, Ask::Exceeds { section, limit })?;
-        match answers.exceeds(0) {
-            Some(more) => Ok(more),
-            None => unreachable!(),
-        }
+        self.is_exceeded(rt, alloc, prices, section, limit)
     }
 
     fn least_prices<R: Threads + Wait + Sync>(
@@ -347,16 +341,20 @@ impl Demands for PooledDemands<AnyGate<'_>> {
         prices: &[Tokens],
         pairs: &[(SectionNo, u32)],
     ) -> Result<Vec<Tokens>, NoMemory> {
+        if pairs.is_empty() {
+            return Ok(Vec::new(alloc));
+        }
         let remembered = self.recall(rt, alloc, prices)?;
         let mut notes = self.notes_with(alloc, remembered);
+        let mut left = walks_for(&self.crowd, pairs.len());
         let [(section, limit)] = pairs else {
-            let found = self.least_for_each(rt, alloc, &mut notes, pairs)?;
+            let found = self.least_for_each(rt, alloc, &mut notes, pairs, &mut left)?;
             self.notes = Some(notes);
             return Ok(found);
         };
         // What is taken at the least price is remembered: who raises the price asks for it next.
-        let mut ahead = self.ahead(alloc, pairs)?;
-        let walk = self.least_price(rt, alloc, &mut notes, &mut ahead, *section, *limit)?;
+        self.ahead = self.pairs_ahead(alloc, pairs)?;
+        let walk = self.least_price(rt, alloc, &mut notes, *section, *limit, &mut left)?;
         let memory = self.raised_memory(rt, alloc, &notes, &walk)?;
         let found = vec![in alloc; walk.least; 1]?;
         self.remembered = Some(Arc::new(alloc, memory)?);

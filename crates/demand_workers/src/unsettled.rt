@@ -1,5 +1,5 @@
 // Students whom what is remembered does not settle.
-ghost use Rattle.std.specs.Prelude.{◌≡◌, ◌<◌, ◌+◌, ℕ, All, IfOk, length, slice_index_or};
+ghost use Rattle.std.specs.Prelude.{◌≡◌, ◌<◌, ◌≤◌, ◌+◌, ◌*◌, ℕ, All, IfOk, length, slice_index_or};
 ghost use Rattle.bundle_rules.specs.{Bundles.sections_of, Demand.price_in};
 ghost use Rattle.demand_api.specs.{Crowds.demand_of, Views.data_of};
 ghost use Rattle.demand_workers.specs.{Asked.no_inquiry, Remembered.AreTaken};
@@ -24,7 +24,10 @@ pub(crate) fn unsettled(
     versions: &[Vec<Tokens>],
 ) -> Result<Vec<Inquiry>, NoMemory>
     requires { AreVersionsFor (crowd_of remembered.now) versions.now }
-    ensures { IfOk result
+    ensures few { IfOk result
+        (λ inquiries. length inquiries.items
+        ≤ length versions.now * length remembered.now.bundles.items) }
+    ensures survey { IfOk result
         (λ inquiries. IsSurvey (crowd_of remembered.now) remembered.now.bundles.items
         (prices_of versions.now) (length versions.now) inquiries.items) }
 {
@@ -46,7 +49,10 @@ fn add_unsettled(
     requires version { version < length versions.now }
     requires survey { IsSurvey (crowd_of remembered.now) remembered.now.bundles.items
         (prices_of versions.now) version inquiries.old.items }
-    ensures { IfOk result
+    ensures few { IfOk result
+        (λ done. length inquiries.new.items
+        ≤ length inquiries.old.items + length remembered.now.bundles.items) }
+    ensures survey { IfOk result
         (λ done. IsSurvey (crowd_of remembered.now) remembered.now.bundles.items
         (prices_of versions.now) (version + 1) inquiries.new.items) }
 {

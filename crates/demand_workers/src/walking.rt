@@ -5,6 +5,7 @@ ghost use Rattle.task_board.specs.Seats.{AreBack, HasBegun, IsFinished, IsFree};
 ghost use Rattle.demand_workers.specs.{Views.crowd_of, Walks.walk_rules};
 
 use crate::ground::Ground;
+use crate::note::Told;
 use crate::pool::Pool;
 use crate::rehearsal::WALKS;
 use crate::remembered::Remembered;
@@ -12,12 +13,35 @@ use crate::walk_tasks::WalkTasks;
 use crate::walker::{Asks, walk_drawn};
 use demand_oracle::Workspace;
 use market_edge::Gate;
-use market_units::{MAX_WORKERS, NoMemory};
+use market_units::{MAX_STUDENTS, MAX_WORKERS, NoMemory};
 use std::alloc::Global;
 use std::sync::{Arc, Mutex, Wait};
 use std::thread;
 use std::thread::Threads;
-use task_board::{Answers, Board, BoardSeat};
+use task_board::{Answers, Board, BoardSeat, Tasks};
+
+/// How many tasks a rehearsal has where a crowd has so many students, of whom so many may be asked: as
+/// many as there are, if they may be. So its board, which reserves some 300 bytes for each step that
+/// it may take, reserves for no more answers.
+pub(crate) fn tasks_for(students: usize, left: u64) -> u32
+    ensures { result ≤ left }
+{
+    let tasks = students.min(usize::from(MAX_STUDENTS)) as u32;
+    u64::from(tasks).min(left) as u32
+}
+
+/// To how many tasks of a round a note was told: so many students were asked.
+pub(crate) fn noted_in(answers: &Answers<WalkTasks>) -> u64
+    ensures { result ≤ answers.now.terms.count }
+{
+    let mut noted = 0;
+    'tasks: for task in 0..answers.tasks().count() {
+        if let Some(Told::Noted(_)) = answers.answer(task) {
+            noted += 1;
+        }
+    }
+    noted
+}
 
 /// Asks whoever is next until nobody is left, or nobody was found for so long, or so many were asked:
 /// by a worker of a pool for each walk that is looked at, or by all where they are fewer. All memory
@@ -32,7 +56,8 @@ pub(crate) fn rehearse_by_all<R: Threads + Wait + Sync>(
     count: u32,
 ) -> Result<Answers<WalkTasks>, NoMemory>
     requires { ground.now.remembered.now ≡ arc_value remembered.now }
-    ensures { IfOk result
+    ensures count { IfOk result (λ answers. answers.terms.count ≡ count) }
+    ensures crowd { IfOk result
         (λ answers. answers.terms.crowd ≡ crowd_of ground.now.remembered.now) }
 {
     let tasks = WalkTasks::new(Arc::try_clone(remembered)?, count);

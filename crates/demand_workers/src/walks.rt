@@ -1,13 +1,15 @@
 // Walks to least prices, by what is noted, rehearsed or asked.
-ghost use Rattle.std.specs.Prelude.{◌≡◌, ◌<◌, [], ◌∷◌, All, IfOk};
+ghost use Rattle.std.specs.Prelude.{◌≡◌, ◌<◌, ◌≤◌, ◌*◌, ◌^◌, ℕ, [], ◌∷◌, All, IfOk};
+ghost use Rattle.std.specs.Prelude.{IfSome, length};
 ghost use Rattle.std.specs.Arc.{arc_value};
 ghost use Rattle.bundle_rules.specs.Bundles.{sections_of};
-ghost use Rattle.demand_api.specs.Prices.{AreLeastPrices, IsLeastFrom};
+ghost use Rattle.demand_api.specs.{Asking.RoseAtMost, Crowds.count, Crowds.top, Views.data_of};
+ghost use Rattle.demand_api.specs.Prices.{AreLeastPrices, IsLeastFrom, with_price};
+ghost use Rattle.demand_workers.specs.Allowances.{HasSpent};
 ghost use Rattle.demand_workers.specs.Inquiring.{IsInquiry, taken_at};
 ghost use Rattle.demand_workers.specs.{Rounds.prices_of, Views.crowd_of, Views.price_before};
 
 use crate::PooledDemands;
-use crate::asking::ask;
 use crate::ground::Ground;
 use crate::inquiry::{Inquiries, Inquiry};
 use crate::leaving::{Walk, holder_of, holders_of};
@@ -18,10 +20,10 @@ use crate::remembered::Remembered;
 use crate::settled::settled;
 use crate::trial::{ROOM, raised_prices};
 use crate::unsettled::write_found;
-use crate::walking::rehearse_by_all;
+use crate::walking::{noted_in, rehearse_by_all, tasks_for};
 use bundle_rules::Bundle;
 use market_edge::AnyGate;
-use market_units::{MAX_PRICE, MAX_STUDENTS, NoMemory, SectionNo, StudentNo, Tokens};
+use market_units::{MAX_PRICE, NoMemory, SectionNo, StudentNo, Tokens};
 use std::alloc::Global;
 use std::sync::{Arc, Mutex, Wait};
 use std::thread::Threads;
@@ -52,18 +54,28 @@ fn at_remembered(
 
 impl PooledDemands<AnyGate<'_>> {
     /// For each pair of a section and a limit the least price of the section from its remembered
-    /// one up at which at most so many students take it, the other prices as remembered. The only
-    /// error is that memory was not given.
+    /// one up at which at most so many students take it, the other prices as remembered. Walks ask at
+    /// most as many students as are left. The only error is that memory was not given.
     pub(crate) fn least_for_each<R: Threads + Wait + Sync>(
-        &self,
+        &mut self,
         rt: &R,
         alloc: Global,
         notes: &mut Notes,
         pairs: &[(SectionNo, u32)],
+        left: &mut u64,
     ) -> Result<Vec<Tokens>, NoMemory>
-        requires { All
+        requires crowd { crowd_of (arc_value notes.old.remembered)
+            ≡ data_of (arc_value self.old.crowd) }
+        requires sections { All
             (λ pair. pair.0.0 < (arc_value (arc_value notes.old.remembered).crowd).sections)
             pairs.now }
+        ensures kept { (self.new.crowd ≡ self.old.crowd) × (self.new.asked ≡ self.old.asked) }
+        ensures inquiries { (digits : ℕ)
+            → top (crowd_of (arc_value notes.old.remembered)) < 2 ^ digits
+            → HasSpent
+            (length pairs.now
+            * (digits * length (crowd_of (arc_value notes.old.remembered)).students))
+            left.old left.new self.old.inquiries self.new.inquiries }
         ensures same { IfOk result (λ found. notes.new.remembered ≡ notes.old.remembered) }
         ensures least { IfOk result
             (λ found. AreLeastPrices (crowd_of (arc_value notes.old.remembered))
@@ -72,8 +84,8 @@ impl PooledDemands<AnyGate<'_>> {
         let mut found = Vec::new(alloc);
         for place in 0..pairs.len() {
             let (section, limit) = pairs[place];
-            let mut ahead = self.ahead(alloc, &pairs[place..])?;
-            let walk = self.least_price(rt, alloc, notes, &mut ahead, section, limit)?;
+            self.ahead = self.pairs_ahead(alloc, &pairs[place..])?;
+            let walk = self.least_price(rt, alloc, notes, section, limit, left)?;
             found.push(walk.least)?;
         }
         Ok(found)
@@ -81,7 +93,7 @@ impl PooledDemands<AnyGate<'_>> {
 
     /// The pairs whose walks are rehearsed where somebody has to be asked on the first of them. `None`
     /// for one worker, which asks nobody ahead. The only error is that memory was not given.
-    pub(crate) fn ahead(
+    pub(crate) fn pairs_ahead(
         &self,
         alloc: Global,
         pairs: &[(SectionNo, u32)],
@@ -94,26 +106,32 @@ impl PooledDemands<AnyGate<'_>> {
 
     // Asks ahead, by several workers, what will be asked on the walks of these pairs, or in the
     // elimination that begins with the one pair, from what is remembered: as many students as there
-    // are, who is asked twice counted twice. So no thread has to be started meanwhile, and the board
-    // reserves for no more answers. What is found is noted, and what was noted is forgotten.
+    // are, who is asked twice counted twice, if so many are left. So no thread has to be started
+    // meanwhile. What is found is noted, and what was noted is forgotten.
     fn rehearse<R: Threads + Wait + Sync>(
-        &self,
+        &mut self,
         rt: &R,
         alloc: Global,
         notes: &mut Notes,
         pairs: Vec<(SectionNo, u32)>,
+        left: &mut u64,
     ) -> Result<(), NoMemory>
-        ensures { IfOk result (λ done. notes.new.remembered ≡ notes.old.remembered) }
+        ensures kept { (self.new.crowd ≡ self.old.crowd) × (self.new.asked ≡ self.old.asked) }
+        ensures inquiries { HasSpent 0 left.old left.new self.old.inquiries self.new.inquiries }
+        ensures same { IfOk result (λ done. notes.new.remembered ≡ notes.old.remembered) }
     {
-        notes.forget();
         let remembered = Arc::try_clone(&notes.remembered)?;
         let known: &Remembered = &remembered;
+        let tasks = tasks_for(known.bundles.len(), *left);
+        if tasks == 0 {
+            return Ok(());
+        }
+        notes.forget();
         let seats: &[u16] = match &self.seats {
             Some(seats) => seats,
             None => &[],
         };
-        let count = known.bundles.len().min(usize::from(MAX_STUDENTS));
-        let rehearsal = Mutex::new(Rehearsal::at(alloc, known, seats, pairs, count)?);
+        let rehearsal = Mutex::new(Rehearsal::at(alloc, known, seats, pairs, tasks as usize)?);
         let ground = Ground {
             remembered: known,
             rehearsal: &rehearsal,
@@ -125,8 +143,11 @@ impl PooledDemands<AnyGate<'_>> {
             self.gate,
             &remembered,
             &ground,
-            count as u32,
+            tasks,
         )?;
+        let noted = noted_in(&answers);
+        self.inquiries = self.inquiries.saturating_add(noted);
+        *left -= noted;
         notes.add_told(&answers)?;
         Ok(())
     }
@@ -134,17 +155,26 @@ impl PooledDemands<AnyGate<'_>> {
     /// The walk to the least price of the section for one limit. As long as there are too many
     /// holders, the first of them to leave is asked at the price from which it does not keep what
     /// it holds: it holds the section from then on up to another price, or leaves. Before the first
-    /// is asked the walks ahead are rehearsed, if there are any.
+    /// is asked the walks ahead are rehearsed, if there are any. Where nobody may be asked any more,
+    /// the rest is found by halving, so that no crowd makes a walk long.
     pub(crate) fn least_price<R: Threads + Wait + Sync>(
-        &self,
+        &mut self,
         rt: &R,
         alloc: Global,
         notes: &mut Notes,
-        ahead: &mut Option<Vec<(SectionNo, u32)>>,
         section: SectionNo,
         limit: u32,
+        left: &mut u64,
     ) -> Result<Walk, NoMemory>
-        requires { section.0 < (arc_value (arc_value notes.old.remembered).crowd).sections }
+        requires crowd { crowd_of (arc_value notes.old.remembered)
+            ≡ data_of (arc_value self.old.crowd) }
+        requires section { section.0
+            < (arc_value (arc_value notes.old.remembered).crowd).sections }
+        ensures kept { (self.new.crowd ≡ self.old.crowd) × (self.new.asked ≡ self.old.asked) }
+        ensures inquiries { (digits : ℕ)
+            → top (crowd_of (arc_value notes.old.remembered)) < 2 ^ digits
+            → HasSpent (digits * length (crowd_of (arc_value notes.old.remembered)).students)
+            left.old left.new self.old.inquiries self.new.inquiries }
         ensures same { IfOk result (λ walk. notes.new.remembered ≡ notes.old.remembered) }
         ensures remembered { IfOk result
             (λ walk. arc_value walk.remembered ≡ arc_value notes.old.remembered) }
@@ -169,7 +199,10 @@ impl PooledDemands<AnyGate<'_>> {
                 version: 0,
                 raised: Some((section, least)),
             };
-            let bundle = self.told_or_asked(rt, alloc, notes, ahead, inquiry)?;
+            let told = self.told_or_asked(rt, alloc, notes, inquiry, left)?;
+            let Some(bundle) = told else {
+                return self.halved(rt, alloc, remembered, section, limit, least);
+            };
             if !bundle.has(section) {
                 continue;
             }
@@ -189,45 +222,127 @@ impl PooledDemands<AnyGate<'_>> {
         })
     }
 
+    // The walk's least price, where it is known that the section has too many takers below this one:
+    // found by halving what is between this price and the top, where nobody takes it.
+    fn halved<R: Threads + Wait + Sync>(
+        &mut self,
+        rt: &R,
+        alloc: Global,
+        remembered: Arc<Remembered>,
+        section: SectionNo,
+        limit: u32,
+        from: Tokens,
+    ) -> Result<Walk, NoMemory>
+        requires crowd { crowd_of (arc_value remembered) ≡ data_of (arc_value self.old.crowd) }
+        requires section { section.0 < (arc_value (arc_value remembered).crowd).sections }
+        requires low { price_before (arc_value remembered) section.0 ≤ from.0 }
+        requires high { from.0 ≤ top (crowd_of (arc_value remembered)) }
+        requires lower { (p : ℕ) → price_before (arc_value remembered) section.0 ≤ p → p < from.0
+            → limit
+            < count (crowd_of (arc_value remembered))
+            (with_price (price_before (arc_value remembered)) section.0 p) section.0 }
+        ensures kept { (self.new.crowd ≡ self.old.crowd) × (self.new.asked ≡ self.old.asked) }
+        ensures inquiries { (digits : ℕ) → top (crowd_of (arc_value remembered)) < 2 ^ digits
+            → RoseAtMost (digits * length (crowd_of (arc_value remembered)).students)
+            self.old.inquiries self.new.inquiries }
+        ensures remembered { IfOk result (λ walk. walk.remembered ≡ remembered) }
+        ensures least { IfOk result
+            (λ walk. IsLeastFrom (price_before (arc_value remembered) section.0)
+            (crowd_of (arc_value remembered)) (price_before (arc_value remembered)) section.0
+            limit walk.least.0) }
+    {
+        let mut trial = remembered.prices.as_slice().to_vec(alloc)?;
+        let place = usize::from(section.0);
+        let mut low = from.0;
+        let mut high = self.crowd.top().0;
+        while low < high {
+            let middle = low + (high - low) / 2;
+            trial[place] = Tokens(middle);
+            if self.is_exceeded(rt, alloc, &trial, section, limit)? {
+                low = middle + 1;
+            } else {
+                high = middle;
+            }
+        }
+        Ok(Walk {
+            remembered,
+            section,
+            least: Tokens(low),
+        })
+    }
+
     // What the student of an inquiry takes at the remembered prices with the raised one: noted, or
-    // asked. Where it is not noted, the walks ahead are rehearsed first, once: what is asked next is
-    // noted then, and what is left after that is asked alone.
+    // asked alone; `None` where it is not noted, and nobody may be asked any more.
     fn told_or_asked<R: Threads + Wait + Sync>(
-        &self,
+        &mut self,
         rt: &R,
         alloc: Global,
         notes: &mut Notes,
-        ahead: &mut Option<Vec<(SectionNo, u32)>>,
         inquiry: Inquiry,
-    ) -> Result<Bundle, NoMemory>
+        left: &mut u64,
+    ) -> Result<Option<Bundle>, NoMemory>
         requires inquiry { IsInquiry (crowd_of (arc_value notes.old.remembered)) 1 inquiry }
-        ensures same { IfOk result (λ bundle. notes.new.remembered ≡ notes.old.remembered) }
-        ensures taken { IfOk result
+        ensures kept { (self.new.crowd ≡ self.old.crowd) × (self.new.asked ≡ self.old.asked) }
+        ensures inquiries { HasSpent 0 left.old left.new self.old.inquiries self.new.inquiries }
+        ensures same { IfOk result (λ told. notes.new.remembered ≡ notes.old.remembered) }
+        ensures taken { IfOk result (λ told. IfSome told
             (λ bundle. sections_of bundle
             ≡ taken_at (crowd_of (arc_value notes.old.remembered))
-            ((arc_value notes.old.remembered).prices.items ∷ []) inquiry) }
+            ((arc_value notes.old.remembered).prices.items ∷ []) inquiry)) }
     {
-        if let Some(bundle) = notes.told_at(inquiry) {
-            return Ok(bundle);
+        let told = self.told_or_rehearsed(rt, alloc, notes, inquiry, left)?;
+        if told.is_some() {
+            return Ok(told);
         }
-        if let Some(pairs) = ahead.take() {
-            self.rehearse(rt, alloc, notes, pairs)?;
-            if let Some(bundle) = notes.told_at(inquiry) {
-                return Ok(bundle);
-            }
+        if *left == 0 {
+            return Ok(None);
         }
-        self.asked_alone(rt, alloc, notes, inquiry)
+        *left -= 1;
+        let bundle = self.asked_alone(rt, alloc, notes, inquiry)?;
+        Ok(Some(bundle))
+    }
+
+    // What the student of an inquiry takes there, where it is noted. Where it is not, the walks ahead
+    // are rehearsed, once: what is asked next is noted then.
+    fn told_or_rehearsed<R: Threads + Wait + Sync>(
+        &mut self,
+        rt: &R,
+        alloc: Global,
+        notes: &mut Notes,
+        inquiry: Inquiry,
+        left: &mut u64,
+    ) -> Result<Option<Bundle>, NoMemory>
+        requires { IsInquiry (crowd_of (arc_value notes.old.remembered)) 1 inquiry }
+        ensures kept { (self.new.crowd ≡ self.old.crowd) × (self.new.asked ≡ self.old.asked) }
+        ensures inquiries { HasSpent 0 left.old left.new self.old.inquiries self.new.inquiries }
+        ensures same { IfOk result (λ told. notes.new.remembered ≡ notes.old.remembered) }
+        ensures taken { IfOk result (λ told. IfSome told
+            (λ bundle. sections_of bundle
+            ≡ taken_at (crowd_of (arc_value notes.old.remembered))
+            ((arc_value notes.old.remembered).prices.items ∷ []) inquiry)) }
+    {
+        let told = notes.told_at(inquiry);
+        if told.is_some() {
+            return Ok(told);
+        }
+        let Some(pairs) = self.ahead.take() else {
+            return Ok(None);
+        };
+        self.rehearse(rt, alloc, notes, pairs, left)?;
+        Ok(notes.told_at(inquiry))
     }
 
     // What the student of an inquiry takes there, asked in a round of its own, and noted.
     fn asked_alone<R: Threads + Wait + Sync>(
-        &self,
+        &mut self,
         rt: &R,
         alloc: Global,
         notes: &mut Notes,
         inquiry: Inquiry,
     ) -> Result<Bundle, NoMemory>
         requires { IsInquiry (crowd_of (arc_value notes.old.remembered)) 1 inquiry }
+        ensures kept { (self.new.crowd ≡ self.old.crowd) × (self.new.asked ≡ self.old.asked) }
+        ensures inquiries { RoseAtMost 1 self.old.inquiries self.new.inquiries }
         ensures same { IfOk result (λ bundle. notes.new.remembered ≡ notes.old.remembered) }
         ensures taken { IfOk result
             (λ bundle. sections_of bundle
@@ -236,7 +351,7 @@ impl PooledDemands<AnyGate<'_>> {
     {
         let list = vec![in alloc; inquiry; 1]?;
         let inquiries = at_remembered(alloc, &notes.remembered, list)?;
-        let found = ask(rt, alloc, &self.pool, self.gate, inquiries)?;
+        let found = self.inquire(rt, alloc, inquiries)?;
         notes.add_found(&found)?;
         Ok(found.bundles[0])
     }
@@ -246,14 +361,18 @@ impl PooledDemands<AnyGate<'_>> {
     /// pay. A student of whom it is noted is not asked. Whom this does not settle is asked. The only
     /// error is that memory was not given.
     pub(crate) fn raised_memory<R: Threads + Wait + Sync>(
-        &self,
+        &mut self,
         rt: &R,
         alloc: Global,
         notes: &Notes,
         walk: &Walk,
     ) -> Result<Remembered, NoMemory>
         requires { arc_value notes.now.remembered ≡ arc_value walk.now.remembered }
-        ensures { IfOk result
+        ensures kept { (self.new.crowd ≡ self.old.crowd) × (self.new.asked ≡ self.old.asked) }
+        ensures inquiries { RoseAtMost
+            (length (crowd_of (arc_value walk.now.remembered)).students) self.old.inquiries
+            self.new.inquiries }
+        ensures crowd { IfOk result
             (λ memory. crowd_of memory ≡ crowd_of (arc_value walk.now.remembered)) }
     {
         let remembered: &Remembered = &walk.remembered;
@@ -274,7 +393,7 @@ impl PooledDemands<AnyGate<'_>> {
             bundles[place] = bundle;
         }
         let inquiries = at_remembered(alloc, &walk.remembered, list)?;
-        let found = ask(rt, alloc, &self.pool, self.gate, inquiries)?;
+        let found = self.inquire(rt, alloc, inquiries)?;
         let asked = &found.inquiries.list;
         write_found(
             &remembered.crowd,

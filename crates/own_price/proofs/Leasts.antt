@@ -1,5 +1,5 @@
 -- The least price is one, and it is the least from 0 up.
-use Rattle.std.proofs.Common.{ℕ, ◌≡◌, ◌≢◌, ◌<◌, ◌≤◌, ◌==◌, ◌∙◌, List, [], ◌∷◌, length, arith, sym, inl, inr}
+use Rattle.std.proofs.Common.{ℕ, ◌≡◌, ◌≢◌, ◌<◌, ◌≤◌, ◌+◌, ◌*◌, ◌==◌, ◌∙◌, List, [], ◌∷◌, length, arith, sym, inl, inr}
 use Rattle.std.specs.Prelude.{slice_set, slice_index_or}
 use Rattle.std.proofs.lemmas.Bool.{cases_order, cases_Bool}
 use Rattle.std.proofs.lemmas.Bool.Decides.{nat_tests}
@@ -10,7 +10,7 @@ use Rattle.market_units.specs.declared.units.Tokens.{Tokens}
 use Rattle.bundle_rules.specs.Demand.{price_in}
 use Rattle.demand_api.specs.Crowds.{CrowdData, top, count}
 use Rattle.demand_api.specs.Prices.{with_price, AreLeastPrices}
-use Rattle.demand_api.specs.Asking.{ArePricesFor}
+use Rattle.demand_api.specs.Asking.{ArePricesFor, RoseAtMost}
 use Rattle.demand_api.proofs.Halving.{count_same, with_here, with_there, price_kept, price_written}
 use Rattle.own_price.specs.Least.{IsLeastPrice}
 
@@ -61,3 +61,8 @@ least_found crowd prices section limit index (least ∷ more) d at low all =
       within = let few = is.within in let same = count_put crowd prices section.0 0 least.0 in omega (arith, few, same);
       lower = λ p below. let more_take = is.lower p (omega (arith, zero_there)) below in let same = count_put crowd prices section.0 0 p in omega (arith, more_take, same);
     }
+
+-- what is asked for one pair
+pub asked_for_one : (students digits before now : ℕ) → RoseAtMost (1 * students * (2 * digits + 1)) before now
+    → RoseAtMost (students * (2 * digits + 1)) before now
+asked_for_one students digits before now rose = record { kept = rose.kept; most = let most = rose.most in omega (arith, most) }

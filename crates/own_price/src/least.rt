@@ -1,7 +1,8 @@
 // The least price of a section.
-ghost use Rattle.std.specs.Prelude.{◌≡◌, ◌<◌, IfOk};
+ghost use Rattle.std.specs.Prelude.{◌≡◌, ◌<◌, ◌+◌, ◌*◌, ◌^◌, ℕ, IfOk, length};
 ghost use Rattle.bundle_rules.specs.Demand.{price_in};
-ghost use Rattle.demand_api.specs.{Asking.ArePricesFor, Asking.RoseByDigits, Crowds.top};
+ghost use Rattle.demand_api.specs.Asking.{ArePricesFor, RoseAtMost, RoseByDigits};
+ghost use Rattle.demand_api.specs.Crowds.{top};
 ghost use Rattle.own_price.specs.Least.{IsLeastPrice};
 
 use demand_api::Demands;
@@ -11,8 +12,9 @@ use std::sync::Wait;
 use std::thread::Threads;
 
 /// The least price of the section, of all prices from 0, at which at most `limit` students take it,
-/// the other prices as given. There is a price for each section, at most the top. It asks at most
-/// as often as the top has binary digits, and once more. The one error is the want of memory.
+/// the other prices as given. There is a price for each section, at most the top. At most as many
+/// calls are made as the top has binary digits, and one more, and at most as many students asked as
+/// the crowd has, times twice those digits and one. The one error is the want of memory.
 pub fn least_price<R: Threads + Wait + Sync, D: Demands>(
     rt: &R,
     alloc: Global,
@@ -26,6 +28,9 @@ pub fn least_price<R: Threads + Wait + Sync, D: Demands>(
     ensures crowd { D.crowd demands.new ≡ D.crowd demands.old }
     ensures asked { RoseByDigits 1 (top (D.crowd demands.old)) (D.asked demands.old)
         (D.asked demands.new) }
+    ensures inquiries { (digits : ℕ) → top (D.crowd demands.old) < 2 ^ digits
+        → RoseAtMost (length (D.crowd demands.old).students * (2 * digits + 1))
+        (D.inquiries demands.old) (D.inquiries demands.new) }
     ensures value { IfOk result
         (λ least. IsLeastPrice (D.crowd demands.old) (price_in prices.now) section.0 limit
         least.0) }

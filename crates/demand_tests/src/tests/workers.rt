@@ -17,21 +17,21 @@ use std::thread::Threads;
 
 /// Counts the starts of workers and their posts.
 #[derive(Drop)]
-struct CountingGate {
+pub(crate) struct CountingGate {
     starts: AtomicU64,
     calls: AtomicU64,
 }
 
 impl CountingGate {
-    fn new() -> Self {
+    pub(crate) fn new() -> Self {
         CountingGate {
             starts: AtomicU64::new(0),
             calls: AtomicU64::new(0),
         }
     }
 
-    // How often workers started and posted since this was asked last.
-    fn take(&self) -> (u64, u64) {
+    /// How often workers started and posted since this was asked last.
+    pub(crate) fn take(&self) -> (u64, u64) {
         (
             self.starts.swap(0, Ordering::SeqCst),
             self.calls.swap(0, Ordering::SeqCst),

@@ -40,6 +40,8 @@ impl Demands for Counting {
 
     ghost asked = { λ counting. ⟦<PlainDemands as Demands>⟧.asked counting.plain };
 
+    ghost inquiries = { λ counting. ⟦<PlainDemands as Demands>⟧.inquiries counting.plain };
+
     fn top(&self) -> Tokens {
         self.plain.top()
     }

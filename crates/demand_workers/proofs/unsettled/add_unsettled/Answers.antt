@@ -1,4 +1,4 @@
-use Rattle.std.proofs.Common.{rules, ◌≡◌, ◌<◌, ◌≤◌, ◌∙◌, [], None, Some, Vec, Global, length, slice_index_or, refl, ap, sym, subst, arith}
+use Rattle.std.proofs.Common.{rules, ◌≡◌, ◌<◌, ◌≤◌, ◌+◌, ◌∙◌, [], None, Some, Vec, Global, length, slice_index_or, refl, ap, sym, subst, arith}
 use Rattle.std.specs.Arc.{arc_value}
 use Rattle.std.specs.Prelude.{IsTrue}
 use Rattle.std.proofs.lemmas.List.{get_or-map, length-map}
@@ -7,6 +7,7 @@ use Rattle.demand_api.specs.Asking.{ArePricesFor}
 use Rattle.demand_api.proofs.Parts.{menus_few, students_length}
 use Rattle.demand_workers.specs.Rounds.{prices_of}
 use Rattle.demand_workers.specs.Views.{crowd_of}
+use Rattle.demand_workers.proofs.Allowing.{pushed_one}
 use Rattle.demand_workers.proofs.Surveying.{AreFirstKept, first_asked, first_kept, survey_asks, survey_more}
 use Rattle.demand_workers.proofs.unsettled.add_unsettled.Goals as goal
 
@@ -35,6 +36,7 @@ loop-place-preserved-then-stays c =
     let holds : IsTrue c.stays.result = search rules in
     record {
       survey = c.loop-place.invariant.survey;
+      few = omega (arith, c.loop-place.invariant.few);
       kept =
           first_kept (crowd_of remembered) remembered.bundles.items _ c.args.version c.loop-place.place c.loop-place.inquiries.items
           c.loop-place.invariant.kept (λ d. remembered.taken c.loop-place.place d low ∙ c.stays.ensures holds);
@@ -54,13 +56,15 @@ loop-place-preserved c =
             its_price = λ told is. (let none : None ≡ Some told = is in cc);
           })
           refl;
+      few = let longer = pushed_one c.loop-place.inquiries.items c.push.new.self.items _ c.in_ok-push.ensures.items in
+          omega (arith, longer, c.loop-place.invariant.few);
       kept =
           first_asked (crowd_of remembered) remembered.bundles.items _ c.args.version c.loop-place.place c.loop-place.inquiries.items
           _ _ c.loop-place.invariant.kept c.in_ok-push.ensures.items refl refl;
     }
 
-pub returns : goal.returns
-returns c =
+pub returns-clause-survey : goal.returns-clause-survey
+returns-clause-survey c =
     let remembered = c.args.remembered.now in
     let versions = c.args.versions.now in
     let there : slice_index_or (prices_of versions) c.args.version [] ≡ c.deref-prices.result.now =

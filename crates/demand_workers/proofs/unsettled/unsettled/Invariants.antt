@@ -1,8 +1,12 @@
+use Rattle.std.proofs.Common.{◌≤◌, ◌*◌, length}
 use Rattle.demand_workers.specs.Rounds.{prices_of}
 use Rattle.demand_workers.specs.Surveys.{IsSurvey}
 use Rattle.demand_workers.specs.Views.{crowd_of}
 use Rattle.demand_workers.proofs.unsettled.unsettled.Given as goal
 
--- the versions so far are surveyed
+-- the versions so far are surveyed, with at most one inquiry for each of them and each student
 abbrev pub invariant-loop-version : goal.invariant-loop-version
-invariant-loop-version l = IsSurvey (crowd_of l.remembered) l.remembered.bundles.items (prices_of l.versions) l.version l.inquiries.items
+invariant-loop-version l = record {
+  survey : IsSurvey (crowd_of l.remembered) l.remembered.bundles.items (prices_of l.versions) l.version l.inquiries.items;
+  few : length l.inquiries.items ≤ l.version * length l.remembered.bundles.items;
+}

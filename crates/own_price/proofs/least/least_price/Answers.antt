@@ -1,7 +1,7 @@
 use Rattle.std.proofs.Common.{◌≡◌, ◌<◌, ◌∷◌, [], length, subst, slice_set, rules}
 use Rattle.bundle_rules.specs.Demand.{price_in}
 use Rattle.demand_api.specs.Prices.{AreLeastPrices}
-use Rattle.own_price.proofs.Leasts.{least_found}
+use Rattle.own_price.proofs.Leasts.{asked_for_one, least_found}
 use Rattle.own_price.proofs.least.least_price.Goals as goal
 
 pub returns-clause-value : goal.returns-clause-value
@@ -18,3 +18,13 @@ returns-clause-value g c =
     (λ ps. AreLeastPrices (g.D.Demands.crowd c.args.demands.now) (price_in (slice_set ps c.from.result (record { 0 = 0 })))
     ((c.args.section, c.args.limit) ∷ []) c.in_ok-least.least.items)
     copied least))
+
+pub returns-clause-inquiries : goal.returns-clause-inquiries
+returns-clause-inquiries g c digits fits =
+    asked_for_one (length (g.D.Demands.crowd c.args.demands.now).students) digits (g.D.Demands.inquiries c.args.demands.now)
+    (g.D.Demands.inquiries c.least_prices.new.self) (c.least_prices.ensures.inquiries digits fits)
+
+pub returns-in_err-least-clause-inquiries : goal.returns-in_err-least-clause-inquiries
+returns-in_err-least-clause-inquiries g c digits fits =
+    asked_for_one (length (g.D.Demands.crowd c.args.demands.now).students) digits (g.D.Demands.inquiries c.args.demands.now)
+    (g.D.Demands.inquiries c.least_prices.new.self) (c.least_prices.ensures.inquiries digits fits)

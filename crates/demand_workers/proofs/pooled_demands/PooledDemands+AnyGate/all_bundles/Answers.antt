@@ -23,10 +23,10 @@ pub read_all-requires-clause-same : goal.read_all-requires-clause-same
 read_all-requires-clause-same g c =
     let crowd = arc_value c.args.self.now.crowd in
     let many : length c.deref_mut.result.now ≡ length (arc_value c.args.self.now.crowd).menus.items = search rules in
-    many ∙ sym (students_length crowd) ∙ sym (ap (λ (t : Terms). length t.crowd.students) c.in_ok-answers.ensures)
+    many ∙ sym (students_length crowd) ∙ sym (ap (λ (t : Terms). length t.crowd.students) c.in_ok-answers.ensures.terms)
 
 pub returns-clause-taken : goal.returns-clause-taken
 returns-clause-taken g c =
     subst (λ (b : List Bundle). AreTaken (data_of (arc_value c.args.self.now.crowd)) c.args.prices.now b)
     (sym (lent_back c.in_ok-bundles.bundles.len c.read_all.new.bundles c.in_ok-bundles.bundles.items (search rules)))
-    (subst (λ (t : Terms). AreTaken t.crowd (slice_index_or t.versions 0 []) c.read_all.new.bundles) c.in_ok-answers.ensures c.read_all.ensures.taken)
+    (subst (λ (t : Terms). AreTaken t.crowd (slice_index_or t.versions 0 []) c.read_all.new.bundles) c.in_ok-answers.ensures.terms c.read_all.ensures.taken)

@@ -1,14 +1,36 @@
-use Rattle.std.proofs.Common.{rules, ◌+◌, ◌∙◌, take, sym, subst}
+use Rattle.std.proofs.Common.{rules, ℕ, ◌≡◌, ◌<◌, ◌≤◌, ◌+◌, ◌*◌, ◌^◌, ◌∙◌, length, take, ap, sym, subst, arith}
 use Rattle.std.specs.Arc.{arc_value}
+use Rattle.demand_api.specs.Crowds.{CrowdData, top}
 use Rattle.demand_api.specs.Prices.{AreLeastPrices}
+use Rattle.demand_api.specs.Views.{data_of}
 use Rattle.demand_api.proofs.Pairs.{least_more}
+use Rattle.demand_workers.specs.Allowances.{HasSpent}
 use Rattle.demand_workers.specs.Views.{crowd_of, price_before}
+use Rattle.demand_workers.proofs.Allowing.{spent_more, spent_on_some}
 use Rattle.demand_workers.proofs.walks.PooledDemands+AnyGate.least_for_each.Goals as goal
+
+-- one walk in the same crowd
+walked : (crowd now : CrowdData) (digits left left_then before after : ℕ) → now ≡ crowd → top crowd < 2 ^ digits
+    → ((d : ℕ) → top now < 2 ^ d → HasSpent (d * length now.students) left left_then before after)
+    → HasSpent (digits * length crowd.students) left left_then before after
+walked crowd now digits left left_then before after same fits spent =
+    subst (λ (w : CrowdData). (d : ℕ) → top w < 2 ^ d → HasSpent (d * length w.students) left left_then before after) same spent digits fits
+
+pub least_price-requires-clause-crowd : goal.least_price-requires-clause-crowd
+least_price-requires-clause-crowd g c =
+    ap (λ r. crowd_of (arc_value r)) c.loop-place.invariant.same ∙ c.requires.crowd
+    ∙ sym (ap (λ a. data_of (arc_value a)) c.loop-place.invariant.kept.0)
 
 pub loop-place-preserved : goal.loop-place-preserved
 loop-place-preserved g c =
     let known = arc_value c.loop-place.notes.remembered in
     record {
+      kept = (c.in_ok-walk.ensures.kept.0 ∙ c.loop-place.invariant.kept.0, c.in_ok-walk.ensures.kept.1 ∙ c.loop-place.invariant.kept.1);
+      spent = λ digits fits.
+          spent_more c.loop-place.place (digits * length (crowd_of (arc_value c.args.notes.now.remembered)).students) _ _ _ _ _ _
+          (c.loop-place.invariant.spent digits fits)
+          (walked (crowd_of (arc_value c.args.notes.now.remembered)) (crowd_of (arc_value c.loop-place.notes.remembered)) digits _ _ _ _
+          (ap (λ r. crowd_of (arc_value r)) c.loop-place.invariant.same) fits c.in_ok-walk.ensures.inquiries);
       same = c.in_ok-walk.ensures.same ∙ c.loop-place.invariant.same;
       least =
           subst (λ r. AreLeastPrices (crowd_of (arc_value r)) (price_before (arc_value r)) (take (c.loop-place.place + 1) c.args.pairs.now) c.push.new.self.items)
@@ -19,3 +41,35 @@ loop-place-preserved g c =
           (sym c.loop-place.invariant.same) c.loop-place.invariant.least)
           (search rules) c.in_ok-walk.ensures.least);
     }
+
+pub returns-in_err-walk-clause-inquiries : goal.returns-in_err-walk-clause-inquiries
+returns-in_err-walk-clause-inquiries g c digits fits =
+    let low : c.loop-place.place < length c.args.pairs.now = search rules in
+    spent_on_some (c.loop-place.place + 1) (length c.args.pairs.now) (digits * length (crowd_of (arc_value c.args.notes.now.remembered)).students) _ _ _ _
+    (spent_more c.loop-place.place (digits * length (crowd_of (arc_value c.args.notes.now.remembered)).students) _ _ _ _ _ _
+    (c.loop-place.invariant.spent digits fits)
+    (walked (crowd_of (arc_value c.args.notes.now.remembered)) (crowd_of (arc_value c.loop-place.notes.remembered)) digits _ _ _ _
+    (ap (λ r. crowd_of (arc_value r)) c.loop-place.invariant.same) fits c.least_price.ensures.inquiries))
+    (omega (arith, low))
+
+pub returns-in_err-push-clause-inquiries : goal.returns-in_err-push-clause-inquiries
+returns-in_err-push-clause-inquiries g c digits fits =
+    let low : c.loop-place.place < length c.args.pairs.now = search rules in
+    spent_on_some (c.loop-place.place + 1) (length c.args.pairs.now) (digits * length (crowd_of (arc_value c.args.notes.now.remembered)).students) _ _ _ _
+    (spent_more c.loop-place.place (digits * length (crowd_of (arc_value c.args.notes.now.remembered)).students) _ _ _ _ _ _
+    (c.loop-place.invariant.spent digits fits)
+    (walked (crowd_of (arc_value c.args.notes.now.remembered)) (crowd_of (arc_value c.loop-place.notes.remembered)) digits _ _ _ _
+    (ap (λ r. crowd_of (arc_value r)) c.loop-place.invariant.same) fits c.in_ok-walk.ensures.inquiries))
+    (omega (arith, low))
+
+pub returns-in_err-pairs_ahead-clause-inquiries : goal.returns-in_err-pairs_ahead-clause-inquiries
+returns-in_err-pairs_ahead-clause-inquiries g c digits fits =
+    let low : c.loop-place.place < length c.args.pairs.now = search rules in
+    spent_on_some c.loop-place.place (length c.args.pairs.now) (digits * length (crowd_of (arc_value c.args.notes.now.remembered)).students) _ _ _ _
+    (c.loop-place.invariant.spent digits fits) (omega (arith, low))
+
+pub returns-clause-inquiries : goal.returns-clause-inquiries
+returns-clause-inquiries g c digits fits =
+    let some : c.loop-place.place ≤ length c.args.pairs.now = search rules in
+    spent_on_some c.loop-place.place (length c.args.pairs.now) (digits * length (crowd_of (arc_value c.args.notes.now.remembered)).students) _ _ _ _
+    (c.loop-place.invariant.spent digits fits) some

@@ -4,6 +4,7 @@ use Rattle.std.specs.BinaryHeap.{IsHeap}
 use Rattle.std.specs.Ordering.{ordering_then}
 use Rattle.demand_api.specs.Crowds.{count, top}
 use Rattle.demand_api.specs.Prices.{with_price}
+use Rattle.demand_workers.specs.Allowances.{HasSpent}
 use Rattle.demand_workers.specs.Leaving.{AreLeft}
 use Rattle.demand_workers.specs.Views.{crowd_of, price_before}
 use Rattle.demand_workers.proofs.HoldersLeave.{room_of}
@@ -16,6 +17,8 @@ invariant-loop-least g l = record {
   left : AreLeft (crowd_of (arc_value l.fn.notes.remembered)) (price_before (arc_value l.fn.notes.remembered)) l.section.0 l.least.0 (heap_items l.holders);
   from : price_before (arc_value l.fn.notes.remembered) l.section.0 ≤ l.least.0;
   high : l.least.0 ≤ top (crowd_of (arc_value l.fn.notes.remembered));
+  kept : (l.self.crowd ≡ l.fn.self.crowd) × (l.self.asked ≡ l.fn.self.asked);
+  spent : HasSpent 0 l.fn.left l.left l.fn.self.inquiries l.self.inquiries;
   same : l.notes.remembered ≡ l.fn.notes.remembered;
   lower : (p : ℕ) → price_before (arc_value l.fn.notes.remembered) l.section.0 ≤ p → p < l.least.0
       → l.limit < count (crowd_of (arc_value l.fn.notes.remembered)) (with_price (price_before (arc_value l.fn.notes.remembered)) l.section.0 p) l.section.0;

@@ -16,6 +16,7 @@ use Rattle.demand_api.specs.Asking.{ArePricesFor}
 use Rattle.demand_workers.specs.declared.remembered.Remembered.{Remembered}
 use Rattle.demand_workers.specs.Remembered.{AreTaken}
 use Rattle.demand_workers.specs.Views.{crowd_of}
+use Rattle.demand_workers.proofs.Allowing.{pushed_one, rose_within}
 use Rattle.demand_workers.proofs.HoldersLeave.{raised_prices}
 use Rattle.demand_workers.proofs.Surveying.{can_be_raised, first_asked}
 use Rattle.demand_workers.proofs.walks.PooledDemands+AnyGate.raised_memory.Goals as goal
@@ -30,6 +31,7 @@ loop-place-preserved-in_default g c =
     let low : c.loop-place.place < length crowd.menus.items = search rules in
     record {
       len = c.loop-place.invariant.len;
+      few = let longer = pushed_one c.loop-place.list.items _ _ c.in_ok-push.ensures.items in omega (arith, longer, c.loop-place.invariant.few);
       raised =
           subst (All (λ (q : Inquiry). q.raised ≡ Some (c.args.walk.now.section, c.args.walk.now.least))) (sym {A = List Inquiry} c.in_ok-push.ensures.items)
           (All-push (λ (q : Inquiry). q.raised ≡ Some (c.args.walk.now.section, c.args.walk.now.least)) c.loop-place.list.items _ c.loop-place.invariant.raised refl);
@@ -49,7 +51,7 @@ pub write_found-requires-clause-students : goal.write_found-requires-clause-stud
 write_found-requires-clause-students g c =
     let remembered = arc_value c.args.walk.now.remembered in
     let listed : c.deref-5.result.now ≡ c.loop-place.list.items =
-    c.deref-5.ensures.value ∙ ap (λ (w : Inquiries). w.list.items) (c.deref-2.ensures ∙ c.in_ok-found.ensures) ∙ c.in_ok-inquiries.ensures.list in
+    c.deref-5.ensures.value ∙ ap (λ (w : Inquiries). w.list.items) (c.deref-2.ensures ∙ c.in_ok-found.ensures.found) ∙ c.in_ok-inquiries.ensures.list in
     let many : length (crowd_of remembered).students ≡ length c.deref_mut.result.now =
     students_length (arc_value remembered.crowd) ∙ sym remembered.each ∙ sym c.loop-place.invariant.len ∙ sym (ap length c.deref_mut.ensures.value) in
     subst (All (λ (q : Inquiry). q.student.0 < length c.deref_mut.result.now)) (sym listed)
@@ -88,5 +90,34 @@ invariant_of-result g c =
           (c.deref-3.ensures ∙ ap (λ (r : Remembered). arc_value r.crowd) c.deref-remembered.ensures) c.write_found.ensures.taken)));
     }
 
-pub returns : goal.returns
-returns g c = ap data_of c.in_ok-try_clone.ensures ∙ ap crowd_of c.deref-remembered.ensures
+pub returns-clause-crowd : goal.returns-clause-crowd
+returns-clause-crowd g c = ap data_of c.in_ok-try_clone.ensures ∙ ap crowd_of c.deref-remembered.ensures
+
+-- at most one inquiry for each student
+few_asked : (crowd : Crowd) (place asked listed : ℕ) → asked ≡ listed → listed ≤ place → place ≤ length crowd.menus.items
+    → asked ≤ length (data_of crowd).students
+few_asked crowd place asked listed same few within = let many = students_length crowd in omega (arith, same, few, within, many)
+
+pub returns-in_err-found-clause-inquiries : goal.returns-in_err-found-clause-inquiries
+returns-in_err-found-clause-inquiries g c =
+    let crowd = arc_value (arc_value c.args.walk.now.remembered).crowd in
+    let within : c.loop-place.place ≤ length (arc_value (arc_value c.args.walk.now.remembered).crowd).menus.items = search rules in
+    rose_within (length c.in_ok-inquiries.inquiries.list.items) _ c.args.self.now.inquiries c.inquire.new.self.inquiries c.inquire.ensures.inquiries
+    (few_asked crowd c.loop-place.place (length c.in_ok-inquiries.inquiries.list.items) (length c.loop-place.list.items)
+    (ap length c.in_ok-inquiries.ensures.list) c.loop-place.invariant.few within)
+
+pub returns-in_err-try_clone-clause-inquiries : goal.returns-in_err-try_clone-clause-inquiries
+returns-in_err-try_clone-clause-inquiries g c =
+    let crowd = arc_value (arc_value c.args.walk.now.remembered).crowd in
+    let within : c.loop-place.place ≤ length (arc_value (arc_value c.args.walk.now.remembered).crowd).menus.items = search rules in
+    rose_within (length c.in_ok-inquiries.inquiries.list.items) _ c.args.self.now.inquiries c.inquire.new.self.inquiries c.inquire.ensures.inquiries
+    (few_asked crowd c.loop-place.place (length c.in_ok-inquiries.inquiries.list.items) (length c.loop-place.list.items)
+    (ap length c.in_ok-inquiries.ensures.list) c.loop-place.invariant.few within)
+
+pub returns-clause-inquiries : goal.returns-clause-inquiries
+returns-clause-inquiries g c =
+    let crowd = arc_value (arc_value c.args.walk.now.remembered).crowd in
+    let within : c.loop-place.place ≤ length (arc_value (arc_value c.args.walk.now.remembered).crowd).menus.items = search rules in
+    rose_within (length c.in_ok-inquiries.inquiries.list.items) _ c.args.self.now.inquiries c.inquire.new.self.inquiries c.inquire.ensures.inquiries
+    (few_asked crowd c.loop-place.place (length c.in_ok-inquiries.inquiries.list.items) (length c.loop-place.list.items)
+    (ap length c.in_ok-inquiries.ensures.list) c.loop-place.invariant.few within)

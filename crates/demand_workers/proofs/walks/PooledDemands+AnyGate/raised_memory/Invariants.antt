@@ -1,4 +1,4 @@
-use Rattle.std.proofs.Common.{◌≡◌, Some, All, length}
+use Rattle.std.proofs.Common.{◌≡◌, ◌≤◌, Some, All, length}
 use Rattle.std.specs.Arc.{arc_value}
 use Rattle.demand_workers.specs.declared.inquiry.Inquiry.{Inquiry}
 use Rattle.demand_workers.specs.Inquiring.{IsInquiry}
@@ -10,6 +10,7 @@ use Rattle.demand_workers.proofs.walks.PooledDemands+AnyGate.raised_memory.Given
 abbrev pub invariant-loop-place : goal.invariant-loop-place
 invariant-loop-place g l = record {
   len : length l.bundles.items ≡ length (arc_value l.walk.remembered).bundles.items;
+  few : length l.list.items ≤ l.place;
   raised : All (λ (q : Inquiry). q.raised ≡ Some (l.walk.section, l.walk.least)) l.list.items;
   asked : All (IsInquiry (crowd_of (arc_value l.walk.remembered)) 1) l.list.items;
   kept : AreFirstKept (crowd_of (arc_value l.walk.remembered)) l.bundles.items l.prices.items 0 l.place l.list.items;

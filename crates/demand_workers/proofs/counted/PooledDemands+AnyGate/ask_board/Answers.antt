@@ -1,12 +1,14 @@
-use Rattle.std.proofs.Common.{◌≡◌, ◌∙◌, ◌++◌, [], ◌∷◌, List, Vec, Global, map, ap, sym, subst}
+use Rattle.std.proofs.Common.{◌≡◌, ◌≤◌, ◌∙◌, ◌++◌, [], ◌∷◌, List, Vec, Global, length, map, ap, sym, subst, arith}
 use Rattle.std.specs.Arc.{arc_value}
 use Rattle.market_units.specs.declared.units.Tokens.{Tokens}
 use Rattle.demand_api.specs.declared.crowd.Crowd.{Crowd}
 use Rattle.demand_api.specs.Views.{data_of}
+use Rattle.demand_api.proofs.Halving.{rose_by}
+use Rattle.demand_api.proofs.Parts.{students_length}
 use Rattle.price_board.specs.declared.round.Ask.{Ask}
 use Rattle.price_board.specs.Openings.{IsRound}
 use Rattle.demand_workers.proofs.Rounds.{one_is_round}
-use Rattle.demand_workers.proofs.pooled_demands.PooledDemands+AnyGate.ask_board.Goals as goal
+use Rattle.demand_workers.proofs.counted.PooledDemands+AnyGate.ask_board.Goals as goal
 
 pub start-requires-clause-round : goal.start-requires-clause-round
 start-requires-clause-round g c =
@@ -23,3 +25,14 @@ start-requires-clause-round g c =
     (subst (λ (l : List (List Tokens)). IsRound (record { crowd = data_of crowd; versions = l; asks = c.in_ok-asks.asks.items })) (sym listed)
     (subst (λ (a : List Ask). IsRound (record { crowd = data_of crowd; versions = c.args.prices.now ∷ []; asks = a })) (sym asked)
     (one_is_round crowd c.args.prices.now c.args.ask c.requires.prices c.requires.section)))
+
+pub invariant_of-self-2 : goal.invariant_of-self-2
+invariant_of-self-2 g c = record { same = c.args.self.now.same; noted = c.args.self.now.noted }
+
+pub returns-clause-inquiries : goal.returns-clause-inquiries
+returns-clause-inquiries g c =
+    let crowd = arc_value c.args.self.now.crowd in
+    let all : c.len-students.result ≡ length (data_of (arc_value c.args.self.now.crowd)).students =
+    c.len-students.ensures ∙ ap (λ (w : Crowd). w.menus.len) c.deref-3.ensures ∙ crowd.menus.ok.0 ∙ sym (students_length crowd) in
+    rose_by (length (data_of (arc_value c.args.self.now.crowd)).students) c.len-students.result c.args.self.now.inquiries c.saturating_add-self.result
+    c.saturating_add-self.ensures (omega (arith, all))

@@ -1,0 +1,106 @@
+// Rounds of all workers, whose students are counted.
+ghost use Rattle.std.specs.Prelude.{◌≡◌, ◌<◌, ◌↔◌, [], ◌∷◌, IfOk, IsTrue, length};
+ghost use Rattle.std.specs.Arc.{arc_value};
+ghost use Rattle.bundle_rules.specs.Demand.{price_in};
+ghost use Rattle.demand_api.specs.Asking.{ArePricesFor, RoseAtMost};
+ghost use Rattle.demand_api.specs.{Crowds.count, Views.data_of};
+ghost use Rattle.price_board.specs.{Openings.IsAskOf, declared.terms.Terms.Terms};
+
+use crate::PooledDemands;
+use crate::asking::ask;
+use crate::found::Found;
+use crate::inquiry::Inquiries;
+use crate::round::work_and_close;
+use crate::worker::Lent;
+use market_edge::AnyGate;
+use market_units::{NoMemory, SectionNo, SectionSet, Tokens};
+use price_board::{Answers, Ask, Board, Round};
+use std::alloc::Global;
+use std::sync::{Arc, Wait};
+use std::thread::Threads;
+
+impl PooledDemands<AnyGate<'_>> {
+    /// What all workers find on a board where each student is a task, at these prices alone. All
+    /// memory is taken before the first worker starts.
+    pub(crate) fn ask_board<R: Threads + Wait + Sync>(
+        &mut self,
+        rt: &R,
+        alloc: Global,
+        prices: &[Tokens],
+        ask: Ask,
+    ) -> Result<Answers, NoMemory>
+        requires prices { ArePricesFor (data_of (arc_value self.old.crowd)) prices.now }
+        requires section { IsAskOf (arc_value self.old.crowd).sections ask }
+        ensures kept { (self.new.crowd ≡ self.old.crowd) × (self.new.asked ≡ self.old.asked) }
+        ensures inquiries { RoseAtMost (length (data_of (arc_value self.old.crowd)).students)
+            self.old.inquiries self.new.inquiries }
+        ensures terms { IfOk result
+            (λ answers. answers.terms
+            ≡ record {
+              crowd = data_of (arc_value self.old.crowd);
+              versions = prices.now ∷ [];
+              asks = ask ∷ [];
+            }) }
+    {
+        let version = prices.to_vec(alloc)?;
+        let mut versions = Vec::with_capacity(alloc, 1)?;
+        versions.push(version)?;
+        let asks = vec![in alloc; ask; 1]?;
+        let round = Round { versions, asks };
+        let crowd = Arc::try_clone(&self.crowd)?;
+        let (board, seats) = Board::start(alloc, crowd, round, self.pool.workers)?;
+        let lent = Lent {
+            crowd: &self.crowd,
+            prices,
+            allowed: &SectionSet::full(self.crowd.sections),
+            remembered: &self.remembered,
+        };
+        let answers = work_and_close(rt, board, seats, self.pool.workspaces(), &lent, self.gate);
+        let students = self.crowd.menus.len();
+        self.inquiries = self.inquiries.saturating_add(students as u64);
+        Ok(answers)
+    }
+
+    /// What the students of these inquiries take, asked in one round.
+    pub(crate) fn inquire<R: Threads + Wait + Sync>(
+        &mut self,
+        rt: &R,
+        alloc: Global,
+        inquiries: Inquiries,
+    ) -> Result<Found, NoMemory>
+        ensures kept { (self.new.crowd ≡ self.old.crowd) × (self.new.asked ≡ self.old.asked) }
+        ensures inquiries { RoseAtMost (length inquiries.list.items) self.old.inquiries
+            self.new.inquiries }
+        ensures found { IfOk result (λ found. arc_value found.inquiries ≡ inquiries) }
+    {
+        let found = ask(rt, alloc, &self.pool, self.gate, inquiries)?;
+        self.inquiries = self.inquiries.saturating_add(found.bundles.len() as u64);
+        Ok(found)
+    }
+
+    /// Whether more than `limit` students take the section at these prices.
+    pub(crate) fn is_exceeded<R: Threads + Wait + Sync>(
+        &mut self,
+        rt: &R,
+        alloc: Global,
+        prices: &[Tokens],
+        section: SectionNo,
+        limit: u32,
+    ) -> Result<bool, NoMemory>
+        requires prices { ArePricesFor (data_of (arc_value self.old.crowd)) prices.now }
+        requires section { section.0 < (arc_value self.old.crowd).sections }
+        ensures kept { (self.new.crowd ≡ self.old.crowd) × (self.new.asked ≡ self.old.asked) }
+        ensures inquiries { RoseAtMost (length (data_of (arc_value self.old.crowd)).students)
+            self.old.inquiries self.new.inquiries }
+        ensures value { IfOk result
+            (λ more. IsTrue more
+            ↔ (limit
+            < count (data_of (arc_value self.old.crowd)) (price_in prices.now) section.0)) }
+    {
+        let answers = self.ask_board(rt, alloc, prices, Ask::Exceeds { section, limit })?;
+        match answers.exceeds(0) {
+            Some(more) => Ok(more),
+            None => unreachable!(),
+        }
+    }
+}
