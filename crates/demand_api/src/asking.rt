@@ -28,8 +28,8 @@ pub trait Demands {
     /// How many calls of `counts`, `bundles` and `exceeds` were made, up to the greatest `u64`.
     ghost asked: { Self → ℕ };
 
-    /// How many students were asked what they take, over all calls, up to the greatest `u64`. Who is
-    /// asked twice is counted twice.
+    /// How many students were asked what they take, over all calls, up to the greatest `u64`; who is
+    /// asked twice is counted twice. As with `asked`, the number is what the implementor says it is.
     ghost inquiries: { Self → ℕ };
 
     /// The top price: one more than the greatest budget, and 1 without students.
@@ -43,7 +43,7 @@ pub trait Demands {
         ensures crowd { IsCrowd (crowd self.now) };
 
     /// How many students take each section, at each of 1 to 16 vectors of prices. Each student is
-    /// asked at most once at each, and once more: what is remembered first takes a round of its own.
+    /// asked at most once at each, and once more.
     fn counts<R: Threads + Wait + Sync>(
         &mut self,
         rt: &R,
@@ -61,8 +61,8 @@ pub trait Demands {
             (inquiries self.new) }
         ensures value { IfOk result (λ found. map (λ counts. counts.items) found.items ≡ map (λ prices. counts (crowd self.old) (price_in prices.items)) batch.now) };
 
-    /// What each of at most 2,000 students takes, in the order of the list. So many students are
-    /// asked at most, or all of the crowd once.
+    /// What each of at most 2,000 students takes, in the order of the list. At most as many students
+    /// are asked as are listed, or as there are, whichever is more.
     fn bundles<R: Threads + Wait + Sync>(
         &mut self,
         rt: &R,

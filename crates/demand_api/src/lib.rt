@@ -1,5 +1,6 @@
 //! What a crowd of students demands at given prices, and who can be asked for it.
-// Neither: how long it takes.
+// Neither: that `asked` and `inquiries` are what was asked (each is what the implementor says it
+// is); how long it takes.
 #![tactic(auto)]
 
 mod asking;

@@ -14,7 +14,7 @@ use std::thread::Threads;
 /// The least price of the section, of all prices from 0, at which at most `limit` students take it,
 /// the other prices as given. There is a price for each section, at most the top. At most as many
 /// calls are made as the top has binary digits, and one more, and at most as many students asked as
-/// the crowd has, times twice those digits and one. The one error is the want of memory.
+/// the crowd has, times one more than twice those digits. The one error is the want of memory.
 pub fn least_price<R: Threads + Wait + Sync, D: Demands>(
     rt: &R,
     alloc: Global,
