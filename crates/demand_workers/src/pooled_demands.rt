@@ -38,7 +38,8 @@ use std::thread::Threads;
 /// Where holders have to be asked on walks to least prices, several workers rehearse in one round
 /// what comes: these walks, or, where seats were told and there is one pair, an elimination from
 /// there, if it begins with this pair. A task is whoever is next to leave. What is found is noted, and
-/// serves wherever no section of the student's menu costs less. Its one form is `PooledDemands<AnyGate>`, which `make` gives.
+/// serves wherever no section of the student's menu costs less. Its one form is
+/// `PooledDemands<AnyGate>`, which `make` gives.
 #[derive(Drop)]
 pub struct PooledDemands<G> {
     pub(crate) crowd: Arc<Crowd>,
