@@ -1,4 +1,5 @@
 pub mod Allowing
+pub mod Spending
 pub mod Surveying
 pub mod Counting
 pub mod HolderSums

@@ -48,7 +48,8 @@ kept_demand crowd before after i menu budget bundle low is has_it no_cheaper aff
     found_demand crowd after i menu budget allowed bundle low is has_it (λ s. refl)
     (best_stays (wishes_of menu) before after budget.0 allowed bundle (rated_no_cheaper menu.places before after no_cheaper) affordable best)
   where
-    same_student : demand crowd.sections before (record { menu = slice_index_or crowd.menus.items i menu; budget = (slice_index_or crowd.budgets.items i budget).0 })
+    same_student :
+        demand crowd.sections before (record { menu = slice_index_or crowd.menus.items i menu; budget = (slice_index_or crowd.budgets.items i budget).0 })
         ≡ demand crowd.sections before (record { menu = menu; budget = budget.0 })
     same_student = rw (← is, ← has_it) refl
 

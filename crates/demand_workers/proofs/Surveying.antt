@@ -71,14 +71,6 @@ first_asked crowd bundles prices v n inquiries new inquiry kept more is at s low
     ]
 
 module _ (crowd : CrowdData) (bundles : List Bundle) (versions : List (List Tokens)) where
-  -- before the first version nobody is asked
-  pub survey_begins : (inquiries : List Inquiry) → inquiries ≡ [] → IsSurvey crowd bundles versions 0 inquiries
-  survey_begins inquiries none = record {
-    asked = subst (All (IsInquiry crowd (length versions))) (sym none) (λ k d low. absurd (omega (arith, low)));
-    plain = subst (All (λ (q : Inquiry). q.raised ≡ None)) (sym none) (λ k d low. absurd (omega (arith, low)));
-    others = λ v low. absurd (omega (arith, low));
-  }
-
   -- one inquiry more
   pub survey_asks : (n : ℕ) (inquiries new : List Inquiry) (inquiry : Inquiry) → IsSurvey crowd bundles versions n inquiries
       → new ≡ inquiries ++ inquiry ∷ [] → IsInquiry crowd (length versions) inquiry → inquiry.raised ≡ None → IsSurvey crowd bundles versions n new

@@ -1,5 +1,6 @@
-// Rounds of all workers, whose students are counted.
-ghost use Rattle.std.specs.Prelude.{◌≡◌, ◌<◌, ◌↔◌, [], ◌∷◌, IfOk, IsTrue, length};
+// Rounds of workers, whose students are counted.
+ghost use Rattle.std.specs.Prelude.{◌≡◌, ◌<◌, ◌↔◌, ◌+◌, ◌-◌, ◌^◌, [], ◌∷◌};
+ghost use Rattle.std.specs.Prelude.{IfOk, IsTrue, length, min};
 ghost use Rattle.std.specs.Arc.{arc_value};
 ghost use Rattle.bundle_rules.specs.Demand.{price_in};
 ghost use Rattle.demand_api.specs.Asking.{ArePricesFor, RoseAtMost};
@@ -34,6 +35,11 @@ impl PooledDemands<AnyGate<'_>> {
         ensures kept { (self.new.crowd ≡ self.old.crowd) × (self.new.asked ≡ self.old.asked) }
         ensures inquiries { RoseAtMost (length (data_of (arc_value self.old.crowd)).students)
             self.old.inquiries self.new.inquiries }
+        ensures counted { IfOk result
+            (λ answers. self.new.inquiries
+            ≡ min
+            (self.old.inquiries + length (data_of (arc_value self.old.crowd)).students)
+            (2 ^ 64 - 1)) }
         ensures terms { IfOk result
             (λ answers. answers.terms
             ≡ record {
@@ -71,6 +77,9 @@ impl PooledDemands<AnyGate<'_>> {
         ensures kept { (self.new.crowd ≡ self.old.crowd) × (self.new.asked ≡ self.old.asked) }
         ensures inquiries { RoseAtMost (length inquiries.list.items) self.old.inquiries
             self.new.inquiries }
+        ensures counted { IfOk result
+            (λ found. self.new.inquiries
+            ≡ min (self.old.inquiries + length inquiries.list.items) (2 ^ 64 - 1)) }
         ensures found { IfOk result (λ found. arc_value found.inquiries ≡ inquiries) }
     {
         let found = ask(rt, alloc, &self.pool, self.gate, inquiries)?;

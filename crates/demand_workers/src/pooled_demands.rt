@@ -36,24 +36,26 @@ use std::thread::Threads;
 /// thread, where the inquiries are few. Where nothing is remembered, and in `exceeds`, each student
 /// is a task of a price board. Workers pass the gate before their first draw and after each post.
 /// Where holders have to be asked on walks to least prices, several workers rehearse in one round
-/// what comes: these walks, or, where seats were told and there is one pair, an elimination from
-/// there, if it begins with this pair. A task is whoever is next to leave. What is found is noted, and
-/// serves wherever no section of the student's menu costs less. Its one form is `PooledDemands<AnyGate>`, which `make` gives.
+/// what comes: these walks, or, where seats were told and an elimination begins with the one pair,
+/// that elimination. A task is whoever is next to leave. What is found is noted, and serves
+/// wherever no section of the student's menu costs less. Where a call asked as many as it may, the
+/// rest of a walk is found by halving. The one form of this type is `PooledDemands<AnyGate>`, which
+/// `make` gives.
 #[derive(Drop)]
 pub struct PooledDemands<G> {
     pub(crate) crowd: Arc<Crowd>,
     pub(crate) pool: Pool,
     pub(crate) gate: G,
     asked: u64,
-    // How many students were asked: each inquiry of a round, each note that a rehearsal told, and each
-    // student of a price board.
+    // At least how many students were asked: each inquiry of a round, each task of a rehearsal, and
+    // each student of a price board.
     pub(crate) inquiries: u64,
     pub(crate) remembered: Option<Arc<Remembered>>,
     notes: Option<Notes>,
     // How many seats each section has, where that was told, and there are several workers.
     pub(crate) seats: Option<Vec<u16>>,
-    // The pairs of a call whose walks are rehearsed where somebody has to be asked; `None` where they
-    // were, and for one worker.
+    // The pairs of a call whose walks are rehearsed where somebody has to be asked; `None` where
+    // they were, and for one worker.
     pub(crate) ahead: Option<Vec<(SectionNo, u32)>>,
     ghost same: { IfSome remembered (λ memory. crowd_of (arc_value memory) ≡ data_of (arc_value crowd)) } by { Prim.hlevel (props, codes, rated.the_row.coded) },
     ghost noted: { IfSome notes (λ noted. crowd_of (arc_value noted.remembered) ≡ data_of (arc_value crowd)) } by { Prim.hlevel (props, codes, rated.the_row.coded) },
@@ -87,8 +89,8 @@ impl<'g> PooledDemands<AnyGate<'g>> {
 
     /// Tells how many seats each section has, so that several workers can ask ahead what an
     /// elimination asks: this serves where prices are raised until no section has more students
-    /// than seats, each time for the section most over. Any seats are right. One worker asks nothing
-    /// ahead. The only error is that memory was not given.
+    /// than seats, each time for the section most over. Any seats are right. One worker asks
+    /// nothing ahead. The only error is that memory was not given.
     pub fn tell_seats(&mut self, alloc: Global, seats: &[u16]) -> Result<(), NoMemory>
         ensures crowd { ⟦<PooledDemands<AnyGate<'g>> as Demands>⟧.crowd self.new
             ≡ ⟦<PooledDemands<AnyGate<'g>> as Demands>⟧.crowd self.old }
@@ -179,8 +181,8 @@ impl<'g> PooledDemands<AnyGate<'g>> {
         survey.bundles_at(alloc, 0)
     }
 
-    // What is found at these versions, each student asked of whom the remembered bundle is not known
-    // to be right.
+    // What is found at these versions, each student asked of whom the remembered bundle is not
+    // known to be right.
     fn survey<R: Threads + Wait + Sync>(
         &mut self,
         rt: &R,
@@ -235,8 +237,8 @@ impl<'g> PooledDemands<AnyGate<'g>> {
         Ok(memory)
     }
 
-    // What was noted earlier, with what is remembered now. One worker keeps no notes of earlier calls,
-    // since it asks nobody ahead.
+    // What was noted earlier, with what is remembered now. One worker keeps no notes of earlier
+    // calls, since it asks nobody ahead.
     fn notes_with(&mut self, alloc: Global, remembered: Arc<Remembered>) -> Notes
         requires { crowd_of (arc_value remembered) ≡ data_of (arc_value self.old.crowd) }
         ensures kept { (self.new.crowd ≡ self.old.crowd) × (self.new.asked ≡ self.old.asked) }

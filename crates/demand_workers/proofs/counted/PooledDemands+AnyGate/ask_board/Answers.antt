@@ -1,4 +1,4 @@
-use Rattle.std.proofs.Common.{◌≡◌, ◌≤◌, ◌∙◌, ◌++◌, [], ◌∷◌, List, Vec, Global, length, map, ap, sym, subst, arith}
+use Rattle.std.proofs.Common.{ℕ, ◌≡◌, ◌+◌, ◌-◌, ◌^◌, ◌∙◌, ◌++◌, [], ◌∷◌, List, Vec, Global, length, map, min, ap, sym, subst, arith}
 use Rattle.std.specs.Arc.{arc_value}
 use Rattle.market_units.specs.declared.units.Tokens.{Tokens}
 use Rattle.demand_api.specs.declared.crowd.Crowd.{Crowd}
@@ -19,9 +19,8 @@ start-requires-clause-round g c =
     (c.in_ok-push.ensures.items ∙ ap (λ (l : List (Vec Tokens Global)). l ++ c.in_ok-version.version ∷ []) c.in_ok-versions.ensures.items)
     ∙ ap (λ (p : List Tokens). p ∷ []) version_is in
     let asked : c.in_ok-asks.asks.items ≡ c.args.ask ∷ [] = c.in_ok-asks.ensures.items_if_clones_equal (λ y is. is) in
-    subst
-    (λ (w : Crowd). IsRound (record { crowd = data_of w; versions = map (λ (v : Vec Tokens Global). v.items) c.push.new.self.items; asks = c.in_ok-asks.asks.items }))
-    (sym c.in_ok-crowd.ensures)
+    let versions = map (λ (v : Vec Tokens Global). v.items) c.push.new.self.items in
+    subst (λ (w : Crowd). IsRound (record { crowd = data_of w; versions = versions; asks = c.in_ok-asks.asks.items })) (sym c.in_ok-crowd.ensures)
     (subst (λ (l : List (List Tokens)). IsRound (record { crowd = data_of crowd; versions = l; asks = c.in_ok-asks.asks.items })) (sym listed)
     (subst (λ (a : List Ask). IsRound (record { crowd = data_of crowd; versions = c.args.prices.now ∷ []; asks = a })) (sym asked)
     (one_is_round crowd c.args.prices.now c.args.ask c.requires.prices c.requires.section)))
@@ -29,10 +28,18 @@ start-requires-clause-round g c =
 pub invariant_of-self-2 : goal.invariant_of-self-2
 invariant_of-self-2 g c = record { same = c.args.self.now.same; noted = c.args.self.now.noted }
 
+-- each student of the crowd is counted
+students_are : (crowd lent : Crowd) (n : ℕ) → n ≡ lent.menus.len → lent ≡ crowd → n ≡ length (data_of crowd).students
+students_are crowd lent n is same = is ∙ ap (λ (w : Crowd). w.menus.len) same ∙ crowd.menus.ok.0 ∙ sym (students_length crowd)
+
 pub returns-clause-inquiries : goal.returns-clause-inquiries
 returns-clause-inquiries g c =
     let crowd = arc_value c.args.self.now.crowd in
-    let all : c.len-students.result ≡ length (data_of (arc_value c.args.self.now.crowd)).students =
-    c.len-students.ensures ∙ ap (λ (w : Crowd). w.menus.len) c.deref-3.ensures ∙ crowd.menus.ok.0 ∙ sym (students_length crowd) in
-    rose_by (length (data_of (arc_value c.args.self.now.crowd)).students) c.len-students.result c.args.self.now.inquiries c.saturating_add-self.result
-    c.saturating_add-self.ensures (omega (arith, all))
+    let all = students_are crowd c.deref-3.result.now c.len-students.result c.len-students.ensures c.deref-3.ensures in
+    rose_by (length (data_of crowd).students) c.len-students.result c.args.self.now.inquiries c.saturating_add-self.result c.saturating_add-self.ensures
+    (omega (arith, all))
+
+pub returns-clause-counted : goal.returns-clause-counted
+returns-clause-counted g c =
+    let all = students_are (arc_value c.args.self.now.crowd) c.deref-3.result.now c.len-students.result c.len-students.ensures c.deref-3.ensures in
+    subst (λ (n : ℕ). c.saturating_add-self.result ≡ min (c.args.self.now.inquiries + n) (2 ^ 64 - 1)) all c.saturating_add-self.ensures

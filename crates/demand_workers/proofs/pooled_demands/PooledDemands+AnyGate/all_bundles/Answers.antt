@@ -16,8 +16,8 @@ returns-in-Some-clause-len g c =
     let crowd = arc_value c.args.self.now.crowd in
     let same : crowd_of (arc_value c.in-Some.remembered) ≡ data_of (arc_value c.args.self.now.crowd) =
     subst (λ o. IfSome o (λ memory. crowd_of (arc_value memory) ≡ data_of (arc_value c.args.self.now.crowd))) c.in-Some.is c.args.self.now.same in
-    subst (λ n. IfOk c.bundles_near.result (λ bundles. length bundles.items ≡ n)) (ap (λ (w : CrowdData). length w.students) same ∙ students_length crowd)
-    c.bundles_near.ensures.len
+    let many = ap (λ (w : CrowdData). length w.students) (ap crowd_of c.in_ok-remembered.ensures ∙ same) ∙ students_length crowd in
+    subst (λ n. IfOk c.bundles_near.result (λ bundles. length bundles.items ≡ n)) many c.bundles_near.ensures.len
 
 pub read_all-requires-clause-same : goal.read_all-requires-clause-same
 read_all-requires-clause-same g c =

@@ -1,13 +1,18 @@
-use Rattle.std.proofs.Common.{rules, ◌≡◌, ◌∙◌, [], ◌∷◌, ℕ, List, length, slice_index_or, sym, subst, arith}
+use Rattle.std.proofs.Common.{rules, ◌≡◌, ◌<◌, ◌+◌, ◌*◌, ◌^◌, ◌∙◌, [], ◌∷◌, ℕ, List, length, slice_index_or, ap, sym, subst, arith}
 use Rattle.std.specs.Arc.{arc_value}
 use Rattle.market_units.specs.declared.units.SectionNo.{SectionNo}
 use Rattle.market_units.specs.declared.units.Tokens.{Tokens}
 use Rattle.bundle_rules.specs.Demand.{price_in}
-use Rattle.demand_api.specs.Crowds.{CrowdData}
+use Rattle.demand_api.specs.Asking.{RoseAtMost}
+use Rattle.demand_api.specs.Crowds.{CrowdData, top}
 use Rattle.demand_api.specs.Prices.{AreLeastPrices, IsLeastFrom}
 use Rattle.demand_api.specs.Views.{data_of}
+use Rattle.demand_workers.specs.declared.remembered.Remembered.{Remembered}
 use Rattle.demand_workers.specs.Views.{crowd_of, price_before}
+use Rattle.demand_workers.proofs.Spending.{call_within, walk_of_one}
 use Rattle.demand_workers.proofs.pooled_demands.PooledDemandsAnyGateDemands.least_prices.Goals as goal
+use Rattle.demand_workers.proofs.pooled_demands.PooledDemandsAnyGateDemands.least_prices.Given.{Over}
+use Rattle.demand_workers.proofs.pooled_demands.PooledDemandsAnyGateDemands.least_prices.Goals.{In_ok-memory}
 
 -- the least price of the one pair
 least_one : (crowd : CrowdData) (price : ℕ → ℕ) (pairs : List (SectionNo × ℕ)) (d : SectionNo × ℕ) (found : List Tokens) (least : Tokens)
@@ -17,6 +22,23 @@ least_one : (crowd : CrowdData) (price : ℕ → ℕ) (pairs : List (SectionNo �
 least_one crowd price [] d found least one is found_is = absurd (omega (arith, one))
 least_one crowd price (pair ∷ []) d found least one is found_is = subst (AreLeastPrices crowd price (pair ∷ [])) (sym is) (found_is, tt)
 least_one crowd price (pair ∷ more ∷ rest) d found least one is found_is = absurd (omega (arith, one))
+
+-- what the recall, the walk and the round after it asked is within the bound
+asked : (g : Over) (c : In_ok-memory g) (digits : ℕ) → top (data_of (arc_value c.args.self.now.crowd)) < 2 ^ digits
+    → RoseAtMost (length c.args.pairs.now * length (data_of (arc_value c.args.self.now.crowd)).students * (2 * digits + 1)) c.args.self.now.inquiries
+    c.raised_memory.new.self.inquiries
+asked g c =
+    let known = crowd_of (arc_value c.notes_with-notes.result.remembered) in
+    let one : length c.args.pairs.now ≡ 1 = search rules in
+    call_within (data_of (arc_value c.args.self.now.crowd)) (data_of c.deref.result.now) known (length c.args.pairs.now) c.walks_for-left.result _
+    c.args.self.now.inquiries c.recall.new.self.inquiries c.notes_with-notes.new.self.inquiries c.least_price.new.self.inquiries
+    c.raised_memory.new.self.inquiries
+    (ap data_of (c.deref.ensures ∙ ap arc_value (c.notes_with-notes.ensures.kept.0 ∙ c.in_ok-remembered.ensures.kept.0)))
+    (ap (λ r. crowd_of (arc_value r)) c.notes_with-notes.ensures.remembered ∙ c.in_ok-remembered.ensures.crowd) c.notes_with-notes.ensures.inquiries
+    c.in_ok-remembered.ensures.inquiries (walk_of_one known (length c.args.pairs.now) _ _ _ _ one c.in_ok-walk.ensures.inquiries)
+    (subst (λ (r : Remembered). RoseAtMost (length (crowd_of r).students) c.least_price.new.self.inquiries c.raised_memory.new.self.inquiries)
+    c.in_ok-walk.ensures.remembered c.in_ok-memory.ensures.inquiries)
+    c.walks_for-left.ensures
 
 pub returns-clause-value : goal.returns-clause-value
 returns-clause-value g c =
@@ -32,3 +54,12 @@ returns-clause-value g c =
     (subst (λ (w : CrowdData). IsLeastFrom (price_in prices pair.0.0) w (price_in prices) pair.0.0 pair.1 least.0) c.in_ok-remembered.ensures.crowd
     (subst (λ (l : List Tokens). IsLeastFrom (price_in l pair.0.0) (crowd_of remembered) (price_in l) pair.0.0 pair.1 least.0)
     c.in_ok-remembered.ensures.prices there))
+
+pub returns-in_err-found-2-clause-inquiries : goal.returns-in_err-found-2-clause-inquiries
+returns-in_err-found-2-clause-inquiries g c = asked g (goal.at.returns-in_err-found-2-clause-inquiries g c).In_ok-memory
+
+pub returns-in_err-new-clause-inquiries : goal.returns-in_err-new-clause-inquiries
+returns-in_err-new-clause-inquiries g c = asked g (goal.at.returns-in_err-new-clause-inquiries g c).In_ok-memory
+
+pub returns-clause-inquiries : goal.returns-clause-inquiries
+returns-clause-inquiries g c = asked g (goal.at.returns-clause-inquiries g c).In_ok-memory
