@@ -8,10 +8,6 @@ use Rattle.demand_api.specs.Asking.{RoseAtMost}
 use Rattle.demand_api.specs.Crowds.{CrowdData, top}
 use Rattle.demand_workers.specs.Allowances.{HasSpent}
 
--- nobody was asked
-pub spent_nothing : (left before : ℕ) → HasSpent 0 left left before before
-spent_nothing left before = record { kept = omega arith; paid = omega arith }
-
 -- one part after another
 pub spent_both : (first second left left_first left_then before now after : ℕ) → HasSpent first left left_first before now
     → HasSpent second left_first left_then now after → HasSpent (first + second) left left_then before after
@@ -20,10 +16,10 @@ spent_both first second left left_first left_then before now after one other = r
   paid = let paid = one.paid in let then = other.paid in omega arith;
 }
 
--- and a part that is not taken from those who may be asked
-pub spent_besides : (first rise left left_then before now after : ℕ) → HasSpent first left left_then before now → RoseAtMost rise now after
-    → HasSpent (first + rise) left left_then before after
-spent_besides first rise left left_then before now after one other = record {
+-- and then a part that is not taken from those who may be asked
+pub spent_besides : (rise left left_then before now after : ℕ) → HasSpent 0 left left_then before now → RoseAtMost rise now after
+    → HasSpent rise left left_then before after
+spent_besides rise left left_then before now after one other = record {
   kept = let kept = one.kept in let then = other.kept in omega arith;
   paid = let paid = one.paid in let most = other.most in omega arith;
 }

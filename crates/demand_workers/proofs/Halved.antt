@@ -1,7 +1,5 @@
 -- The rest of a walk, found by halving.
-use Rattle.std.proofs.Common.{ℕ, ◌≡◌, ◌<◌, ◌≤◌, ◌+◌, ◌-◌, ◌*◌, ◌/◌, ◌^◌, ◌∙◌, List, length, min, slice_set, ap, sym, subst, arith}
-use Rattle.std.proofs.lemmas.List.{length-set}
-use Rattle.std.proofs.lemmas.List.Elements.{All-set}
+use Rattle.std.proofs.Common.{ℕ, ◌≡◌, ◌<◌, ◌≤◌, ◌+◌, ◌-◌, ◌*◌, ◌^◌, List, ap, sym, subst, arith}
 use Rattle.market_units.specs.declared.units.Tokens.{Tokens}
 use Rattle.bundle_rules.specs.Demand.{price_in}
 use Rattle.demand_api.specs.Asking.{ArePricesFor, RoseAtMost}
@@ -37,16 +35,3 @@ halvings_rose each n low high before now digits are fits = record {
 
 pub rose_nothing : (rise before : ℕ) → RoseAtMost rise before before
 rose_nothing rise before = record { kept = omega arith; most = omega arith }
-
--- the trial with the price in the middle may be asked
-pub tried_fits : (crowd now : CrowdData) (prices trial tried : List Tokens) (s index limit low high : ℕ) → IsHalving crowd prices trial s limit low high
-    → low < high → now ≡ crowd → tried ≡ slice_set trial index (record { 0 = low + (high - low) / 2 }) → ArePricesFor now tried
-tried_fits crowd now prices trial tried s index limit low high is apart same written =
-    let middle : Tokens = record { 0 = low + (high - low) / 2 } in
-    let capped : high ≤ top crowd = is.below_top in
-    subst (λ (w : CrowdData). ArePricesFor w tried) (sym same)
-    (subst (ArePricesFor crowd) (sym written)
-    (record {
-      same = length-set trial index middle ∙ is.trial_fits.same;
-      high = All-set (λ (price : Tokens). price.0 ≤ top crowd) trial index middle (omega arith) is.trial_fits.high;
-    }))

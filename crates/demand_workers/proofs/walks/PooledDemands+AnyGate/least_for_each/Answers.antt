@@ -17,7 +17,7 @@ walked crowd now digits left left_then before after same fits spent =
     subst (λ (w : CrowdData). (d : ℕ) → top w < 2 ^ d → HasSpent (d * length w.students) left left_then before after) same spent digits fits
 
 pub least_price-requires-clause-crowd : goal.least_price-requires-clause-crowd
-least_price-requires-clause-crowd g c =
+least_price-requires-clause-crowd g c κs within =
     ap (λ r. crowd_of (arc_value r)) c.loop-place.invariant.same ∙ c.requires.crowd
     ∙ sym (ap (λ a. data_of (arc_value a)) c.loop-place.invariant.kept.0)
 
@@ -62,8 +62,8 @@ returns-in_err-push-clause-inquiries g c digits fits =
     (ap (λ r. crowd_of (arc_value r)) c.loop-place.invariant.same) fits c.in_ok-walk.ensures.inquiries))
     (omega (arith, low))
 
-pub returns-in_err-pairs_ahead-clause-inquiries : goal.returns-in_err-pairs_ahead-clause-inquiries
-returns-in_err-pairs_ahead-clause-inquiries g c digits fits =
+pub returns-in_err-self-clause-inquiries : goal.returns-in_err-self-clause-inquiries
+returns-in_err-self-clause-inquiries g c digits fits =
     let low : c.loop-place.place < length c.args.pairs.now = search rules in
     spent_on_some c.loop-place.place (length c.args.pairs.now) (digits * length (crowd_of (arc_value c.args.notes.now.remembered)).students) _ _ _ _
     (c.loop-place.invariant.spent digits fits) (omega (arith, low))

@@ -170,12 +170,12 @@ returns-clause-least g c =
 -- ---- where nobody may be asked any more
 
 pub halved-requires-clause-crowd : goal.halved-requires-clause-crowd
-halved-requires-clause-crowd g c =
+halved-requires-clause-crowd g c κs within =
     ap crowd_of c.in_ok-remembered.ensures ∙ c.requires.crowd
     ∙ sym (ap (λ a. data_of (arc_value a)) (c.in_ok-told.ensures.kept.0 ∙ c.loop-least.invariant.kept.0))
 
 pub halved-requires-clause-low : goal.halved-requires-clause-low
-halved-requires-clause-low g c =
+halved-requires-clause-low g c κs within =
     let prices = (arc_value c.args.notes.now.remembered).prices.items in
     let crowd = crowd_of (arc_value c.args.notes.now.remembered) in
     let greatest_first = first_le_from_greatest nat_cmp c.in-Some.first (heap_items c.pop.new.self) (c.in-Some.ensures.below_top c.loop-least.invariant.heap) in
@@ -188,7 +188,7 @@ halved-requires-clause-low g c =
     (let goal : price_before (arc_value c.args.notes.now.remembered) c.args.section.0 ≤ leaves c.in-Some.first = omega arith in goal)
 
 pub halved-requires-clause-high : goal.halved-requires-clause-high
-halved-requires-clause-high g c =
+halved-requires-clause-high g c κs within =
     let prices = (arc_value c.args.notes.now.remembered).prices.items in
     let crowd = crowd_of (arc_value c.args.notes.now.remembered) in
     let greatest_first = first_le_from_greatest nat_cmp c.in-Some.first (heap_items c.pop.new.self) (c.in-Some.ensures.below_top c.loop-least.invariant.heap) in
@@ -198,7 +198,7 @@ halved-requires-clause-high g c =
     subst (λ (r : Remembered). leaves c.in-Some.first ≤ top (crowd_of r)) (sym c.in_ok-remembered.ensures) keeps.capped
 
 pub halved-requires-clause-lower : goal.halved-requires-clause-lower
-halved-requires-clause-lower g c =
+halved-requires-clause-lower g c κs within =
     let prices = (arc_value c.args.notes.now.remembered).prices.items in
     let crowd = crowd_of (arc_value c.args.notes.now.remembered) in
     let greatest_first = first_le_from_greatest nat_cmp c.in-Some.first (heap_items c.pop.new.self) (c.in-Some.ensures.below_top c.loop-least.invariant.heap) in
@@ -216,7 +216,7 @@ halved-requires-clause-lower g c =
 
 pub returns-in_default-told-clause-inquiries : goal.returns-in_default-told-clause-inquiries
 returns-in_default-told-clause-inquiries g c digits fits =
-    spent_besides 0 (digits * length (crowd_of (arc_value c.args.notes.now.remembered)).students) _ _ _ _ _
+    spent_besides (digits * length (crowd_of (arc_value c.args.notes.now.remembered)).students) _ _ _ _ _
     (spent_both 0 0 _ _ _ _ _ _ c.loop-least.invariant.spent c.in_ok-told.ensures.inquiries)
     (subst
     (λ (r : Remembered). (d : ℕ) → top (crowd_of r) < 2 ^ d

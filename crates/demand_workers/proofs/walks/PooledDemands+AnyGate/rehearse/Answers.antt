@@ -1,4 +1,4 @@
-use Rattle.std.proofs.Common.{◌≤◌, ◌∙◌, subst, arith}
+use Rattle.std.proofs.Common.{◌≤◌, arith}
 use Rattle.demand_workers.proofs.Allowing.{spent_noted}
 use Rattle.demand_workers.proofs.walks.PooledDemands+AnyGate.rehearse.Goals as goal
 
