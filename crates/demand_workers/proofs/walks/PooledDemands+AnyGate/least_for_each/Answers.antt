@@ -9,12 +9,14 @@ use Rattle.demand_workers.specs.Views.{crowd_of, price_before}
 use Rattle.demand_workers.proofs.Allowing.{spent_more, spent_on_some}
 use Rattle.demand_workers.proofs.walks.PooledDemands+AnyGate.least_for_each.Goals as goal
 
--- one walk in the same crowd
-walked : (crowd now : CrowdData) (digits left left_then before after : ℕ) → now ≡ crowd → top crowd < 2 ^ digits
-    → ((d : ℕ) → top now < 2 ^ d → HasSpent (d * length now.students) left left_then before after)
-    → HasSpent (digits * length crowd.students) left left_then before after
-walked crowd now digits left left_then before after same fits spent =
-    subst (λ (w : CrowdData). (d : ℕ) → top w < 2 ^ d → HasSpent (d * length w.students) left left_then before after) same spent digits fits
+-- one walk more, in the same crowd
+walked : (crowd known : CrowdData) (i digits left left_first left_then before now after : ℕ) → known ≡ crowd → top crowd < 2 ^ digits
+    → HasSpent (i * (digits * length crowd.students)) left left_first before now
+    → ((d : ℕ) → top known < 2 ^ d → HasSpent (d * length known.students) left_first left_then now after)
+    → HasSpent ((i + 1) * (digits * length crowd.students)) left left_then before after
+walked crowd known i digits left left_first left_then before now after same fits so_far one =
+    spent_more i (digits * length crowd.students) left left_first left_then before now after so_far
+    (subst (λ (w : CrowdData). (d : ℕ) → top w < 2 ^ d → HasSpent (d * length w.students) left_first left_then now after) same one digits fits)
 
 pub least_price-requires-clause-crowd : goal.least_price-requires-clause-crowd
 least_price-requires-clause-crowd g c κs within =
@@ -27,10 +29,8 @@ loop-place-preserved g c =
     record {
       kept = (c.in_ok-walk.ensures.kept.0 ∙ c.loop-place.invariant.kept.0, c.in_ok-walk.ensures.kept.1 ∙ c.loop-place.invariant.kept.1);
       spent = λ digits fits.
-          spent_more c.loop-place.place (digits * length (crowd_of (arc_value c.args.notes.now.remembered)).students) _ _ _ _ _ _
-          (c.loop-place.invariant.spent digits fits)
-          (walked (crowd_of (arc_value c.args.notes.now.remembered)) (crowd_of (arc_value c.loop-place.notes.remembered)) digits _ _ _ _
-          (ap (λ r. crowd_of (arc_value r)) c.loop-place.invariant.same) fits c.in_ok-walk.ensures.inquiries);
+          walked (crowd_of (arc_value c.args.notes.now.remembered)) (crowd_of (arc_value c.loop-place.notes.remembered)) c.loop-place.place digits _ _ _ _ _ _
+          (ap (λ r. crowd_of (arc_value r)) c.loop-place.invariant.same) fits (c.loop-place.invariant.spent digits fits) c.in_ok-walk.ensures.inquiries;
       same = c.in_ok-walk.ensures.same ∙ c.loop-place.invariant.same;
       least =
           subst (λ r. AreLeastPrices (crowd_of (arc_value r)) (price_before (arc_value r)) (take (c.loop-place.place + 1) c.args.pairs.now) c.push.new.self.items)
@@ -46,20 +46,16 @@ pub returns-in_err-walk-clause-inquiries : goal.returns-in_err-walk-clause-inqui
 returns-in_err-walk-clause-inquiries g c digits fits =
     let low : c.loop-place.place < length c.args.pairs.now = search rules in
     spent_on_some (c.loop-place.place + 1) (length c.args.pairs.now) (digits * length (crowd_of (arc_value c.args.notes.now.remembered)).students) _ _ _ _
-    (spent_more c.loop-place.place (digits * length (crowd_of (arc_value c.args.notes.now.remembered)).students) _ _ _ _ _ _
-    (c.loop-place.invariant.spent digits fits)
-    (walked (crowd_of (arc_value c.args.notes.now.remembered)) (crowd_of (arc_value c.loop-place.notes.remembered)) digits _ _ _ _
-    (ap (λ r. crowd_of (arc_value r)) c.loop-place.invariant.same) fits c.least_price.ensures.inquiries))
+    (walked (crowd_of (arc_value c.args.notes.now.remembered)) (crowd_of (arc_value c.loop-place.notes.remembered)) c.loop-place.place digits _ _ _ _ _ _
+    (ap (λ r. crowd_of (arc_value r)) c.loop-place.invariant.same) fits (c.loop-place.invariant.spent digits fits) c.least_price.ensures.inquiries)
     (omega (arith, low))
 
 pub returns-in_err-push-clause-inquiries : goal.returns-in_err-push-clause-inquiries
 returns-in_err-push-clause-inquiries g c digits fits =
     let low : c.loop-place.place < length c.args.pairs.now = search rules in
     spent_on_some (c.loop-place.place + 1) (length c.args.pairs.now) (digits * length (crowd_of (arc_value c.args.notes.now.remembered)).students) _ _ _ _
-    (spent_more c.loop-place.place (digits * length (crowd_of (arc_value c.args.notes.now.remembered)).students) _ _ _ _ _ _
-    (c.loop-place.invariant.spent digits fits)
-    (walked (crowd_of (arc_value c.args.notes.now.remembered)) (crowd_of (arc_value c.loop-place.notes.remembered)) digits _ _ _ _
-    (ap (λ r. crowd_of (arc_value r)) c.loop-place.invariant.same) fits c.in_ok-walk.ensures.inquiries))
+    (walked (crowd_of (arc_value c.args.notes.now.remembered)) (crowd_of (arc_value c.loop-place.notes.remembered)) c.loop-place.place digits _ _ _ _ _ _
+    (ap (λ r. crowd_of (arc_value r)) c.loop-place.invariant.same) fits (c.loop-place.invariant.spent digits fits) c.in_ok-walk.ensures.inquiries)
     (omega (arith, low))
 
 pub returns-in_err-self-clause-inquiries : goal.returns-in_err-self-clause-inquiries
