@@ -14,6 +14,7 @@ pub spent_both : (first second left left_first left_then before now after : ℕ)
 spent_both first second left left_first left_then before now after one other = record {
   kept = let kept = one.kept in let then = other.kept in omega arith;
   paid = let paid = one.paid in let then = other.paid in omega arith;
+  less = let less = one.less in let then = other.less in omega arith;
 }
 
 -- and then a part that is not taken from those who may be asked
@@ -22,12 +23,17 @@ pub spent_besides : (rise left left_then before now after : ℕ) → HasSpent 0 
 spent_besides rise left left_then before now after one other = record {
   kept = let kept = one.kept in let then = other.kept in omega arith;
   paid = let paid = one.paid in let most = other.most in omega arith;
+  less = one.less;
 }
 
 -- more may be asked besides
 pub spent_within : (first more left left_then before now : ℕ) → HasSpent first left left_then before now → first ≤ more
     → HasSpent more left left_then before now
-spent_within first more left left_then before now one within = record { kept = one.kept; paid = let paid = one.paid in omega arith }
+spent_within first more left left_then before now one within = record {
+  kept = one.kept;
+  paid = let paid = one.paid in omega arith;
+  less = one.less;
+}
 
 -- one student more, of those who may be asked
 pub spent_one : (left left_first before now after : ℕ) → HasSpent 0 left left_first before now → 1 ≤ left_first → RoseAtMost 1 now after
@@ -35,11 +41,31 @@ pub spent_one : (left left_first before now after : ℕ) → HasSpent 0 left lef
 spent_one left left_first before now after one some other = record {
   kept = let kept = one.kept in let then = other.kept in omega arith;
   paid = let paid = one.paid in let most = other.most in omega arith;
+  less = let less = one.less in omega arith;
 }
 
--- as many as a rehearsal told notes
-pub spent_noted : (noted left before now : ℕ) → noted ≤ left → now ≡ min (before + noted) (2 ^ 64 - 1) → HasSpent 0 left (left - noted) before now
-spent_noted noted left before now within is = record { kept = omega arith; paid = omega arith }
+-- as many as a rehearsal has tasks
+pub spent_ahead : (tasks asked left before now : ℕ) → asked ≡ tasks → tasks ≤ left → now ≡ min (before + asked) (2 ^ 64 - 1)
+    → HasSpent 0 left (left - asked) before now
+spent_ahead tasks asked left before now same within is = record { kept = omega arith; paid = omega arith; less = omega arith }
+
+-- a walk that has a share of those who may be asked, and gives back what is left of it
+pub spent_share : (cost left share share_then before now : ℕ) → share ≤ left → HasSpent cost share share_then before now
+    → HasSpent cost left (left - share + share_then) before now
+spent_share cost left share share_then before now within one = record {
+  kept = one.kept;
+  paid = let paid = one.paid in omega arith;
+  less = let less = one.less in omega arith;
+}
+
+-- a walk that has a share, and gives nothing back
+pub spent_whole : (cost left share share_then before now : ℕ) → share ≤ left → HasSpent cost share share_then before now
+    → HasSpent cost left (left - share) before now
+spent_whole cost left share share_then before now within one = record {
+  kept = one.kept;
+  paid = let paid = one.paid in omega arith;
+  less = omega arith;
+}
 
 -- one walk more
 pub spent_more : (i cost left left_first left_then before now after : ℕ) → HasSpent (i * cost) left left_first before now

@@ -22,7 +22,10 @@ use Rattle.demand_workers.proofs.Surveying.{can_be_raised, first_asked}
 use Rattle.demand_workers.proofs.walks.PooledDemands+AnyGate.raised_memory.Goals as goal
 
 pub overflow_cast-student : goal.overflow_cast-student
-overflow_cast-student g c = let few : length (arc_value (arc_value c.args.walk.now.remembered).crowd).menus.items ≤ 2000 = menus_few (arc_value (arc_value c.args.walk.now.remembered).crowd) in search rules
+overflow_cast-student g c =
+    let few : length (arc_value (arc_value c.args.walk.now.remembered).crowd).menus.items ≤ 2000 =
+    menus_few (arc_value (arc_value c.args.walk.now.remembered).crowd) in
+    search rules
 
 -- who is asked
 pub loop-place-preserved-in_default : goal.loop-place-preserved-in_default
@@ -33,7 +36,8 @@ loop-place-preserved-in_default g c =
       len = c.loop-place.invariant.len;
       few = let longer = pushed_one c.loop-place.list.items _ _ c.in_ok-push.ensures.items in omega (arith, longer, c.loop-place.invariant.few);
       raised =
-          subst (All (λ (q : Inquiry). q.raised ≡ Some (c.args.walk.now.section, c.args.walk.now.least))) (sym {A = List Inquiry} c.in_ok-push.ensures.items)
+          subst (All (λ (q : Inquiry). q.raised ≡ Some (c.args.walk.now.section, c.args.walk.now.least)))
+          (sym {A = List Inquiry} c.in_ok-push.ensures.items)
           (All-push (λ (q : Inquiry). q.raised ≡ Some (c.args.walk.now.section, c.args.walk.now.least)) c.loop-place.list.items _ c.loop-place.invariant.raised refl);
       asked = subst (All (IsInquiry (data_of crowd) 1)) (sym {A = List Inquiry} c.in_ok-push.ensures.items)
           (All-push (IsInquiry (data_of crowd) 1) c.loop-place.list.items _ c.loop-place.invariant.asked
