@@ -38,6 +38,3 @@ halvings_rose each n low high before now digits are fits = record {
   kept = are.kept;
   most = halvings_most each n low high before now digits are fits;
 }
-
-pub rose_nothing : (rise before : ℕ) → RoseAtMost rise before before
-rose_nothing rise before = record { kept = omega arith; most = omega arith }

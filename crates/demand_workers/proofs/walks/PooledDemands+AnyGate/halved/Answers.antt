@@ -1,9 +1,8 @@
-use Rattle.std.proofs.Common.{rules, ◌≡◌, ◌<◌, ◌+◌, ◌-◌, ◌/◌, ◌∙◌, length, slice_set, ap, sym, subst, refl}
+use Rattle.std.proofs.Common.{rules, ◌≡◌, ◌∙◌, length, ap, sym, subst, refl}
 use Rattle.std.specs.Arc.{arc_value}
 use Rattle.std.proofs.lemmas.Bool.{false≢true}
-use Rattle.bundle_rules.specs.Demand.{price_in}
 use Rattle.demand_api.specs.Asking.{RoseAtMost}
-use Rattle.demand_api.specs.Crowds.{CrowdData, count, top}
+use Rattle.demand_api.specs.Crowds.{CrowdData, top}
 use Rattle.demand_api.specs.Views.{data_of}
 use Rattle.demand_api.proofs.Halving.{halved, halvings_begin, halvings_down, halvings_up, step_down, step_up}
 use Rattle.demand_workers.specs.Views.{crowd_of}
@@ -70,8 +69,8 @@ returns-clause-inquiries g c digits fits =
 
 pub returns-clause-least : goal.returns-clause-least
 returns-clause-least g c =
-    halved (crowd_of (arc_value c.args.remembered)) (arc_value c.args.remembered).prices.items c.loop-low.trial.items c.args.section.0 c.args.limit c.loop-low.low
-    c.loop-low.high c.loop-low.invariant.halving (search rules)
+    halved (crowd_of (arc_value c.args.remembered)) (arc_value c.args.remembered).prices.items c.loop-low.trial.items c.args.section.0 c.args.limit
+    c.loop-low.low c.loop-low.high c.loop-low.invariant.halving (search rules)
 
 pub returns-in_err-is_exceeded-clause-inquiries : goal.returns-in_err-is_exceeded-clause-inquiries
 returns-in_err-is_exceeded-clause-inquiries g c digits fits =

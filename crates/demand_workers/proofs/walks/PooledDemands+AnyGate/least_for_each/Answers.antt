@@ -59,11 +59,13 @@ loop-place-preserved g c =
           c.in_ok-walk.ensures.inquiries;
       same = c.in_ok-walk.ensures.same ∙ c.loop-place.invariant.same;
       least =
-          subst (λ r. AreLeastPrices (crowd_of (arc_value r)) (price_before (arc_value r)) (take (c.loop-place.place + 1) c.args.pairs.now) c.push.new.self.items)
+          subst
+          (λ r. AreLeastPrices (crowd_of (arc_value r)) (price_before (arc_value r)) (take (c.loop-place.place + 1) c.args.pairs.now) c.push.new.self.items)
           c.loop-place.invariant.same
           (least_more (crowd_of known) (price_before known) c.args.pairs.now c.loop-place.place
           (record { 0 = 0 }, 0) c.loop-place.found.items c.push.new.self.items c.in_ok-walk.walk.least.0 (search rules)
-          (subst (λ r. AreLeastPrices (crowd_of (arc_value r)) (price_before (arc_value r)) (take c.loop-place.place c.args.pairs.now) c.loop-place.found.items)
+          (subst
+          (λ r. AreLeastPrices (crowd_of (arc_value r)) (price_before (arc_value r)) (take c.loop-place.place c.args.pairs.now) c.loop-place.found.items)
           (sym c.loop-place.invariant.same) c.loop-place.invariant.least)
           (search rules) c.in_ok-walk.ensures.least);
     }

@@ -38,7 +38,8 @@ loop-place-preserved-in_default g c =
       raised =
           subst (All (λ (q : Inquiry). q.raised ≡ Some (c.args.walk.now.section, c.args.walk.now.least)))
           (sym {A = List Inquiry} c.in_ok-push.ensures.items)
-          (All-push (λ (q : Inquiry). q.raised ≡ Some (c.args.walk.now.section, c.args.walk.now.least)) c.loop-place.list.items _ c.loop-place.invariant.raised refl);
+          (All-push (λ (q : Inquiry). q.raised ≡ Some (c.args.walk.now.section, c.args.walk.now.least)) c.loop-place.list.items _
+          c.loop-place.invariant.raised refl);
       asked = subst (All (IsInquiry (data_of crowd) 1)) (sym {A = List Inquiry} c.in_ok-push.ensures.items)
           (All-push (IsInquiry (data_of crowd) 1) c.loop-place.list.items _ c.loop-place.invariant.asked
           (record {
@@ -70,7 +71,8 @@ invariant_of-result g c =
     let crowd_is : arc_value c.in_ok-try_clone.field-0 ≡ arc_value (arc_value c.args.walk.now.remembered).crowd =
     c.in_ok-try_clone.ensures ∙ ap (λ (r : Remembered). arc_value r.crowd) c.deref-remembered.ensures in
     let prices_are : c.in_ok-prices.prices.items ≡ (arc_value c.args.walk.now.remembered).prices.items =
-    c.in_ok-prices.ensures.items_if_clones_equal (λ x y is. is) ∙ c.as_slice.ensures.value ∙ ap (λ (r : Remembered). r.prices.items) c.deref-remembered.ensures in
+    c.in_ok-prices.ensures.items_if_clones_equal (λ x y is. is) ∙ c.as_slice.ensures.value
+    ∙ ap (λ (r : Remembered). r.prices.items) c.deref-remembered.ensures in
     let raised_is : slice_set c.in_ok-prices.prices.items c.from.result c.args.walk.now.least
     ≡ slice_set (arc_value c.args.walk.now.remembered).prices.items c.args.walk.now.section.0 c.args.walk.now.least =
     ap (λ (l : List Tokens). slice_set l c.from.result c.args.walk.now.least) prices_are
