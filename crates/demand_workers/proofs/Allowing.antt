@@ -1,5 +1,5 @@
 -- How many students were asked, and how many may be.
-use Rattle.std.proofs.Common.{ℕ, ◌≡◌, ◌<◌, ◌≤◌, ◌+◌, ◌-◌, ◌*◌, ◌^◌, List, [], ◌∷◌, ◌++◌, length, min, ap, sym, subst, arith, inl, inr}
+use Rattle.std.proofs.Common.{ℕ, ◌≡◌, ◌<◌, ◌≤◌, ◌+◌, ◌-◌, ◌*◌, ◌^◌, List, [], ◌∷◌, ◌++◌, length, min, ap, subst, arith, inl, inr}
 use Rattle.std.proofs.lemmas.Bool.{cases_lt}
 use Rattle.std.proofs.lemmas.List.{length-append}
 use Rattle.std.proofs.lemmas.Nat.{mul-le}
@@ -8,30 +8,32 @@ use Rattle.demand_api.specs.Asking.{RoseAtMost}
 use Rattle.demand_api.specs.Crowds.{CrowdData, top}
 use Rattle.demand_workers.specs.Allowances.{HasSpent}
 
--- nobody was asked
-pub spent_nothing : (left before : ℕ) → HasSpent 0 left left before before
-spent_nothing left before = record { kept = omega arith; paid = omega arith }
-
 -- one part after another
 pub spent_both : (first second left left_first left_then before now after : ℕ) → HasSpent first left left_first before now
     → HasSpent second left_first left_then now after → HasSpent (first + second) left left_then before after
 spent_both first second left left_first left_then before now after one other = record {
   kept = let kept = one.kept in let then = other.kept in omega arith;
   paid = let paid = one.paid in let then = other.paid in omega arith;
+  less = let less = one.less in let then = other.less in omega arith;
 }
 
--- and a part that is not taken from those who may be asked
-pub spent_besides : (first rise left left_then before now after : ℕ) → HasSpent first left left_then before now → RoseAtMost rise now after
-    → HasSpent (first + rise) left left_then before after
-spent_besides first rise left left_then before now after one other = record {
+-- and then a part that is not taken from those who may be asked
+pub spent_besides : (rise left left_then before now after : ℕ) → HasSpent 0 left left_then before now → RoseAtMost rise now after
+    → HasSpent rise left left_then before after
+spent_besides rise left left_then before now after one other = record {
   kept = let kept = one.kept in let then = other.kept in omega arith;
   paid = let paid = one.paid in let most = other.most in omega arith;
+  less = one.less;
 }
 
 -- more may be asked besides
 pub spent_within : (first more left left_then before now : ℕ) → HasSpent first left left_then before now → first ≤ more
     → HasSpent more left left_then before now
-spent_within first more left left_then before now one within = record { kept = one.kept; paid = let paid = one.paid in omega arith }
+spent_within first more left left_then before now one within = record {
+  kept = one.kept;
+  paid = let paid = one.paid in omega arith;
+  less = one.less;
+}
 
 -- one student more, of those who may be asked
 pub spent_one : (left left_first before now after : ℕ) → HasSpent 0 left left_first before now → 1 ≤ left_first → RoseAtMost 1 now after
@@ -39,11 +41,31 @@ pub spent_one : (left left_first before now after : ℕ) → HasSpent 0 left lef
 spent_one left left_first before now after one some other = record {
   kept = let kept = one.kept in let then = other.kept in omega arith;
   paid = let paid = one.paid in let most = other.most in omega arith;
+  less = let less = one.less in omega arith;
 }
 
--- as many as a rehearsal told notes
-pub spent_noted : (noted left before now : ℕ) → noted ≤ left → now ≡ min (before + noted) (2 ^ 64 - 1) → HasSpent 0 left (left - noted) before now
-spent_noted noted left before now within is = record { kept = omega arith; paid = omega arith }
+-- as many as a rehearsal has tasks
+pub spent_ahead : (tasks asked left before now : ℕ) → asked ≡ tasks → tasks ≤ left → now ≡ min (before + asked) (2 ^ 64 - 1)
+    → HasSpent 0 left (left - asked) before now
+spent_ahead tasks asked left before now same within is = record { kept = omega arith; paid = omega arith; less = omega arith }
+
+-- a walk that has a share of those who may be asked, and gives back what is left of it
+pub spent_share : (cost left share share_then before now : ℕ) → share ≤ left → HasSpent cost share share_then before now
+    → HasSpent cost left (left - share + share_then) before now
+spent_share cost left share share_then before now within one = record {
+  kept = one.kept;
+  paid = let paid = one.paid in omega arith;
+  less = let less = one.less in omega arith;
+}
+
+-- a walk that has a share, and gives nothing back
+pub spent_whole : (cost left share share_then before now : ℕ) → share ≤ left → HasSpent cost share share_then before now
+    → HasSpent cost left (left - share) before now
+spent_whole cost left share share_then before now within one = record {
+  kept = one.kept;
+  paid = let paid = one.paid in omega arith;
+  less = omega arith;
+}
 
 -- one walk more
 pub spent_more : (i cost left left_first left_then before now after : ℕ) → HasSpent (i * cost) left left_first before now
@@ -96,45 +118,6 @@ walks_few pairs own n few short small =
 -- more may be asked
 pub rose_within : (some more before now : ℕ) → RoseAtMost some before now → some ≤ more → RoseAtMost more before now
 rose_within some more before now rose within = record { kept = rose.kept; most = let most = rose.most in omega (arith, most, within) }
-
--- two rounds, the walks of all pairs and their halvings are no more than twice the digits, and one, for each pair and student
-pub all_asked_within : (pairs students digits recalled walked last left left_then before : ℕ)
-    → RoseAtMost students before recalled → HasSpent (pairs * (digits * students)) left left_then recalled walked → RoseAtMost students walked last
-    → left + 2 * students ≤ pairs * students * (digits + 1) → RoseAtMost (pairs * students * (2 * digits + 1)) before last
-all_asked_within pairs students digits recalled walked last left left_then before first walks then within = record {
-  kept = let a = first.kept in let b = walks.kept in let c = then.kept in omega arith;
-  most = let a = first.most in let b = walks.paid in let c = then.most in omega arith;
-}
-
--- the round before the walks alone is no more
-pub recalled_within : (pairs students digits before recalled : ℕ) → 1 ≤ pairs → RoseAtMost students before recalled
-    → RoseAtMost (pairs * students * (2 * digits + 1)) before recalled
-recalled_within pairs students digits before recalled some rose =
-    let one : 1 * students ≤ pairs * students = mul-le 1 students pairs students some (omega arith) in
-    let each : pairs * students * 1 ≤ pairs * students * (2 * digits + 1) =
-    mul-le (pairs * students) 1 (pairs * students) (2 * digits + 1) (omega arith) (omega arith) in
-    rose_within students (pairs * students * (2 * digits + 1)) before recalled rose (omega (arith, one, each))
-
--- a call that asks within its bound, where the students of the walks are those of the crowd
-pub call_within : (crowd known : CrowdData) (pairs left left_then before recalled walked last : ℕ) → known ≡ crowd
-    → RoseAtMost (length crowd.students) before recalled
-    → ((digits : ℕ) → top known < 2 ^ digits → HasSpent (pairs * (digits * length known.students)) left left_then recalled walked)
-    → RoseAtMost (length known.students) walked last
-    → ((digits : ℕ) → top crowd < 2 ^ digits → left + 2 * length crowd.students ≤ pairs * length crowd.students * (digits + 1))
-    → (digits : ℕ) → top crowd < 2 ^ digits → RoseAtMost (pairs * length crowd.students * (2 * digits + 1)) before last
-call_within crowd known pairs left left_then before recalled walked last same first walks then within digits below =
-    all_asked_within pairs (length crowd.students) digits recalled walked last left left_then before first
-    (subst (λ (w : CrowdData). HasSpent (pairs * (digits * length w.students)) left left_then recalled walked) same
-    (walks digits (subst (λ (w : CrowdData). top w < 2 ^ digits) (sym same) below)))
-    (subst (λ (w : CrowdData). RoseAtMost (length w.students) walked last) same then) (within digits below)
-
--- the walk of the one pair
-pub walk_of_one : (known : CrowdData) (pairs left left_then now after : ℕ) → pairs ≡ 1
-    → ((digits : ℕ) → top known < 2 ^ digits → HasSpent (digits * length known.students) left left_then now after)
-    → (digits : ℕ) → top known < 2 ^ digits → HasSpent (pairs * (digits * length known.students)) left left_then now after
-walk_of_one known pairs left left_then now after one walk digits below =
-    subst (λ (n : ℕ). HasSpent (n * (digits * length known.students)) left left_then now after) (sym one)
-    (spent_within (digits * length known.students) (1 * (digits * length known.students)) left left_then now after (walk digits below) (omega arith))
 
 -- one item more
 pub pushed_one : {A : Type 0} (before after : List A) (item : A) → after ≡ before ++ item ∷ [] → length after ≡ length before + 1

@@ -1,5 +1,5 @@
 -- The rest of a walk, found by halving.
-use Rattle.std.proofs.Common.{ℕ, ◌≡◌, ◌<◌, ◌≤◌, ◌+◌, ◌-◌, ◌*◌, ◌^◌, List, length, min, ap, sym, subst, arith}
+use Rattle.std.proofs.Common.{ℕ, ◌≡◌, ◌<◌, ◌≤◌, ◌*◌, ◌^◌, List, ap, sym, subst, arith}
 use Rattle.market_units.specs.declared.units.Tokens.{Tokens}
 use Rattle.bundle_rules.specs.Demand.{price_in}
 use Rattle.demand_api.specs.Asking.{ArePricesFor, RoseAtMost}
@@ -26,12 +26,15 @@ halving_from crowd prices trial s limit from high are copied at_top low capped l
       omega (arith, none);
 }
 
+-- more take the section where the same is asked of the same crowd
+pub asked_as : (crowd known : CrowdData) (trial asked : List Tokens) (limit s : ℕ) → known ≡ crowd → asked ≡ trial
+    → limit < count known (price_in asked) s → limit < count crowd (price_in trial) s
+asked_as crowd known trial asked limit s same copied more =
+    subst (λ (w : CrowdData). limit < count w (price_in trial) s) same (subst (λ (l : List Tokens). limit < count known (price_in l) s) copied more)
+
 -- all its rounds
 pub halvings_rose : (each n low high before now digits : ℕ) → AreHalvings each n low high before now → n < 2 ^ digits → RoseAtMost (digits * each) before now
 halvings_rose each n low high before now digits are fits = record {
   kept = are.kept;
   most = halvings_most each n low high before now digits are fits;
 }
-
-pub rose_nothing : (rise before : ℕ) → RoseAtMost rise before before
-rose_nothing rise before = record { kept = omega arith; most = omega arith }

@@ -31,8 +31,8 @@ price_among (rated ∷ places) (price ∷ prices) s =
 abbrev pub price_noted : CrowdData → Note → ℕ → ℕ
 price_noted crowd note = price_among (places_of crowd note.student.0) note.prices
 
--- The student of a note is of the crowd, its bundle has sections of the crowd, and the student takes
--- it wherever no section costs less than by the note and the bundle is affordable
+-- The student of a note is of the crowd, its bundle has sections of the crowd, and the student
+-- takes it wherever no section costs less than by the note and the bundle is affordable
 pub record IsNoted (crowd : CrowdData) (note : Note) : Type 0 where
   pub student : note.student.0 < length crowd.students
   pub within : (s : ℕ) → has (sections_of note.bundle) s ≡ true → s < crowd.sections

@@ -25,6 +25,7 @@ fn digits_of(number: u32) -> u32
     requires { 1 ≤ number }
     ensures some { 1 ≤ result }
     ensures few { result ≤ 32 }
+    ensures enough { number < 2 ^ result }
     ensures least { (digits : ℕ) → number < 2 ^ digits → result ≤ digits }
 {
     u32::BITS - number.leading_zeros()

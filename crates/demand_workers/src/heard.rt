@@ -67,8 +67,8 @@ impl Heard {
         self.count = place + 1;
     }
 
-    /// What was heard of the student lately, if it can pay that now and the section for which it was
-    /// asked costs no less: no other section costs less than it did then.
+    /// What was heard of the student lately, if it can pay that now and the section for which it
+    /// was asked costs no less: no other section costs less than it did then.
     pub(crate) fn told(&self, stand: &Stand, raise: Raise, student: StudentNo) -> Option<Bundle> {
         let mut next = *self.latest.get(usize::from(student.0))?;
         for _ in 0..LOOKS {

@@ -15,8 +15,8 @@ pub struct Note {
     pub ghost whole: { length prices ≡ MAX_RATINGS },
 }
 
-/// What is told of walks: a note of whoever was asked on them, or that nobody is left to ask, or was
-/// found for so long.
+/// What is told of walks: a note of whoever was asked on them, or that nobody is left to ask, or
+/// was found for so long.
 #[derive(Clone, Copy)]
 pub enum Told {
     /// What the student that was asked takes.

@@ -23,16 +23,16 @@ use task_board::{Answers, Tasks};
 // No place in a list.
 const NOWHERE: usize = usize::MAX;
 
-// How many of a student's notes are looked at. The caller comes after a rehearsal, and needs the
-// earliest first.
+// How many of a student's notes are looked at. A rehearsal ran ahead of the caller, which needs the
+// earliest of its notes first.
 const LOOKS: usize = 256;
 
-// A call begins with fewer notes of earlier calls than this, or with none. Within a call there may be
-// more: one for each answer.
+// A call begins with fewer notes of earlier calls than this, or with none. Where there are so many
+// they are forgotten before one is added.
 const MOST: usize = 16_000;
 
-/// What is remembered of a crowd, and notes of its students, which do not depend on what is
-/// remembered. Those of one student are found from the latest to the earliest, without a look at the others.
+/// What is remembered of a crowd, and notes of its students, which hold whatever is remembered.
+/// Those of one student are found from the latest to the earliest, without a look at the others.
 #[derive(Drop)]
 pub(crate) struct Notes {
     pub remembered: Arc<Remembered>,
@@ -60,16 +60,22 @@ impl Notes {
         notes
     }
 
-    // Something else is remembered of the crowd. Where notes are many they are forgotten: a rehearsal
-    // notes anew.
+    // Something else is remembered of the crowd.
     fn follow(&mut self, remembered: Arc<Remembered>)
         requires { crowd_of (arc_value self.old.remembered) ≡ crowd_of (arc_value remembered) }
         ensures { self.new.remembered ≡ remembered }
     {
+        self.make_room();
+        self.remembered = remembered;
+    }
+
+    // Where notes are many they are forgotten: a rehearsal notes anew.
+    fn make_room(&mut self)
+        ensures { self.new.remembered ≡ self.old.remembered }
+    {
         if self.list.len() >= MOST {
             self.forget();
         }
-        self.remembered = remembered;
     }
 
     /// Nothing is noted any more.
@@ -121,6 +127,7 @@ impl Notes {
         requires { is_right_note (crowd_of (arc_value self.old.remembered)) note ≡ true }
         ensures { self.new.remembered ≡ self.old.remembered }
     {
+        self.make_room();
         let student = usize::from(note.student.0);
         let room = self.latest.len().max(student + 1);
         self.latest.resize(room, NOWHERE)?;
@@ -172,8 +179,8 @@ impl Notes {
     }
 }
 
-// A note of what the student of an inquiry takes at the remembered prices with the raised one. `None`
-// where none is raised.
+// A note of what the student of an inquiry takes at the remembered prices with the raised one.
+// `None` where none is raised.
 fn raised_note(remembered: &Remembered, inquiry: Inquiry, bundle: &Bundle) -> Option<Note>
     requires inquiry { IsInquiry (crowd_of remembered.now) 1 inquiry }
     requires taken { sections_of bundle.now

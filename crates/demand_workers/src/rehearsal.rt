@@ -54,8 +54,8 @@ pub(crate) struct Rehearsal {
 
 impl Rehearsal {
     /// A rehearsal from what is remembered, with so many questions: of an elimination over so many
-    /// seats of each section, where it begins with the one pair, else of the walks of these pairs. The
-    /// only error is that memory was not given.
+    /// seats of each section, where it begins with the one pair, else of the walks of these pairs.
+    /// The only error is that memory was not given.
     pub(crate) fn at(
         alloc: Global,
         remembered: &Remembered,
@@ -130,8 +130,8 @@ impl Rehearsal {
         self.heard.add(next.raise, next.student, bundle);
     }
 
-    // Who is surely asked on the walk at this place, which is made where it is not yet. A first walk
-    // at its end is gone, and walks are made anew from there.
+    // Who is surely asked on the walk at this place, which is made where it is not yet. A first
+    // walk at its end is gone, and walks are made anew from there.
     fn first_sure(&mut self, place: usize) -> Option<Leaver> {
         for _ in 0..STEPS {
             if place >= self.made {

@@ -21,8 +21,8 @@ pub(crate) trait Asks {
     /// The crowd whose students are asked.
     ghost crowd: { Self → CrowdData };
 
-    /// Asks who is next: a note of what it takes, or that nobody is left to ask, or was found for so
-    /// long.
+    /// Asks who is next: a note of what it takes, or that nobody is left to ask, or was found for
+    /// so long.
     fn tell_next<R: Wait>(&self, rt: &R, workspace: &mut Workspace) -> Told
         ensures { may_be_told (crowd self.now) result ≡ true };
 }

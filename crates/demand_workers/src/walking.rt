@@ -5,7 +5,6 @@ ghost use Rattle.task_board.specs.Seats.{AreBack, HasBegun, IsFinished, IsFree};
 ghost use Rattle.demand_workers.specs.{Views.crowd_of, Walks.walk_rules};
 
 use crate::ground::Ground;
-use crate::note::Told;
 use crate::pool::Pool;
 use crate::rehearsal::WALKS;
 use crate::remembered::Remembered;
@@ -18,34 +17,23 @@ use std::alloc::Global;
 use std::sync::{Arc, Mutex, Wait};
 use std::thread;
 use std::thread::Threads;
-use task_board::{Answers, Board, BoardSeat, Tasks};
+use task_board::{Answers, Board, BoardSeat};
 
-/// How many tasks a rehearsal has where a crowd has so many students, of whom so many may be asked: as
-/// many as there are, if they may be. So its board, which reserves some 300 bytes for each step that
-/// it may take, reserves for no more answers.
+/// How many tasks a rehearsal has where a crowd has so many students, and so many may be asked:
+/// four for each student, but no more than the most students of a crowd, because the board reserves
+/// some 300 bytes for each step that it may take; and no more than half of those who may be asked,
+/// so that a rehearsal alone never brings halving.
 pub(crate) fn tasks_for(students: usize, left: u64) -> u32
     ensures { result ≤ left }
 {
-    let tasks = students.min(usize::from(MAX_STUDENTS)) as u32;
-    u64::from(tasks).min(left) as u32
+    let most = usize::from(MAX_STUDENTS);
+    let tasks = (students.min(most) * 4).min(most) as u32;
+    u64::from(tasks).min(left / 2) as u32
 }
 
-/// To how many tasks of a round a note was told: so many students were asked.
-pub(crate) fn noted_in(answers: &Answers<WalkTasks>) -> u64
-    ensures { result ≤ answers.now.terms.count }
-{
-    let mut noted = 0;
-    'tasks: for task in 0..answers.tasks().count() {
-        if let Some(Told::Noted(_)) = answers.answer(task) {
-            noted += 1;
-        }
-    }
-    noted
-}
-
-/// Asks whoever is next until nobody is left, or nobody was found for so long, or so many were asked:
-/// by a worker of a pool for each walk that is looked at, or by all where they are fewer. All memory
-/// is taken before the first worker starts, and the only error is that it was not given.
+/// Asks whoever is next until nobody is left, or nobody was found for so long, or so many were
+/// asked: by a worker of a pool for each walk that is looked at, or by all where they are fewer.
+/// All memory is taken before the first worker starts, and the only error is that it was not given.
 pub(crate) fn rehearse_by_all<R: Threads + Wait + Sync>(
     rt: &R,
     alloc: Global,

@@ -20,7 +20,7 @@ use crate::remembered::Remembered;
 use crate::settled::settled;
 use crate::trial::{ROOM, raised_prices};
 use crate::unsettled::write_found;
-use crate::walking::{noted_in, rehearse_by_all, tasks_for};
+use crate::walking::{rehearse_by_all, tasks_for};
 use bundle_rules::Bundle;
 use market_edge::AnyGate;
 use market_units::{MAX_PRICE, NoMemory, SectionNo, StudentNo, Tokens};
@@ -54,8 +54,9 @@ fn at_remembered(
 
 impl PooledDemands<AnyGate<'_>> {
     /// For each pair of a section and a limit the least price of the section from its remembered
-    /// one up at which at most so many students take it, the other prices as remembered. Walks ask at
-    /// most as many students as are left. The only error is that memory was not given.
+    /// one up at which at most so many students take it, the other prices as remembered. Walks ask
+    /// those who are left, each pair's walk no more than its share; where nobody is, a round asks
+    /// all, for each digit of the top at most. The only error is that memory was not given.
     pub(crate) fn least_for_each<R: Threads + Wait + Sync>(
         &mut self,
         rt: &R,
@@ -85,14 +86,17 @@ impl PooledDemands<AnyGate<'_>> {
         for place in 0..pairs.len() {
             let (section, limit) = pairs[place];
             self.ahead = self.pairs_ahead(alloc, &pairs[place..])?;
-            let walk = self.least_price(rt, alloc, notes, section, limit, left)?;
+            let mut share = *left / (pairs.len() - place) as u64;
+            *left -= share;
+            let walk = self.least_price(rt, alloc, notes, section, limit, &mut share)?;
+            *left += share;
             found.push(walk.least)?;
         }
         Ok(found)
     }
 
-    /// The pairs whose walks are rehearsed where somebody has to be asked on the first of them. `None`
-    /// for one worker, which asks nobody ahead. The only error is that memory was not given.
+    /// The pairs whose walks are rehearsed where somebody has to be asked on the first of them.
+    /// `None` for one worker, which asks nobody ahead. The only error is that memory was not given.
     pub(crate) fn pairs_ahead(
         &self,
         alloc: Global,
@@ -105,9 +109,9 @@ impl PooledDemands<AnyGate<'_>> {
     }
 
     // Asks ahead, by several workers, what will be asked on the walks of these pairs, or in the
-    // elimination that begins with the one pair, from what is remembered: as many students as there
-    // are, who is asked twice counted twice, if so many are left. So no thread has to be started
-    // meanwhile. What is found is noted, and what was noted is forgotten.
+    // elimination that begins with the one pair, from what is remembered. So no thread has to be
+    // started meanwhile. Each task counts as one student that was asked, because who is asked late
+    // is in no answer. What is found is noted, and what was noted is forgotten.
     fn rehearse<R: Threads + Wait + Sync>(
         &mut self,
         rt: &R,
@@ -136,6 +140,9 @@ impl PooledDemands<AnyGate<'_>> {
             remembered: known,
             rehearsal: &rehearsal,
         };
+        let asked = u64::from(tasks);
+        self.inquiries = self.inquiries.saturating_add(asked);
+        *left -= asked;
         let answers = rehearse_by_all(
             rt,
             alloc,
@@ -145,9 +152,6 @@ impl PooledDemands<AnyGate<'_>> {
             &ground,
             tasks,
         )?;
-        let noted = noted_in(&answers);
-        self.inquiries = self.inquiries.saturating_add(noted);
-        *left -= noted;
         notes.add_told(&answers)?;
         Ok(())
     }
@@ -155,8 +159,8 @@ impl PooledDemands<AnyGate<'_>> {
     /// The walk to the least price of the section for one limit. As long as there are too many
     /// holders, the first of them to leave is asked at the price from which it does not keep what
     /// it holds: it holds the section from then on up to another price, or leaves. Before the first
-    /// is asked the walks ahead are rehearsed, if there are any. Where nobody may be asked any more,
-    /// the rest is found by halving, so that no crowd makes a walk long.
+    /// is asked the walks ahead are rehearsed, if there are any. Where nobody may be asked any
+    /// more, the rest is found by halving, so that no crowd makes a walk long.
     pub(crate) fn least_price<R: Threads + Wait + Sync>(
         &mut self,
         rt: &R,
@@ -222,8 +226,8 @@ impl PooledDemands<AnyGate<'_>> {
         })
     }
 
-    // The walk's least price, where it is known that the section has too many takers below this one:
-    // found by halving what is between this price and the top, where nobody takes it.
+    // The walk's least price, where it is known that the section has too many takers below this
+    // one: found by halving what is between this price and the top, where nobody takes it.
     fn halved<R: Threads + Wait + Sync>(
         &mut self,
         rt: &R,
@@ -302,8 +306,8 @@ impl PooledDemands<AnyGate<'_>> {
         Ok(Some(bundle))
     }
 
-    // What the student of an inquiry takes there, where it is noted. Where it is not, the walks ahead
-    // are rehearsed, once: what is asked next is noted then.
+    // What the student of an inquiry takes there, where it is noted. Where it is not, the walks
+    // ahead are rehearsed, once: what is asked next is noted then.
     fn told_or_rehearsed<R: Threads + Wait + Sync>(
         &mut self,
         rt: &R,
@@ -358,8 +362,8 @@ impl PooledDemands<AnyGate<'_>> {
 
     /// What each student takes at the remembered prices with the section at the least price of a
     /// walk. Who does not hold the section keeps what it takes, and so does a holder that can still
-    /// pay. A student of whom it is noted is not asked. Whom this does not settle is asked. The only
-    /// error is that memory was not given.
+    /// pay. A student of whom it is noted is not asked. Whom this does not settle is asked. The
+    /// only error is that memory was not given.
     pub(crate) fn raised_memory<R: Threads + Wait + Sync>(
         &mut self,
         rt: &R,

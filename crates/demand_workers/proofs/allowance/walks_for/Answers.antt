@@ -1,5 +1,4 @@
 use Rattle.std.proofs.Common.{ℕ, ◌≡◌, ◌<◌, ◌≤◌, ◌+◌, ◌-◌, ◌*◌, ◌^◌, ◌∙◌, length, sym, subst, arith, rules}
-use Rattle.demand_api.specs.Crowds.{top}
 use Rattle.demand_api.specs.Views.{data_of}
 use Rattle.demand_api.proofs.Parts.{menus_few, students_length}
 use Rattle.demand_workers.proofs.Allowing.{top_some, walks_few, walks_within}

@@ -1,4 +1,4 @@
-use Rattle.std.proofs.Common.{◌≡◌, ◌<◌, ◌∙◌, ◌||◌, Some, ap, sym, subst}
+use Rattle.std.proofs.Common.{◌<◌, ◌∙◌, ◌||◌, Some, ap, sym, subst}
 use Rattle.demand_workers.specs.Walks.{says_gone}
 use Rattle.demand_workers.proofs.Telling.{gone_noted}
 use Rattle.demand_workers.proofs.walk_tasks.WalkTasksTasks.note.Goals as goal

@@ -1,4 +1,4 @@
-use Rattle.std.proofs.Common.{zero, suc, ◌≡◌, ℕ, List, [], ◌∷◌, All, length, ap, sym, subst, arith}
+use Rattle.std.proofs.Common.{zero, suc, ◌≡◌, ℕ, List, [], ◌∷◌, All, length, sym, subst, arith}
 use Rattle.std.specs.Arc.{arc_value}
 use Rattle.demand_api.specs.Asking.{RoseAtMost}
 use Rattle.demand_api.specs.Crowds.{CrowdData}

@@ -1,25 +1,52 @@
-use Rattle.std.proofs.Common.{rules, ℕ, ◌≡◌, ◌<◌, ◌≤◌, ◌+◌, ◌*◌, ◌^◌, ◌∙◌, length, take, ap, sym, subst, arith}
+use Rattle.std.proofs.Common.{rules, ℕ, ◌≡◌, ◌<◌, ◌≤◌, ◌+◌, ◌-◌, ◌*◌, ◌/◌, ◌^◌, ◌∙◌, length, take, ap, sym, subst, arith}
 use Rattle.std.specs.Arc.{arc_value}
+use Rattle.std.proofs.Math.Nat.{div-le_self}
 use Rattle.demand_api.specs.Crowds.{CrowdData, top}
 use Rattle.demand_api.specs.Prices.{AreLeastPrices}
 use Rattle.demand_api.specs.Views.{data_of}
 use Rattle.demand_api.proofs.Pairs.{least_more}
+use Rattle.demand_api.proofs.Parts.{top_high}
 use Rattle.demand_workers.specs.Allowances.{HasSpent}
 use Rattle.demand_workers.specs.Views.{crowd_of, price_before}
-use Rattle.demand_workers.proofs.Allowing.{spent_more, spent_on_some}
+use Rattle.demand_workers.proofs.Allowing.{spent_more, spent_on_some, spent_share, spent_whole}
 use Rattle.demand_workers.proofs.walks.PooledDemands+AnyGate.least_for_each.Goals as goal
 
--- one walk in the same crowd
-walked : (crowd now : CrowdData) (digits left left_then before after : ℕ) → now ≡ crowd → top crowd < 2 ^ digits
-    → ((d : ℕ) → top now < 2 ^ d → HasSpent (d * length now.students) left left_then before after)
-    → HasSpent (digits * length crowd.students) left left_then before after
-walked crowd now digits left left_then before after same fits spent =
-    subst (λ (w : CrowdData). (d : ℕ) → top w < 2 ^ d → HasSpent (d * length w.students) left left_then before after) same spent digits fits
+-- one walk more, in the same crowd, which gives back what is left of its share
+walked : (crowd known : CrowdData) (i digits left left_first share share_then before now after : ℕ) → known ≡ crowd → top crowd < 2 ^ digits
+    → share ≤ left_first → HasSpent (i * (digits * length crowd.students)) left left_first before now
+    → ((d : ℕ) → top known < 2 ^ d → HasSpent (d * length known.students) share share_then now after)
+    → HasSpent ((i + 1) * (digits * length crowd.students)) left (left_first - share + share_then) before after
+walked crowd known i digits left left_first share share_then before now after same fits within so_far one =
+    spent_more i (digits * length crowd.students) left left_first (left_first - share + share_then) before now after so_far
+    (spent_share (digits * length crowd.students) left_first share share_then now after within
+    (subst (λ (w : CrowdData). (d : ℕ) → top w < 2 ^ d → HasSpent (d * length w.students) share share_then now after) same one digits fits))
+
+-- and where it ended for want of memory
+broken_off : (crowd known : CrowdData) (i digits left left_first share share_then before now after : ℕ) → known ≡ crowd → top crowd < 2 ^ digits
+    → share ≤ left_first → HasSpent (i * (digits * length crowd.students)) left left_first before now
+    → ((d : ℕ) → top known < 2 ^ d → HasSpent (d * length known.students) share share_then now after)
+    → HasSpent ((i + 1) * (digits * length crowd.students)) left (left_first - share) before after
+broken_off crowd known i digits left left_first share share_then before now after same fits within so_far one =
+    spent_more i (digits * length crowd.students) left left_first (left_first - share) before now after so_far
+    (spent_whole (digits * length crowd.students) left_first share share_then now after within
+    (subst (λ (w : CrowdData). (d : ℕ) → top w < 2 ^ d → HasSpent (d * length w.students) share share_then now after) same one digits fits))
 
 pub least_price-requires-clause-crowd : goal.least_price-requires-clause-crowd
-least_price-requires-clause-crowd g c =
+least_price-requires-clause-crowd g c κs within =
     ap (λ r. crowd_of (arc_value r)) c.loop-place.invariant.same ∙ c.requires.crowd
     ∙ sym (ap (λ a. data_of (arc_value a)) c.loop-place.invariant.kept.0)
+
+-- what is given back was taken before
+pub overflow_add-left : goal.overflow_add-left
+overflow_add-left g c =
+    let most : top (crowd_of (arc_value c.loop-place.notes.remembered)) ≤ 1000001 =
+    top_high (arc_value (arc_value c.loop-place.notes.remembered).crowd) in
+    let fits : top (crowd_of (arc_value c.loop-place.notes.remembered)) < 2 ^ 20 = omega (arith, most) in
+    let given =
+    spent_share _ c.loop-place.left _ _ _ _ (div-le_self c.loop-place.left _) (c.in_ok-walk.ensures.inquiries 20 fits) in
+    let less : c.loop-place.left - c.loop-place.left / (length c.args.pairs.now - c.loop-place.place) + c.least_price.new.left ≤ c.loop-place.left =
+    given.less in
+    search rules
 
 pub loop-place-preserved : goal.loop-place-preserved
 loop-place-preserved g c =
@@ -27,17 +54,18 @@ loop-place-preserved g c =
     record {
       kept = (c.in_ok-walk.ensures.kept.0 ∙ c.loop-place.invariant.kept.0, c.in_ok-walk.ensures.kept.1 ∙ c.loop-place.invariant.kept.1);
       spent = λ digits fits.
-          spent_more c.loop-place.place (digits * length (crowd_of (arc_value c.args.notes.now.remembered)).students) _ _ _ _ _ _
-          (c.loop-place.invariant.spent digits fits)
-          (walked (crowd_of (arc_value c.args.notes.now.remembered)) (crowd_of (arc_value c.loop-place.notes.remembered)) digits _ _ _ _
-          (ap (λ r. crowd_of (arc_value r)) c.loop-place.invariant.same) fits c.in_ok-walk.ensures.inquiries);
+          walked (crowd_of (arc_value c.args.notes.now.remembered)) (crowd_of (arc_value c.loop-place.notes.remembered)) c.loop-place.place digits _ _ _ _ _ _ _
+          (ap (λ r. crowd_of (arc_value r)) c.loop-place.invariant.same) fits (div-le_self c.loop-place.left _) (c.loop-place.invariant.spent digits fits)
+          c.in_ok-walk.ensures.inquiries;
       same = c.in_ok-walk.ensures.same ∙ c.loop-place.invariant.same;
       least =
-          subst (λ r. AreLeastPrices (crowd_of (arc_value r)) (price_before (arc_value r)) (take (c.loop-place.place + 1) c.args.pairs.now) c.push.new.self.items)
+          subst
+          (λ r. AreLeastPrices (crowd_of (arc_value r)) (price_before (arc_value r)) (take (c.loop-place.place + 1) c.args.pairs.now) c.push.new.self.items)
           c.loop-place.invariant.same
           (least_more (crowd_of known) (price_before known) c.args.pairs.now c.loop-place.place
           (record { 0 = 0 }, 0) c.loop-place.found.items c.push.new.self.items c.in_ok-walk.walk.least.0 (search rules)
-          (subst (λ r. AreLeastPrices (crowd_of (arc_value r)) (price_before (arc_value r)) (take c.loop-place.place c.args.pairs.now) c.loop-place.found.items)
+          (subst
+          (λ r. AreLeastPrices (crowd_of (arc_value r)) (price_before (arc_value r)) (take c.loop-place.place c.args.pairs.now) c.loop-place.found.items)
           (sym c.loop-place.invariant.same) c.loop-place.invariant.least)
           (search rules) c.in_ok-walk.ensures.least);
     }
@@ -46,24 +74,22 @@ pub returns-in_err-walk-clause-inquiries : goal.returns-in_err-walk-clause-inqui
 returns-in_err-walk-clause-inquiries g c digits fits =
     let low : c.loop-place.place < length c.args.pairs.now = search rules in
     spent_on_some (c.loop-place.place + 1) (length c.args.pairs.now) (digits * length (crowd_of (arc_value c.args.notes.now.remembered)).students) _ _ _ _
-    (spent_more c.loop-place.place (digits * length (crowd_of (arc_value c.args.notes.now.remembered)).students) _ _ _ _ _ _
-    (c.loop-place.invariant.spent digits fits)
-    (walked (crowd_of (arc_value c.args.notes.now.remembered)) (crowd_of (arc_value c.loop-place.notes.remembered)) digits _ _ _ _
-    (ap (λ r. crowd_of (arc_value r)) c.loop-place.invariant.same) fits c.least_price.ensures.inquiries))
+    (broken_off (crowd_of (arc_value c.args.notes.now.remembered)) (crowd_of (arc_value c.loop-place.notes.remembered)) c.loop-place.place digits
+    _ _ _ _ _ _ _ (ap (λ r. crowd_of (arc_value r)) c.loop-place.invariant.same) fits (div-le_self c.loop-place.left _)
+    (c.loop-place.invariant.spent digits fits) c.least_price.ensures.inquiries)
     (omega (arith, low))
 
 pub returns-in_err-push-clause-inquiries : goal.returns-in_err-push-clause-inquiries
 returns-in_err-push-clause-inquiries g c digits fits =
     let low : c.loop-place.place < length c.args.pairs.now = search rules in
     spent_on_some (c.loop-place.place + 1) (length c.args.pairs.now) (digits * length (crowd_of (arc_value c.args.notes.now.remembered)).students) _ _ _ _
-    (spent_more c.loop-place.place (digits * length (crowd_of (arc_value c.args.notes.now.remembered)).students) _ _ _ _ _ _
-    (c.loop-place.invariant.spent digits fits)
-    (walked (crowd_of (arc_value c.args.notes.now.remembered)) (crowd_of (arc_value c.loop-place.notes.remembered)) digits _ _ _ _
-    (ap (λ r. crowd_of (arc_value r)) c.loop-place.invariant.same) fits c.in_ok-walk.ensures.inquiries))
+    (walked (crowd_of (arc_value c.args.notes.now.remembered)) (crowd_of (arc_value c.loop-place.notes.remembered)) c.loop-place.place digits
+    _ _ _ _ _ _ _ (ap (λ r. crowd_of (arc_value r)) c.loop-place.invariant.same) fits (div-le_self c.loop-place.left _)
+    (c.loop-place.invariant.spent digits fits) c.in_ok-walk.ensures.inquiries)
     (omega (arith, low))
 
-pub returns-in_err-pairs_ahead-clause-inquiries : goal.returns-in_err-pairs_ahead-clause-inquiries
-returns-in_err-pairs_ahead-clause-inquiries g c digits fits =
+pub returns-in_err-self-clause-inquiries : goal.returns-in_err-self-clause-inquiries
+returns-in_err-self-clause-inquiries g c digits fits =
     let low : c.loop-place.place < length c.args.pairs.now = search rules in
     spent_on_some c.loop-place.place (length c.args.pairs.now) (digits * length (crowd_of (arc_value c.args.notes.now.remembered)).students) _ _ _ _
     (c.loop-place.invariant.spent digits fits) (omega (arith, low))

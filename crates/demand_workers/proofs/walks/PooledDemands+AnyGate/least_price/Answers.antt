@@ -1,9 +1,11 @@
-use Rattle.std.proofs.Common.{rules, refl, ◌≡◌, ◌<◌, ◌≤◌, ◌∙◌, ◌-◌, ◌*◌, ◌^◌, ℕ, [], ◌∷◌, List, Some, false, true, length, heap_items, nat_cmp, slice_set, ap, sym, subst, arith}
+use Rattle.std.proofs.Common.{rules, refl, ◌≡◌, ◌<◌, ◌≤◌, ◌∙◌, ◌-◌, ◌*◌, ◌^◌, ℕ, [], ◌∷◌, List, Option, Some, false, true, length}
+use Rattle.std.proofs.Common.{heap_items, nat_cmp, slice_set, ap, sym, subst, arith}
 use Rattle.demand_workers.specs.Views.{crowd_of, price_before}
 use Rattle.std.specs.Arc.{arc_value}
 use Rattle.std.specs.Prelude.{IfSome}
 use Rattle.std.proofs.lemmas.List.Sorted.{first_le_from_greatest}
 use Rattle.market_units.specs.declared.units.Tokens.{Tokens}
+use Rattle.bundle_rules.specs.declared.bundle.Bundle.{Bundle}
 use Rattle.bundle_rules.specs.Bundles.{sections_of}
 use Rattle.bundle_rules.specs.Demand.{price_in}
 use Rattle.demand_api.specs.Asking.{ArePricesFor, RoseAtMost}
@@ -14,11 +16,20 @@ use Rattle.demand_api.proofs.Parts.{students_length}
 use Rattle.demand_api.specs.Views.{data_of}
 use Rattle.demand_workers.specs.Leaving.{leaves, takes}
 use Rattle.demand_workers.proofs.Allowing.{spent_besides, spent_both, spent_within}
-use Rattle.demand_workers.proofs.HoldersLeave.{raised_prices, first_keeps, first_student, many_below, has_left, has_stayed, less_left, less_stayed, least_found, asked_there, keeps_asked, leaves_later}
+use Rattle.demand_workers.proofs.HoldersLeave.{raised_prices, first_keeps, first_student, many_below, has_left, has_stayed, less_left, less_stayed}
+use Rattle.demand_workers.proofs.HoldersLeave.{least_found, asked_there, keeps_asked, leaves_later}
 use Rattle.demand_workers.specs.Inquiring.{IsInquiry, taken_at}
 use Rattle.demand_workers.specs.declared.inquiry.Inquiry.{Inquiry}
 use Rattle.demand_workers.proofs.Listing.{first_listed, listed_inquiry, listed_left}
 use Rattle.demand_workers.proofs.walks.PooledDemands+AnyGate.least_price.Goals as goal
+
+-- what is told of an inquiry, where the same is remembered
+told_there : (known remembered : Remembered) (asked : Inquiry) (told : Option Bundle) (bundle : Bundle) → told ≡ Some bundle → known ≡ remembered
+    → IfSome told (λ b. sections_of b ≡ taken_at (crowd_of known) (known.prices.items ∷ []) asked)
+    → sections_of bundle ≡ taken_at (crowd_of remembered) (remembered.prices.items ∷ []) asked
+told_there known remembered asked told bundle is same taken =
+    subst (λ (r : Remembered). sections_of bundle ≡ taken_at (crowd_of r) (r.prices.items ∷ []) asked) same
+    (subst (λ (o : Option Bundle). IfSome o (λ b. sections_of b ≡ taken_at (crowd_of known) (known.prices.items ∷ []) asked)) is taken)
 
 pub told_or_asked-requires-clause-inquiry : goal.told_or_asked-requires-clause-inquiry
 told_or_asked-requires-clause-inquiry g c κs within =
@@ -82,10 +93,9 @@ loop-least-preserved-then-not-has g c =
     let many : c.args.limit < hs = search rules in
     let asked : Inquiry =
     record { student = record { 0 = c.in-Some.first.1 }; version = 0; raised = Some (c.args.section, record { 0 = leaves c.in-Some.first }) } in
-    let taken : sections_of c.in-Some-told.bundle ≡ taken_at (crowd_of (arc_value c.loop-least.notes.remembered)) ((arc_value c.loop-least.notes.remembered).prices.items ∷ []) asked = subst (λ o. IfSome o (λ bundle. sections_of bundle ≡ taken_at (crowd_of (arc_value c.loop-least.notes.remembered)) ((arc_value c.loop-least.notes.remembered).prices.items ∷ []) asked)) c.in-Some-told.is c.in_ok-told.ensures.taken in
-    let told : sections_of c.in-Some-told.bundle ≡ demand_of crowd (price_in (slice_set prices s (record { 0 = leaves c.in-Some.first }))) c.in-Some.first.1 =
-    subst (λ r. sections_of c.in-Some-told.bundle ≡ taken_at (crowd_of (arc_value r)) ((arc_value r).prices.items ∷ []) asked)
-    c.loop-least.invariant.same taken in
+    let told : sections_of c.in-Some-told.bundle
+    ≡ demand_of crowd (price_in (slice_set prices s (record { 0 = leaves c.in-Some.first }))) c.in-Some.first.1 =
+    told_there _ _ asked _ c.in-Some-told.bundle c.in-Some-told.is (ap (λ r. arc_value r) c.loop-least.invariant.same) c.in_ok-told.ensures.taken in
     let lacks : c.has.result ≡ false = search rules in
     record {
       heap = (c.in-Some.ensures.heap_order c.loop-least.invariant.heap).0;
@@ -118,11 +128,16 @@ loop-least-smaller g c =
     let keeps =
     first_keeps crowd (price_in prices) c.args.section.0 c.loop-least.least.0 (heap_items c.loop-least.holders) (heap_items c.pop.new.self) c.in-Some.first
     c.loop-least.invariant.left c.in-Some.ensures.permutation greatest_first in
+    let known_is = c.deref-known.ensures ∙ c.in_ok-remembered.ensures in
+    let raised =
+    c.raised_prices-trial.ensures
+    ∙ ap (λ (l : List Tokens). slice_set l c.args.section.0 (record { 0 = leaves c.in-Some.first }))
+    (c.deref.ensures.value ∙ ap (λ (r : Remembered). r.prices.items) known_is) in
     less_stayed crowd (price_in prices) c.args.section.0 c.loop-least.least.0 (heap_items c.loop-least.holders) (heap_items c.pop.new.self) c.in-Some.first
     c.loop-least.invariant.left c.in-Some.ensures.permutation greatest_first c.holder_of-holder.result (heap_items c.push.new.self)
     c.in_ok-push.ensures.permutation c.holder_of-holder.ensures.student
-    (leaves_later crowd prices _ c.args.section.0 c.in-Some.first c.holder_of-holder.result (c.raised_prices-trial.ensures ∙ ap (λ (l : List Tokens). slice_set l c.args.section.0 (record { 0 = leaves c.in-Some.first })) (c.deref.ensures.value ∙ ap (λ (r : Remembered). r.prices.items) (c.deref-known.ensures ∙ c.in_ok-remembered.ensures))) (arc_value c.args.notes.now.remembered).priced c.requires.section keeps.room
-    c.holder_of-holder.ensures.later)
+    (leaves_later crowd prices _ c.args.section.0 c.in-Some.first c.holder_of-holder.result raised (arc_value c.args.notes.now.remembered).priced
+    c.requires.section keeps.room c.holder_of-holder.ensures.later)
 
 pub loop-least-preserved : goal.loop-least-preserved
 loop-least-preserved g c =
@@ -138,14 +153,26 @@ loop-least-preserved g c =
     let from : price_before (arc_value c.args.notes.now.remembered) c.args.section.0 ≤ c.loop-least.least.0 = c.loop-least.invariant.from in
     let hs : ℕ = length (heap_items c.loop-least.holders) in
     let many : c.args.limit < hs = search rules in
+    let known_is = c.deref-known.ensures ∙ c.in_ok-remembered.ensures in
+    let raised =
+    c.raised_prices-trial.ensures
+    ∙ ap (λ (l : List Tokens). slice_set l c.args.section.0 (record { 0 = leaves c.in-Some.first }))
+    (c.deref.ensures.value ∙ ap (λ (r : Remembered). r.prices.items) known_is) in
     record {
       heap = c.in_ok-push.ensures.heap_order (c.in-Some.ensures.heap_order c.loop-least.invariant.heap).0;
       left =
           has_stayed crowd (price_in prices) c.args.section.0 c.loop-least.least.0 (heap_items c.loop-least.holders) (heap_items c.pop.new.self) c.in-Some.first
           c.loop-least.invariant.left c.in-Some.ensures.permutation greatest_first c.holder_of-holder.result (heap_items c.push.new.self)
           c.in_ok-push.ensures.permutation c.holder_of-holder.ensures.student
-          (keeps_asked crowd prices _ c.args.section.0 (leaves c.in-Some.first) c.in-Some.first.1 c.holder_of-holder.result (c.raised_prices-trial.ensures ∙ ap (λ (l : List Tokens). slice_set l c.args.section.0 (record { 0 = leaves c.in-Some.first })) (c.deref.ensures.value ∙ ap (λ (r : Remembered). r.prices.items) (c.deref-known.ensures ∙ c.in_ok-remembered.ensures))) (arc_value c.args.notes.now.remembered).priced c.requires.section c.holder_of-holder.ensures.student c.holder_of-holder.ensures.room c.holder_of-holder.ensures.later
-          (subst (λ (r : Remembered). leaves c.holder_of-holder.result ≤ top (crowd_of r)) (c.deref-known.ensures ∙ c.in_ok-remembered.ensures) c.holder_of-holder.ensures.capped) (subst (λ (r : Remembered). takes (crowd_of r) (price_in c.raised_prices-trial.result.now) c.args.section.0 (leaves c.holder_of-holder.result - 1) c.in-Some.first.1 ≡ true) (c.deref-known.ensures ∙ c.in_ok-remembered.ensures) c.holder_of-holder.ensures.still));
+          (keeps_asked crowd prices _ c.args.section.0 (leaves c.in-Some.first) c.in-Some.first.1 c.holder_of-holder.result raised
+          (arc_value c.args.notes.now.remembered).priced c.requires.section c.holder_of-holder.ensures.student c.holder_of-holder.ensures.room
+          c.holder_of-holder.ensures.later
+          (subst (λ (r : Remembered). leaves c.holder_of-holder.result ≤ top (crowd_of r)) known_is c.holder_of-holder.ensures.capped)
+          (subst
+          (λ (r : Remembered). takes (crowd_of r) (price_in c.raised_prices-trial.result.now) c.args.section.0 (leaves c.holder_of-holder.result - 1)
+          c.in-Some.first.1
+          ≡ true)
+          known_is c.holder_of-holder.ensures.still));
       from = (let goal : price_before (arc_value c.args.notes.now.remembered) c.args.section.0 ≤ leaves c.in-Some.first = omega arith in goal);
       high = keeps.capped;
       kept = (c.in_ok-told.ensures.kept.0 ∙ c.loop-least.invariant.kept.0, c.in_ok-told.ensures.kept.1 ∙ c.loop-least.invariant.kept.1);
@@ -170,12 +197,12 @@ returns-clause-least g c =
 -- ---- where nobody may be asked any more
 
 pub halved-requires-clause-crowd : goal.halved-requires-clause-crowd
-halved-requires-clause-crowd g c =
+halved-requires-clause-crowd g c κs within =
     ap crowd_of c.in_ok-remembered.ensures ∙ c.requires.crowd
     ∙ sym (ap (λ a. data_of (arc_value a)) (c.in_ok-told.ensures.kept.0 ∙ c.loop-least.invariant.kept.0))
 
 pub halved-requires-clause-low : goal.halved-requires-clause-low
-halved-requires-clause-low g c =
+halved-requires-clause-low g c κs within =
     let prices = (arc_value c.args.notes.now.remembered).prices.items in
     let crowd = crowd_of (arc_value c.args.notes.now.remembered) in
     let greatest_first = first_le_from_greatest nat_cmp c.in-Some.first (heap_items c.pop.new.self) (c.in-Some.ensures.below_top c.loop-least.invariant.heap) in
@@ -188,7 +215,7 @@ halved-requires-clause-low g c =
     (let goal : price_before (arc_value c.args.notes.now.remembered) c.args.section.0 ≤ leaves c.in-Some.first = omega arith in goal)
 
 pub halved-requires-clause-high : goal.halved-requires-clause-high
-halved-requires-clause-high g c =
+halved-requires-clause-high g c κs within =
     let prices = (arc_value c.args.notes.now.remembered).prices.items in
     let crowd = crowd_of (arc_value c.args.notes.now.remembered) in
     let greatest_first = first_le_from_greatest nat_cmp c.in-Some.first (heap_items c.pop.new.self) (c.in-Some.ensures.below_top c.loop-least.invariant.heap) in
@@ -198,7 +225,7 @@ halved-requires-clause-high g c =
     subst (λ (r : Remembered). leaves c.in-Some.first ≤ top (crowd_of r)) (sym c.in_ok-remembered.ensures) keeps.capped
 
 pub halved-requires-clause-lower : goal.halved-requires-clause-lower
-halved-requires-clause-lower g c =
+halved-requires-clause-lower g c κs within =
     let prices = (arc_value c.args.notes.now.remembered).prices.items in
     let crowd = crowd_of (arc_value c.args.notes.now.remembered) in
     let greatest_first = first_le_from_greatest nat_cmp c.in-Some.first (heap_items c.pop.new.self) (c.in-Some.ensures.below_top c.loop-least.invariant.heap) in
@@ -216,7 +243,7 @@ halved-requires-clause-lower g c =
 
 pub returns-in_default-told-clause-inquiries : goal.returns-in_default-told-clause-inquiries
 returns-in_default-told-clause-inquiries g c digits fits =
-    spent_besides 0 (digits * length (crowd_of (arc_value c.args.notes.now.remembered)).students) _ _ _ _ _
+    spent_besides (digits * length (crowd_of (arc_value c.args.notes.now.remembered)).students) _ _ _ _ _
     (spent_both 0 0 _ _ _ _ _ _ c.loop-least.invariant.spent c.in_ok-told.ensures.inquiries)
     (subst
     (λ (r : Remembered). (d : ℕ) → top (crowd_of r) < 2 ^ d

@@ -12,7 +12,7 @@ use Rattle.demand_api.proofs.Takers.{lent_back}
 use Rattle.demand_workers.specs.declared.inquiry.Inquiries.{Inquiries}
 use Rattle.demand_workers.specs.declared.inquiry.Inquiry.{Inquiry}
 use Rattle.demand_workers.specs.Inquiring.{IsInquiry}
-use Rattle.demand_api.specs.Asking.{ArePricesFor}
+use Rattle.demand_api.specs.Asking.{ArePricesFor, RoseAtMost}
 use Rattle.demand_workers.specs.declared.remembered.Remembered.{Remembered}
 use Rattle.demand_workers.specs.Remembered.{AreTaken}
 use Rattle.demand_workers.specs.Views.{crowd_of}
@@ -22,7 +22,10 @@ use Rattle.demand_workers.proofs.Surveying.{can_be_raised, first_asked}
 use Rattle.demand_workers.proofs.walks.PooledDemands+AnyGate.raised_memory.Goals as goal
 
 pub overflow_cast-student : goal.overflow_cast-student
-overflow_cast-student g c = let few : length (arc_value (arc_value c.args.walk.now.remembered).crowd).menus.items ≤ 2000 = menus_few (arc_value (arc_value c.args.walk.now.remembered).crowd) in search rules
+overflow_cast-student g c =
+    let few : length (arc_value (arc_value c.args.walk.now.remembered).crowd).menus.items ≤ 2000 =
+    menus_few (arc_value (arc_value c.args.walk.now.remembered).crowd) in
+    search rules
 
 -- who is asked
 pub loop-place-preserved-in_default : goal.loop-place-preserved-in_default
@@ -33,8 +36,10 @@ loop-place-preserved-in_default g c =
       len = c.loop-place.invariant.len;
       few = let longer = pushed_one c.loop-place.list.items _ _ c.in_ok-push.ensures.items in omega (arith, longer, c.loop-place.invariant.few);
       raised =
-          subst (All (λ (q : Inquiry). q.raised ≡ Some (c.args.walk.now.section, c.args.walk.now.least))) (sym {A = List Inquiry} c.in_ok-push.ensures.items)
-          (All-push (λ (q : Inquiry). q.raised ≡ Some (c.args.walk.now.section, c.args.walk.now.least)) c.loop-place.list.items _ c.loop-place.invariant.raised refl);
+          subst (All (λ (q : Inquiry). q.raised ≡ Some (c.args.walk.now.section, c.args.walk.now.least)))
+          (sym {A = List Inquiry} c.in_ok-push.ensures.items)
+          (All-push (λ (q : Inquiry). q.raised ≡ Some (c.args.walk.now.section, c.args.walk.now.least)) c.loop-place.list.items _
+          c.loop-place.invariant.raised refl);
       asked = subst (All (IsInquiry (data_of crowd) 1)) (sym {A = List Inquiry} c.in_ok-push.ensures.items)
           (All-push (IsInquiry (data_of crowd) 1) c.loop-place.list.items _ c.loop-place.invariant.asked
           (record {
@@ -66,7 +71,8 @@ invariant_of-result g c =
     let crowd_is : arc_value c.in_ok-try_clone.field-0 ≡ arc_value (arc_value c.args.walk.now.remembered).crowd =
     c.in_ok-try_clone.ensures ∙ ap (λ (r : Remembered). arc_value r.crowd) c.deref-remembered.ensures in
     let prices_are : c.in_ok-prices.prices.items ≡ (arc_value c.args.walk.now.remembered).prices.items =
-    c.in_ok-prices.ensures.items_if_clones_equal (λ x y is. is) ∙ c.as_slice.ensures.value ∙ ap (λ (r : Remembered). r.prices.items) c.deref-remembered.ensures in
+    c.in_ok-prices.ensures.items_if_clones_equal (λ x y is. is) ∙ c.as_slice.ensures.value
+    ∙ ap (λ (r : Remembered). r.prices.items) c.deref-remembered.ensures in
     let raised_is : slice_set c.in_ok-prices.prices.items c.from.result c.args.walk.now.least
     ≡ slice_set (arc_value c.args.walk.now.remembered).prices.items c.args.walk.now.section.0 c.args.walk.now.least =
     ap (λ (l : List Tokens). slice_set l c.from.result c.args.walk.now.least) prices_are
@@ -94,30 +100,27 @@ pub returns-clause-crowd : goal.returns-clause-crowd
 returns-clause-crowd g c = ap data_of c.in_ok-try_clone.ensures ∙ ap crowd_of c.deref-remembered.ensures
 
 -- at most one inquiry for each student
-few_asked : (crowd : Crowd) (place asked listed : ℕ) → asked ≡ listed → listed ≤ place → place ≤ length crowd.menus.items
-    → asked ≤ length (data_of crowd).students
-few_asked crowd place asked listed same few within = let many = students_length crowd in omega (arith, same, few, within, many)
+few_asked : (crowd : Crowd) (asked list : List Inquiry) (place before now : ℕ) → asked ≡ list → length list ≤ place
+    → place ≤ length crowd.menus.items → RoseAtMost (length asked) before now → RoseAtMost (length (data_of crowd).students) before now
+few_asked crowd asked list place before now same few within rose =
+    let many = students_length crowd in
+    let listed = ap length same in
+    rose_within (length asked) (length (data_of crowd).students) before now rose (omega arith)
 
 pub returns-in_err-found-clause-inquiries : goal.returns-in_err-found-clause-inquiries
 returns-in_err-found-clause-inquiries g c =
-    let crowd = arc_value (arc_value c.args.walk.now.remembered).crowd in
     let within : c.loop-place.place ≤ length (arc_value (arc_value c.args.walk.now.remembered).crowd).menus.items = search rules in
-    rose_within (length c.in_ok-inquiries.inquiries.list.items) _ c.args.self.now.inquiries c.inquire.new.self.inquiries c.inquire.ensures.inquiries
-    (few_asked crowd c.loop-place.place (length c.in_ok-inquiries.inquiries.list.items) (length c.loop-place.list.items)
-    (ap length c.in_ok-inquiries.ensures.list) c.loop-place.invariant.few within)
+    few_asked (arc_value (arc_value c.args.walk.now.remembered).crowd) c.in_ok-inquiries.inquiries.list.items c.loop-place.list.items c.loop-place.place
+    c.args.self.now.inquiries c.inquire.new.self.inquiries c.in_ok-inquiries.ensures.list c.loop-place.invariant.few within c.inquire.ensures.inquiries
 
 pub returns-in_err-try_clone-clause-inquiries : goal.returns-in_err-try_clone-clause-inquiries
 returns-in_err-try_clone-clause-inquiries g c =
-    let crowd = arc_value (arc_value c.args.walk.now.remembered).crowd in
     let within : c.loop-place.place ≤ length (arc_value (arc_value c.args.walk.now.remembered).crowd).menus.items = search rules in
-    rose_within (length c.in_ok-inquiries.inquiries.list.items) _ c.args.self.now.inquiries c.inquire.new.self.inquiries c.inquire.ensures.inquiries
-    (few_asked crowd c.loop-place.place (length c.in_ok-inquiries.inquiries.list.items) (length c.loop-place.list.items)
-    (ap length c.in_ok-inquiries.ensures.list) c.loop-place.invariant.few within)
+    few_asked (arc_value (arc_value c.args.walk.now.remembered).crowd) c.in_ok-inquiries.inquiries.list.items c.loop-place.list.items c.loop-place.place
+    c.args.self.now.inquiries c.inquire.new.self.inquiries c.in_ok-inquiries.ensures.list c.loop-place.invariant.few within c.inquire.ensures.inquiries
 
 pub returns-clause-inquiries : goal.returns-clause-inquiries
 returns-clause-inquiries g c =
-    let crowd = arc_value (arc_value c.args.walk.now.remembered).crowd in
     let within : c.loop-place.place ≤ length (arc_value (arc_value c.args.walk.now.remembered).crowd).menus.items = search rules in
-    rose_within (length c.in_ok-inquiries.inquiries.list.items) _ c.args.self.now.inquiries c.inquire.new.self.inquiries c.inquire.ensures.inquiries
-    (few_asked crowd c.loop-place.place (length c.in_ok-inquiries.inquiries.list.items) (length c.loop-place.list.items)
-    (ap length c.in_ok-inquiries.ensures.list) c.loop-place.invariant.few within)
+    few_asked (arc_value (arc_value c.args.walk.now.remembered).crowd) c.in_ok-inquiries.inquiries.list.items c.loop-place.list.items c.loop-place.place
+    c.args.self.now.inquiries c.inquire.new.self.inquiries c.in_ok-inquiries.ensures.list c.loop-place.invariant.few within c.inquire.ensures.inquiries
