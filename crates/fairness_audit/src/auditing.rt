@@ -16,9 +16,9 @@ use market_edge::Gate;
 use market_units::{MAX_STUDENTS, MAX_WORKERS, NoMemory};
 use std::alloc::Global;
 use std::sync::{Arc, Wait};
-use std::thread;
 use std::thread::Threads;
 use task_board::{Answers, Board, BoardSeat};
+use worker_threads::for_each_mut;
 
 /// Whom each student of a crowd envies, where the students have these bundles: one for each, in
 /// file order, which it may take. The rows are in file order, found by 1 to 16 workers in threads
@@ -96,7 +96,7 @@ fn work_all<R: Threads + Wait + Sync, G: Gate + Sync>(
     ensures back { AreBack audit_rules board.now seats.new }
 {
     let threads = seats.len();
-    thread::for_each_mut(
+    for_each_mut(
         rt,
         seats,
         threads,

@@ -20,8 +20,8 @@ use demand_api::Crowd;
 use market_certificate::Proved;
 use market_units::{MAX_COURSES, MAX_RATINGS, NoMemory, SectionSet, Tokens};
 use std::alloc::Global;
-use std::thread;
 use std::thread::Threads;
+use worker_threads::for_each_mut;
 
 // At most this many places are on a menu, and at most this many sections in a bundle.
 const PLACES: u8 = MAX_RATINGS as u8;
@@ -81,7 +81,7 @@ fn fill_rooms<R: Threads + Sync>(
     ensures rooms { AreRoomsOfStudents taken.now first rooms.new }
 {
     let threads = workers_for(workers, rooms.len());
-    thread::for_each_mut(
+    for_each_mut(
         rt,
         rooms,
         threads,

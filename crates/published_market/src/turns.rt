@@ -21,8 +21,8 @@ use demand_api::Crowd;
 use market_certificate::{Proved, ProvedTurn};
 use market_units::{MAX_RAISE, NoMemory, StudentNo, Tokens};
 use std::alloc::Global;
-use std::thread;
 use std::thread::Threads;
+use worker_threads::for_each_mut;
 
 // The bundle with its tree as that of a turn.
 fn of_turn(pass: u64, student: StudentNo, proved: Proved) -> ProvedTurn
@@ -98,7 +98,7 @@ fn fill_rooms<R: Threads + Sync>(
     ensures rooms { AreRoomsOfTurns chosen.now first rooms.new }
 {
     let threads = workers_for(workers, rooms.len());
-    thread::for_each_mut(
+    for_each_mut(
         rt,
         rooms,
         threads,
