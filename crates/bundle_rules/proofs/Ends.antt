@@ -1,6 +1,6 @@
 -- Where a list of sections ends.
-use Rattle.std.proofs.Common.{◌≡◌, ◌↔◌, ◌<◌, ◌≤◌, ◌+◌, ◌-◌, ◌++◌, ◌==◌, ℕ, zero, suc, true≢false, subst, inl, inr, All, Bool, true, List, [], ◌∷◌, length, take, drop, get_or, nat_lt, IsTrue, Some, arith, refl, ap, sym, ◌∙◌}
-use Rattle.std.specs.List.{slice_get, list_any}
+use Rattle.std.proofs.Common.{◌≡◌, ◌↔◌, ◌<◌, ◌≤◌, ◌+◌, ◌-◌, ◌++◌, ℕ, zero, suc, true≢false, subst, inl, inr, All, true, List, [], ◌∷◌, length, take, drop, get_or, nat_lt, IsTrue, Some, arith, ap, sym, ◌∙◌}
+use Rattle.std.specs.List.{slice_get}
 use Rattle.std.proofs.lemmas.Bool.Decides.{nat_tests}
 use Rattle.std.proofs.lemmas.List.{take_more, take_all, take-append-drop, map-append}
 use Rattle.std.proofs.lemmas.Option.{get_or_from_slice_get, slice_get_within}
@@ -30,12 +30,6 @@ below_the_last sections last t is up =
     let split : ordinals sections ≡ front ++ last.0 ∷ [] =
     ap ordinals (split_last sections last is) ∙ map-append (λ section. section.0) (take (length sections - 1) sections) (last ∷ []) in
     rw split (test_of last.0 t _ ((λ low. IsAscending-last front last.0 t (rw split at up) low), (λ more. last_below front last.0 t more)))
-
--- whether one of the sections is this one
-pub list_any-ordinals : (test : SectionNo → Bool) (s : ℕ) → ((section : SectionNo) → test section ≡ (section.0 == s)) → (sections : List SectionNo)
-    → list_any test sections ≡ has (ordinals sections) s
-list_any-ordinals test s each [] = refl
-list_any-ordinals test s each (x ∷ xs) = rw (each x, list_any-ordinals test s each xs) refl
 
 -- a front of ascending sections, with the next one
 pub ascending-next : (sections : List SectionNo) (i : ℕ) (d : SectionNo) → i < length sections → IsAscending (ordinals sections)

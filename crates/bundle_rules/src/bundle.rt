@@ -71,7 +71,7 @@ impl Bundle {
     pub fn has(&self, section: SectionNo) -> bool
         ensures { result ≡ has (sections_of self.now) section.0 }
     {
-        self.sections().contains(&section)
+        is_among(self.sections(), section)
     }
 
     /// Whether each section of the bundle is below this one.
@@ -97,6 +97,17 @@ impl Bundle {
             sections,
             len: self.len + 1,
         }
+    }
+}
+
+// Whether the section is one of these. Not by a search of std, which tests many places at once: that
+// takes several times as long where they are at most eight, and stages look through all bundles.
+fn is_among(sections: &[SectionNo], section: SectionNo) -> bool
+    ensures { result ≡ has (ordinals sections.now) section.0 }
+{
+    match sections {
+        [] => false,
+        [first, others @ ..] => first.0 == section.0 || is_among(others, section),
     }
 }
 
