@@ -3,7 +3,7 @@ ghost use Rattle.std.specs.Prelude.{◌≡◌, ◌<◌, ◌≤◌, ◌+◌, ◌*
 ghost use Rattle.demand_api.specs.{Crowds.top, Views.data_of};
 
 use demand_api::Crowd;
-use market_units::MAX_SECTIONS;
+use market_units::{MAX_SECTIONS, MAX_STUDENTS};
 
 /// How many students walks to the least prices of so many pairs may ask in one call: for each pair
 /// and student as many as the top has binary digits, and one more, less two rounds over all
@@ -18,6 +18,18 @@ pub(crate) fn walks_for(crowd: &Crowd, pairs: usize) -> u64
     let students = crowd.menus.len() as u64;
     let digits = u64::from(digits_of(crowd.top().0));
     (pairs as u64 * (digits + 1) - 2) * students
+}
+
+/// How many tasks a rehearsal has where a crowd has so many students, and so many may be asked:
+/// four for each student, but no more than the most students of a crowd, because the board reserves
+/// some 300 bytes for each step that it may take; and no more than half of those who may be asked,
+/// so that a rehearsal alone never brings halving.
+pub(crate) fn tasks_for(students: usize, left: u64) -> u32
+    ensures { result ≤ left }
+{
+    let most = usize::from(MAX_STUDENTS);
+    let tasks = (students.min(most) * 4).min(most) as u32;
+    u64::from(tasks).min(left / 2) as u32
 }
 
 // How many binary digits the number has.

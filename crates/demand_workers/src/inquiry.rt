@@ -1,10 +1,12 @@
 // What is asked of single students.
-ghost use Rattle.std.specs.Prelude.{All, length};
+ghost use Rattle.std.specs.Prelude.{◌≡◌, All, IfOk, length};
 ghost use Rattle.std.specs.Arc.{arc_value};
-ghost use Rattle.demand_workers.specs.{Inquiring.IsInquiry, Rounds.AreVersionsFor, Views.crowd_of};
+ghost use Rattle.demand_workers.specs.{Inquiring.IsInquiry, Rounds.AreVersionsFor, Rounds.prices_of};
+ghost use Rattle.demand_workers.specs.Views.{crowd_of};
 
 use crate::remembered::Remembered;
-use market_units::{SectionNo, StudentNo, Tokens};
+use market_units::{NoMemory, SectionNo, StudentNo, Tokens};
+use std::alloc::Global;
 use std::sync::Arc;
 
 /// A student, and the prices at which it is asked: those of a version, or these but for one section
@@ -25,4 +27,19 @@ pub struct Inquiries {
     pub list: Vec<Inquiry>,
     pub ghost priced: { AreVersionsFor (crowd_of (arc_value remembered)) versions.items },
     pub ghost asked: { All (IsInquiry (crowd_of (arc_value remembered)) (length versions.items)) list.items },
+}
+
+/// Copies of these vectors of prices. The only error is that memory was not given.
+pub(crate) fn copies_of(
+    alloc: Global,
+    versions: &[Vec<Tokens>],
+) -> Result<Vec<Vec<Tokens>>, NoMemory>
+    ensures { IfOk result (λ copies. prices_of copies.items ≡ prices_of versions.now) }
+{
+    let mut copies = Vec::with_capacity(alloc, versions.len())?;
+    for version in versions {
+        let copy = version.to_vec(alloc)?;
+        copies.push(copy)?;
+    }
+    Ok(copies)
 }

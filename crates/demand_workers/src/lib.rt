@@ -9,7 +9,6 @@
 mod allowance;
 mod answering;
 mod asker;
-mod asking;
 mod beside;
 mod cheaper;
 mod counted;
@@ -26,7 +25,6 @@ mod question;
 mod rehearsal;
 mod rehearsed_walk;
 mod remembered;
-mod round;
 mod settled;
 mod stand;
 mod survey;
@@ -37,7 +35,6 @@ mod trial;
 mod unsettled;
 mod walk_tasks;
 mod walker;
-mod walking;
 mod walks;
 mod worker;
 

@@ -10,6 +10,7 @@ ghost use Rattle.demand_workers.specs.Inquiring.{IsInquiry, taken_at};
 ghost use Rattle.demand_workers.specs.{Rounds.prices_of, Views.crowd_of, Views.price_before};
 
 use crate::PooledDemands;
+use crate::allowance::tasks_for;
 use crate::ground::Ground;
 use crate::inquiry::{Inquiries, Inquiry};
 use crate::leaving::{Walk, holder_of, holders_of};
@@ -20,7 +21,6 @@ use crate::remembered::Remembered;
 use crate::settled::settled;
 use crate::trial::{ROOM, raised_prices};
 use crate::unsettled::write_found;
-use crate::walking::{rehearse_by_all, tasks_for};
 use bundle_rules::Bundle;
 use market_edge::AnyGate;
 use market_units::{MAX_PRICE, NoMemory, SectionNo, StudentNo, Tokens};
@@ -110,8 +110,7 @@ impl PooledDemands<AnyGate<'_>> {
 
     // Asks ahead, by several workers, what will be asked on the walks of these pairs, or in the
     // elimination that begins with the one pair, from what is remembered. So no thread has to be
-    // started meanwhile. Each task counts as one student that was asked, because who is asked late
-    // is in no answer. What is found is noted, and what was noted is forgotten.
+    // started meanwhile. What is found is noted, and what was noted is forgotten.
     fn rehearse<R: Threads + Wait + Sync>(
         &mut self,
         rt: &R,
@@ -141,17 +140,8 @@ impl PooledDemands<AnyGate<'_>> {
             rehearsal: &rehearsal,
         };
         let asked = u64::from(tasks);
-        self.inquiries = self.inquiries.saturating_add(asked);
         *left -= asked;
-        let answers = rehearse_by_all(
-            rt,
-            alloc,
-            &self.pool,
-            self.gate,
-            &remembered,
-            &ground,
-            tasks,
-        )?;
+        let answers = self.ask_ahead(rt, alloc, &remembered, &ground, tasks)?;
         notes.add_told(&answers)?;
         Ok(())
     }

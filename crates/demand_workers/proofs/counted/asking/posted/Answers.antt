@@ -5,7 +5,7 @@ use Rattle.bundle_rules.specs.declared.bundle.Bundle.{Bundle}
 use Rattle.bundle_rules.specs.Bundles.{sections_of}
 use Rattle.price_board.proofs.Numbering.{same_sections-is}
 use Rattle.demand_workers.specs.Asked.{is_taken}
-use Rattle.demand_workers.proofs.asking.posted.Goals as goal
+use Rattle.demand_workers.proofs.counted.asking.posted.Goals as goal
 
 pub unreachable-requires : goal.unreachable-requires
 unreachable-requires c = elim (c.requires.settled c.args.inquiry c.requires.inquiry) [

@@ -1,22 +1,21 @@
 // A round of all workers over one price board.
-ghost use Rattle.std.specs.Prelude.{◌≡◌, ◌≤◌, ◌<◌, IfOk, length};
+ghost use Rattle.std.specs.Prelude.{◌≡◌, ◌≤◌, ◌<◌, length};
 ghost use Rattle.price_board.specs.Seats.{AreBack, HasBegun, IsFree, IsFinished};
-ghost use Rattle.demand_workers.specs.Rounds.{IsBoardOf, prices_of};
+ghost use Rattle.demand_workers.specs.Rounds.{IsBoardOf};
 ghost use Rattle.demand_api.specs.Views.{data_of};
 
 use crate::worker::{Lent, work};
 use demand_oracle::Workspace;
 use market_edge::Gate;
-use market_units::{MAX_WORKERS, NoMemory, Tokens};
+use market_units::MAX_WORKERS;
 use price_board::{Answers, Board, BoardSeat};
-use std::alloc::Global;
 use std::sync::{Mutex, Wait};
-use std::thread;
 use std::thread::Threads;
+use worker_threads::for_each_mut;
 
 /// What all workers find on a board, from the start of the first of them to the answers: it is
 /// given no allocator and has no error, so no memory is taken meanwhile.
-pub(crate) fn work_and_close<R: Threads + Wait + Sync>(
+pub(super) fn work_and_close<R: Threads + Wait + Sync>(
     rt: &R,
     board: Board,
     mut seats: Vec<BoardSeat>,
@@ -50,7 +49,7 @@ fn work_all<R: Threads + Wait + Sync>(
     ensures back { AreBack board.now seats.new }
 {
     let threads = seats.len();
-    thread::for_each_mut(
+    for_each_mut(
         rt,
         seats,
         threads,
@@ -62,19 +61,4 @@ fn work_all<R: Threads + Wait + Sync>(
                 × (seat.exit.now.number ≡ seat.entry.now.number) }
         { work(rt, board, seat, &workspaces[n], lent, gate) },
     );
-}
-
-/// Copies of these vectors of prices. The only error is that memory was not given.
-pub(crate) fn copies_of(
-    alloc: Global,
-    versions: &[Vec<Tokens>],
-) -> Result<Vec<Vec<Tokens>>, NoMemory>
-    ensures { IfOk result (λ copies. prices_of copies.items ≡ prices_of versions.now) }
-{
-    let mut copies = Vec::with_capacity(alloc, versions.len())?;
-    for version in versions {
-        let copy = version.to_vec(alloc)?;
-        copies.push(copy)?;
-    }
-    Ok(copies)
 }

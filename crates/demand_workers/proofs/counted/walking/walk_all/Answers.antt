@@ -4,7 +4,7 @@ use Rattle.task_board.proofs.Returning.{all_back}
 use Rattle.demand_workers.specs.declared.note.Told.{Told}
 use Rattle.demand_workers.specs.declared.terms.WalkTerms.{WalkTerms}
 use Rattle.demand_workers.specs.Walks.{walk_rules}
-use Rattle.demand_workers.proofs.walking.walk_all.Goals as goal
+use Rattle.demand_workers.proofs.counted.walking.walk_all.Goals as goal
 
 pub returns-clause-back : goal.returns-clause-back
 returns-clause-back g c =

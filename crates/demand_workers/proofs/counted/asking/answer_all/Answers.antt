@@ -4,7 +4,7 @@ use Rattle.task_board.specs.Seats.{IsFinished, SeatOf}
 use Rattle.demand_workers.specs.declared.terms.InquiryTerms.{InquiryTerms}
 use Rattle.demand_workers.specs.Asked.{inquiry_rules}
 use Rattle.task_board.proofs.Returning.{all_back}
-use Rattle.demand_workers.proofs.asking.answer_all.Goals as goal
+use Rattle.demand_workers.proofs.counted.asking.answer_all.Goals as goal
 
 pub returns-clause-back : goal.returns-clause-back
 returns-clause-back g c =

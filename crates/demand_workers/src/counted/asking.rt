@@ -18,9 +18,9 @@ use market_edge::Gate;
 use market_units::{MAX_WORKERS, NoMemory};
 use std::alloc::Global;
 use std::sync::{Arc, Mutex, Wait};
-use std::thread;
 use std::thread::Threads;
 use task_board::{Answers, Board, BoardSeat};
+use worker_threads::for_each_mut;
 
 // So many inquiries are worth a worker of their own, unless each student is asked.
 const WORTHWHILE: usize = 3;
@@ -28,7 +28,7 @@ const WORTHWHILE: usize = 3;
 /// What the students of these inquiries take, found by as many workers of a pool as the inquiries
 /// are worth, or by its first alone, in the caller's thread, where they are few. All memory is taken
 /// before the first worker starts, and the only error is that it was not given.
-pub(crate) fn ask<R: Threads + Wait + Sync>(
+pub(super) fn ask<R: Threads + Wait + Sync>(
     rt: &R,
     alloc: Global,
     pool: &Pool,
@@ -120,7 +120,7 @@ fn answer_all<R: Threads + Wait + Sync>(
     ensures back { AreBack inquiry_rules board.now seats.new }
 {
     let threads = seats.len();
-    thread::for_each_mut(
+    for_each_mut(
         rt,
         seats,
         threads,

@@ -2,7 +2,7 @@ use Rattle.std.proofs.Common.{rules, ℕ, ◌≡◌, ◌<◌, All, length, slice
 use Rattle.price_board.specs.Asked.{round_rules}
 use Rattle.price_board.specs.Seats.{IsFinished, RoundSeat}
 use Rattle.task_board.proofs.Returning.{all_back}
-use Rattle.demand_workers.proofs.round.work_all.Goals as goal
+use Rattle.demand_workers.proofs.counted.round.work_all.Goals as goal
 
 pub returns-clause-back : goal.returns-clause-back
 returns-clause-back g c =

@@ -12,29 +12,17 @@ use crate::walk_tasks::WalkTasks;
 use crate::walker::{Asks, walk_drawn};
 use demand_oracle::Workspace;
 use market_edge::Gate;
-use market_units::{MAX_STUDENTS, MAX_WORKERS, NoMemory};
+use market_units::{MAX_WORKERS, NoMemory};
 use std::alloc::Global;
 use std::sync::{Arc, Mutex, Wait};
-use std::thread;
 use std::thread::Threads;
 use task_board::{Answers, Board, BoardSeat};
-
-/// How many tasks a rehearsal has where a crowd has so many students, and so many may be asked:
-/// four for each student, but no more than the most students of a crowd, because the board reserves
-/// some 300 bytes for each step that it may take; and no more than half of those who may be asked,
-/// so that a rehearsal alone never brings halving.
-pub(crate) fn tasks_for(students: usize, left: u64) -> u32
-    ensures { result ≤ left }
-{
-    let most = usize::from(MAX_STUDENTS);
-    let tasks = (students.min(most) * 4).min(most) as u32;
-    u64::from(tasks).min(left / 2) as u32
-}
+use worker_threads::for_each_mut;
 
 /// Asks whoever is next until nobody is left, or nobody was found for so long, or so many were
 /// asked: by a worker of a pool for each walk that is looked at, or by all where they are fewer.
 /// All memory is taken before the first worker starts, and the only error is that it was not given.
-pub(crate) fn rehearse_by_all<R: Threads + Wait + Sync>(
+pub(super) fn rehearse_by_all<R: Threads + Wait + Sync>(
     rt: &R,
     alloc: Global,
     pool: &Pool,
@@ -91,7 +79,7 @@ fn walk_all<R: Threads + Wait + Sync, A: Asks + Sync>(
     ensures back { AreBack walk_rules board.now seats.new }
 {
     let threads = seats.len();
-    thread::for_each_mut(
+    for_each_mut(
         rt,
         seats,
         threads,

@@ -2,7 +2,7 @@ use Rattle.std.proofs.Common.{◌≡◌, ◌<◌, ℕ, length, slice_index_or}
 use Rattle.bundle_rules.specs.Bundles.{sections_of}
 use Rattle.demand_workers.specs.Asked.{no_inquiry}
 use Rattle.demand_workers.specs.Inquiring.{taken_at}
-use Rattle.demand_workers.proofs.asking.write_found.Given as goal
+use Rattle.demand_workers.proofs.counted.asking.write_found.Given as goal
 
 -- the bundles so far are written
 abbrev pub invariant-inquiries : goal.invariant-inquiries
