@@ -13,7 +13,7 @@ use Rattle.bundle_rules.specs.Demand.{price_in}
 use Rattle.demand_api.specs.Crowds.{CrowdData, top, count}
 use Rattle.demand_api.specs.Prices.{with_price, IsRaised, IsLeastFrom}
 use Rattle.market_units.specs.Counts.{one_more}
-use Rattle.demand_api.specs.Asking.{ArePricesFor, RoseAtMost}
+use Rattle.demand_api.specs.Asking.{ArePricesFor, RoseAtMost, RoseBy}
 
 -- a copy of the prices
 pub record IsTrial (crowd : CrowdData) (prices trial : List Tokens) : Type 0 where
@@ -38,49 +38,44 @@ pub record AreHalvings (each n low high before now : ℕ) : Type 0 where
 pub halvings_begin : (each n low high before : ℕ) → high ≤ n → AreHalvings each n low high before before
 halvings_begin each n low high before within = record { kept = omega arith; most = λ digits fits. (digits, omega arith, omega arith) }
 
--- one halving more, after which the upper half is left
-pub halvings_up : (each n low high before now after : ℕ) → AreHalvings each n low high before now → low < high → RoseAtMost each now after
-    → AreHalvings each n (low + (high - low) / 2 + 1) high before after
-halvings_up each n low high before now after are apart rose = record {
+-- one halving more: what is left, from a to b, is at most half of what was left
+halvings_on : (each n low high before now after a b : ℕ) → AreHalvings each n low high before now → low < high → RoseAtMost each now after
+    → (b - a) * 2 ≤ high - low → AreHalvings each n a b before after
+halvings_on each n low high before now after a b are apart rose half = record {
   kept = let so_far = are.kept in let kept = rose.kept in omega arith;
   most = λ digits fits. one_less digits (are.most digits fits);
 }
   where
     one_less : (digits : ℕ) → (left : ℕ) × (high - low < 2 ^ left) × (now + left * each ≤ before + digits * each)
-        → (left : ℕ) × (high - (low + (high - low) / 2 + 1) < 2 ^ left) × (after + left * each ≤ before + digits * each)
+        → (left : ℕ) × (b - a < 2 ^ left) × (after + left * each ≤ before + digits * each)
     one_less digits (zero, small, few) = absurd (omega arith)
     one_less digits (suc less, small, few) =
         let double : 2 ^ suc less ≡ 2 ^ less * 2 = pow-suc 2 less in
         let most : after ≤ now + each = rose.most in
         (less, omega arith, omega arith)
 
--- and after which the lower half is left
+-- after it the upper half is left, or the lower one
+pub halvings_up : (each n low high before now after : ℕ) → AreHalvings each n low high before now → low < high → RoseAtMost each now after
+    → AreHalvings each n (low + (high - low) / 2 + 1) high before after
+halvings_up each n low high before now after are apart rose =
+    halvings_on each n low high before now after (low + (high - low) / 2 + 1) high are apart rose (omega arith)
+
 pub halvings_down : (each n low high before now after : ℕ) → AreHalvings each n low high before now → low < high → RoseAtMost each now after
     → AreHalvings each n low (low + (high - low) / 2) before after
-halvings_down each n low high before now after are apart rose = record {
-  kept = let so_far = are.kept in let kept = rose.kept in omega arith;
-  most = λ digits fits. one_less digits (are.most digits fits);
-}
-  where
-    one_less : (digits : ℕ) → (left : ℕ) × (high - low < 2 ^ left) × (now + left * each ≤ before + digits * each)
-        → (left : ℕ) × (low + (high - low) / 2 - low < 2 ^ left) × (after + left * each ≤ before + digits * each)
-    one_less digits (zero, small, few) = absurd (omega arith)
-    one_less digits (suc less, small, few) =
-        let double : 2 ^ suc less ≡ 2 ^ less * 2 = pow-suc 2 less in
-        let most : after ≤ now + each = rose.most in
-        (less, omega arith, omega arith)
+halvings_down each n low high before now after are apart rose =
+    halvings_on each n low high before now after low (low + (high - low) / 2) are apart rose (omega arith)
 
 -- all halvings of one price
 pub halvings_most : (each n low high before now digits : ℕ) → AreHalvings each n low high before now → n < 2 ^ digits → now ≤ before + digits * each
 halvings_most each n low high before now digits are fits = let few = (are.most digits fits).2 in omega arith
 
 -- a sum that stands still at the greatest u64
-pub rose_by : (rise n before after : ℕ) → after ≡ min (before + n) (2 ^ 64 - 1) → n ≤ rise → RoseAtMost rise before after
+pub rose_by : (rise n before after : ℕ) → RoseBy n before after → n ≤ rise → RoseAtMost rise before after
 rose_by rise n before after is within = record { kept = omega arith; most = omega arith }
 
 -- one call more
 pub rose_by_one : (now after : ℕ) → after ≡ one_more now → RoseAtMost 1 now after
-rose_by_one now after is = record { kept = omega arith; most = omega arith }
+rose_by_one now after is = rose_by 1 1 now after is (omega arith)
 
 -- the price at a section, as a list is read
 pub price_at : (prices : List Tokens) (s : ℕ) (d : Tokens) → s < length prices → price_in prices s ≡ (slice_index_or prices s d).0

@@ -14,6 +14,10 @@ pub record ArePricesFor (crowd : CrowdData) (prices : List Tokens) : Type 0 wher
   pub same : length prices ≡ crowd.sections
   pub high : All (λ price. price.0 ≤ top crowd) prices
 
+-- the count, which is a u64, rose by this, or stands at the greatest u64
+abbrev pub RoseBy : ℕ → ℕ → ℕ → Type 0
+RoseBy rise before now = now ≡ min (before + rise) (2 ^ 64 - 1)
+
 -- the count, which is a u64, did not fall, and rose at most by this
 pub record RoseAtMost (rise before now : ℕ) : Type 0 where
   pub kept : min before (2 ^ 64 - 1) ≤ now

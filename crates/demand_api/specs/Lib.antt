@@ -6,3 +6,4 @@ pub mod Asking
 pub mod Counting
 pub mod Laws
 pub mod Views
+pub mod PlainCounts

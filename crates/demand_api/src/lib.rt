@@ -1,6 +1,6 @@
 //! What a crowd of students demands at given prices, and who can be asked for it.
 // Neither: that `asked` and `inquiries` are what was asked (each is what the implementor says it
-// is); how long it takes.
+// is; by how much each call of `PlainDemands` raises them is proved); how long it takes.
 #![tactic(auto)]
 
 mod asking;

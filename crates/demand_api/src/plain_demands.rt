@@ -1,12 +1,18 @@
 // Demands of a crowd in one thread, found by trying every choice.
-ghost use Rattle.std.specs.Prelude.{◌≡◌};
+ghost use Rattle.std.specs.Prelude.{◌≡◌, ◌<◌, ◌≤◌, ◌↔◌, ◌+◌, ◌*◌, IsTrue, IfOk, All};
+ghost use Rattle.std.specs.Prelude.{length, map, max};
 ghost use Rattle.std.specs.Arc.{arc_value};
+ghost use Rattle.std.specs.Thread.{IsSync};
+ghost use Rattle.bundle_rules.specs.{Bundles.sections_of, Demand.price_in};
+ghost use Rattle.demand_api.specs.Asking.{ArePricesFor, RoseAtMost, RoseBy};
+ghost use Rattle.demand_api.specs.Crowds.{count, counts, demand_of};
 ghost use Rattle.demand_api.specs.Views.{data_of};
+ghost use Rattle.market_units.specs.Counts.{one_more};
 
 use crate::plain::{Priced, bundles, count_of, counts_at};
 use crate::{Crowd, Demands};
 use bundle_rules::Bundle;
-use market_units::{NoMemory, SectionNo, StudentNo, Tokens};
+use market_units::{MAX_STUDENTS, MAX_VERSIONS, NoMemory, SectionNo, StudentNo, Tokens};
 use std::alloc::Global;
 use std::sync::{Arc, Wait};
 use std::thread::Threads;
@@ -36,11 +42,13 @@ impl PlainDemands {
 }
 
 impl Demands for PlainDemands {
-    ghost crowd = { λ demands. data_of (arc_value demands.crowd) };
+    ghost use Rattle.demand_api.specs.PlainCounts.{asked_of, crowd_of, inquiries_of};
 
-    ghost asked = { λ demands. demands.asked };
+    ghost crowd = { crowd_of };
 
-    ghost inquiries = { λ demands. demands.inquiries };
+    ghost asked = { asked_of };
+
+    ghost inquiries = { inquiries_of };
 
     fn top(&self) -> Tokens {
         self.crowd.top()
@@ -56,9 +64,26 @@ impl Demands for PlainDemands {
         _rt: &R,
         alloc: Global,
         batch: &[Vec<Tokens>],
-    ) -> Result<Vec<Vec<u32>>, NoMemory> {
+    ) -> Result<Vec<Vec<u32>>, NoMemory>
+        requires sync { IsSync R.row }
+        requires some { 1 ≤ length batch.now }
+        requires few { length batch.now ≤ MAX_VERSIONS }
+        requires prices { All (λ prices. ArePricesFor (crowd_of self.old) prices.items) batch.now }
+        ensures crowd { crowd_of self.new ≡ crowd_of self.old }
+        ensures asked { asked_of self.new ≡ one_more (asked_of self.old) }
+        ensures inquiries { RoseAtMost
+            ((length batch.now + 1) * length (crowd_of self.old).students) (inquiries_of self.old)
+            (inquiries_of self.new) }
+
+        // Each student is counted at each vector, also where memory was wanted.
+        ensures counted { RoseBy (length batch.now * length (crowd_of self.old).students)
+            (inquiries_of self.old) (inquiries_of self.new) }
+        ensures value { IfOk result
+            (λ found. map (λ counts. counts.items) found.items
+            ≡ map (λ prices. counts (crowd_of self.old) (price_in prices.items)) batch.now) }
+    {
         self.asked = self.asked.saturating_add(1);
-        let round = self.crowd.menus.len();
+        let round = usize::from(self.students());
         self.inquiries = self.inquiries.saturating_add((batch.len() * round) as u64);
         let crowd: &Crowd = &self.crowd;
         let mut found = Vec::new(alloc);
@@ -75,7 +100,26 @@ impl Demands for PlainDemands {
         alloc: Global,
         prices: &[Tokens],
         students: &[StudentNo],
-    ) -> Result<Vec<Bundle>, NoMemory> {
+    ) -> Result<Vec<Bundle>, NoMemory>
+        requires sync { IsSync R.row }
+        requires prices { ArePricesFor (crowd_of self.old) prices.now }
+        requires few { length students.now ≤ MAX_STUDENTS }
+        requires range { All (λ student. student.0 < length (crowd_of self.old).students)
+            students.now }
+        ensures crowd { crowd_of self.new ≡ crowd_of self.old }
+        ensures asked { asked_of self.new ≡ one_more (asked_of self.old) }
+        ensures inquiries { RoseAtMost
+            (max (length students.now) (length (crowd_of self.old).students))
+            (inquiries_of self.old) (inquiries_of self.new) }
+
+        // Each who is listed is counted, also where memory was wanted.
+        ensures counted { RoseBy (length students.now) (inquiries_of self.old)
+            (inquiries_of self.new) }
+        ensures value { IfOk result
+            (λ bundles. map sections_of bundles.items
+            ≡ map (λ student. demand_of (crowd_of self.old) (price_in prices.now) student.0)
+            students.now) }
+    {
         self.asked = self.asked.saturating_add(1);
         self.inquiries = self.inquiries.saturating_add(students.len() as u64);
         let crowd: &Crowd = &self.crowd;
@@ -89,10 +133,25 @@ impl Demands for PlainDemands {
         prices: &[Tokens],
         section: SectionNo,
         limit: u32,
-    ) -> Result<bool, NoMemory> {
+    ) -> Result<bool, NoMemory>
+        requires sync { IsSync R.row }
+        requires prices { ArePricesFor (crowd_of self.old) prices.now }
+        requires section { section.0 < (crowd_of self.old).sections }
+        ensures crowd { crowd_of self.new ≡ crowd_of self.old }
+        ensures asked { asked_of self.new ≡ one_more (asked_of self.old) }
+        ensures inquiries { RoseAtMost (length (crowd_of self.old).students) (inquiries_of self.old)
+            (inquiries_of self.new) }
+
+        // Each student is counted.
+        ensures counted { RoseBy (length (crowd_of self.old).students) (inquiries_of self.old)
+            (inquiries_of self.new) }
+        ensures value { IfOk result
+            (λ more. IsTrue more
+            ↔ (limit < count (crowd_of self.old) (price_in prices.now) section.0)) }
+    {
         self.asked = self.asked.saturating_add(1);
-        let round = self.crowd.menus.len();
-        self.inquiries = self.inquiries.saturating_add(round as u64);
+        let round = self.students();
+        self.inquiries = self.inquiries.saturating_add(u64::from(round));
         let crowd: &Crowd = &self.crowd;
         Ok(count_of(&Priced { crowd, prices }, section) > limit)
     }

@@ -27,7 +27,12 @@ loop-low-preserved-then-branch g c =
     let crowd = g.Self.Demands.crowd c.args.self.now in
     let pair = slice_index_or c.args.pairs.now c.loop-section.section-index (record { 0 = 0 }, 0) in
     let same : g.Self.Demands.crowd c.loop-low.self ≡ g.Self.Demands.crowd c.args.self.now = c.loop-low.invariant.same ∙ c.loop-section.invariant.same in
-    let more : pair.1 < count (g.Self.Demands.crowd c.args.self.now) (price_in (slice_set c.loop-low.trial.items c.from-place.result (record { 0 = c.loop-low.low + (c.loop-low.high - c.loop-low.low) / 2 }))) pair.0.0 = rw (c.deref.ensures.value, same) at (c.in_ok-exceeds.ensures.value.0 c.if-branch.true) in
+    let trial = slice_set c.loop-low.trial.items c.from-place.result (record { 0 = c.loop-low.low + (c.loop-low.high - c.loop-low.low) / 2 }) in
+    let more : pair.1 < count crowd (price_in trial) pair.0.0 =
+    rw (c.deref.ensures.value, same) at (c.in_ok-exceeds.ensures.value.0 c.if-branch.true) in
+    let rose =
+    subst (λ (w : CrowdData). RoseAtMost (length w.students) (g.Self.Demands.inquiries c.loop-low.self) (g.Self.Demands.inquiries c.exceeds.new.self)) same
+    c.exceeds.ensures.inquiries in
     record {
       same = c.exceeds.ensures.crowd ∙ c.loop-low.invariant.same;
       halving =
@@ -36,8 +41,7 @@ loop-low-preserved-then-branch g c =
       calls = halvings_up 1 (top crowd) c.loop-low.low c.loop-low.high _ _ _ c.loop-low.invariant.calls c.loop-low-test.true
           (rose_by_one (g.Self.Demands.asked c.loop-low.self) (g.Self.Demands.asked c.exceeds.new.self) c.exceeds.ensures.asked);
       students = halvings_up (length crowd.students) (top crowd) c.loop-low.low c.loop-low.high _ _ _ c.loop-low.invariant.students c.loop-low-test.true
-          (subst (λ (w : CrowdData). RoseAtMost (length w.students) (g.Self.Demands.inquiries c.loop-low.self) (g.Self.Demands.inquiries c.exceeds.new.self)) same
-          c.exceeds.ensures.inquiries);
+          rose;
     }
 
 pub loop-low-preserved : goal.loop-low-preserved
@@ -45,7 +49,12 @@ loop-low-preserved g c =
     let crowd = g.Self.Demands.crowd c.args.self.now in
     let pair = slice_index_or c.args.pairs.now c.loop-section.section-index (record { 0 = 0 }, 0) in
     let same : g.Self.Demands.crowd c.loop-low.self ≡ g.Self.Demands.crowd c.args.self.now = c.loop-low.invariant.same ∙ c.loop-section.invariant.same in
-    let few : ¬ (pair.1 < count (g.Self.Demands.crowd c.args.self.now) (price_in (slice_set c.loop-low.trial.items c.from-place.result (record { 0 = c.loop-low.low + (c.loop-low.high - c.loop-low.low) / 2 }))) pair.0.0) = let told = rw (c.deref.ensures.value, same) at c.in_ok-exceeds.ensures.value in λ more. false≢true (sym c.if-branch.false ∙ told.1 more) in
+    let trial = slice_set c.loop-low.trial.items c.from-place.result (record { 0 = c.loop-low.low + (c.loop-low.high - c.loop-low.low) / 2 }) in
+    let few : ¬ (pair.1 < count crowd (price_in trial) pair.0.0) =
+    let told = rw (c.deref.ensures.value, same) at c.in_ok-exceeds.ensures.value in λ more. false≢true (sym c.if-branch.false ∙ told.1 more) in
+    let rose =
+    subst (λ (w : CrowdData). RoseAtMost (length w.students) (g.Self.Demands.inquiries c.loop-low.self) (g.Self.Demands.inquiries c.exceeds.new.self)) same
+    c.exceeds.ensures.inquiries in
     record {
       same = c.exceeds.ensures.crowd ∙ c.loop-low.invariant.same;
       halving =
@@ -55,8 +64,7 @@ loop-low-preserved g c =
       calls = halvings_down 1 (top crowd) c.loop-low.low c.loop-low.high _ _ _ c.loop-low.invariant.calls c.loop-low-test.true
           (rose_by_one (g.Self.Demands.asked c.loop-low.self) (g.Self.Demands.asked c.exceeds.new.self) c.exceeds.ensures.asked);
       students = halvings_down (length crowd.students) (top crowd) c.loop-low.low c.loop-low.high _ _ _ c.loop-low.invariant.students c.loop-low-test.true
-          (subst (λ (w : CrowdData). RoseAtMost (length w.students) (g.Self.Demands.inquiries c.loop-low.self) (g.Self.Demands.inquiries c.exceeds.new.self)) same
-          c.exceeds.ensures.inquiries);
+          rose;
     }
 
 pub loop-section-preserved : goal.loop-section-preserved
