@@ -1,5 +1,5 @@
-// Rounds of workers, whose students are counted. Who starts a round is private here, so no other
-// code of the crate can start one that is not counted.
+// Rounds of workers, whose students are counted. What starts the workers of a round is private here:
+// other code asks by these functions, and each of them counts.
 ghost use Rattle.std.specs.Prelude.{◌≡◌, ◌<◌, ◌↔◌, ◌+◌, ◌-◌, ◌^◌, [], ◌∷◌};
 ghost use Rattle.std.specs.Prelude.{IfOk, IsTrue, length, min};
 ghost use Rattle.std.specs.Arc.{arc_value};

@@ -1,9 +1,10 @@
 //! The demands of a crowd, found by workers that draw their tasks from a board, each in a thread of
 //! its own.
 // Neither: that workers run beside one another, beyond a test of the whole program; which students
-// are asked, and by which thread; that each who is asked is counted; anything of a rehearsal but the
-// notes that it gives; that all memory of a call is taken before its first thread starts (between
-// two boards memory may be wanted, when no thread runs); how long it takes.
+// are asked, and by which thread; that nobody is asked outside the rounds of `counted.rt`, of which
+// each counts its students; anything of a rehearsal but the notes that it gives; that all memory of
+// a call is taken before its first thread starts (between two boards memory may be wanted, when no
+// thread runs); how long it takes.
 #![tactic(auto)]
 
 mod allowance;
