@@ -28,6 +28,7 @@ mod prefer;
 mod quote;
 mod runs;
 mod shelf;
+mod sure;
 mod words;
 mod workers;
 

@@ -28,6 +28,9 @@ finding: line 28 form
 == 29
 => 8
 finding: line 28 missing
+== 28
+=> 8
+finding: line 28 missing
 == 28 end
 28 end
 => 8

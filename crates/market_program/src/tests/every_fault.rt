@@ -175,6 +175,21 @@ fn every_call_that_fails(rt: HostRuntime) -> Result<(), Fail> {
     try_calls(&rt, rt.alloc(), &OF_WISHES)
 }
 
+// The first call of the shelf fails, or the first write of the sink, where nobody is on the roll.
+const OF_NOBODY: [((u64, u64), &str); 2] = [
+    ((1, 0), "ShelfFault { input: 1 }\ninput 1 can not be read\n"),
+    ((0, 1), "6\n"),
+];
+
+#[test]
+fn the_first_call_that_fails(rt: HostRuntime) -> Result<(), Fail> {
+    let line = "run 2 nobody.cat nobody.stu nobody.set nobody.s1";
+    for (failing, answers) in OF_NOBODY {
+        try_failing(&rt, rt.alloc(), line, failing, answers)?;
+    }
+    Ok(())
+}
+
 #[test]
 fn every_room_of_a_run(rt: HostRuntime) -> Result<(), Fail> {
     try_all_rooms(&rt, rt.alloc(), &RUNS)

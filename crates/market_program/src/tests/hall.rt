@@ -116,6 +116,22 @@ final u [X]
 final v [Y]
 used X 1 1
 used Y 1 2
+== who is given a seat still waits for another
+hall useful.cat useful.stu useful.text first
+-- first
+add v A
+add v B
+drop u A
+drop u B
+=> 0
+entry 1 add v A: queued 0
+entry 1 add v B: queued 0
+entry 1 drop u A: dropped 0 to v
+entry 1 drop u B: dropped 0 to v
+final u []
+final v [A,B]
+used A 1 1
+used B 1 1
 == the last seat goes to the first to ask
 hall X+Y equal.stu TEXT first second
 -- first
