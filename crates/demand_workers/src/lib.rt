@@ -3,7 +3,7 @@
 // Neither: that workers run beside one another, beyond a test of the whole program; which students
 // are asked, and by which thread; that each who is asked is counted; anything of a rehearsal but the
 // notes that it gives; that all memory of a call is taken before its first thread starts (between
-// two boards memory may be wanted, when no thread runs); how long it takes.
+// two rounds of threads memory may be wanted, when none runs); how long it takes.
 #![tactic(auto)]
 
 mod allowance;
