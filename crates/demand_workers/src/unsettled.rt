@@ -20,8 +20,8 @@ use std::alloc::Global;
 use std::thread::Threads;
 use worker_threads::for_each_mut;
 
-// For so many students, each counted at each version, one more worker is started: a start takes
-// about as long as settling some thousand of them.
+// So many students, each counted at each version, are worth a thread: its start takes about as long
+// as settling a third of them.
 const SHARE: usize = 4096;
 
 /// An inquiry for each student at each of these versions at which what is remembered does not
@@ -104,7 +104,7 @@ fn settle_rows<R: Threads + Sync>(
         (prices_of versions.now) rows.new }
 {
     let students = remembered.bundles.len().saturating_mul(versions.len());
-    let threads = workers_for(workers, students);
+    let threads = threads_for(workers, students);
     for_each_mut(
         rt,
         rows,
@@ -119,9 +119,9 @@ fn settle_rows<R: Threads + Sync>(
     );
 }
 
-// How many of these workers settle so many students, each counted at each version: one for each
-// 4,096, at most all of them, and at least one.
-fn workers_for(workers: u16, students: usize) -> usize
+// In how many threads so many students are settled, each counted at each version: one for each
+// 4,096, at most as many as there are workers, and at least one.
+fn threads_for(workers: u16, students: usize) -> usize
     ensures { 0 < result }
 {
     (students / SHARE).min(usize::from(workers)).max(1)
