@@ -11,13 +11,13 @@ use Rattle.demand_workers.specs.Asked.{no_inquiry}
 use Rattle.demand_workers.specs.Inquiring.{IsInquiry}
 use Rattle.demand_workers.specs.Remembered.{IsKept}
 
--- a row of the students at these prices: each of whom it says so takes there what is remembered
+-- each student whose place in the row says true takes at these prices what is remembered
 abbrev pub IsSettledRow : CrowdData → List Bundle → List Tokens → List Bool → Type 0
 IsSettledRow crowd bundles prices row =
     (student : ℕ) → student < length bundles → IsTrue (slice_index_or row student false)
     → IsKept crowd prices bundles student
 
--- each row is one at the prices of the version of its place
+-- so it is with each row, at the prices of the version of its place
 abbrev pub AreSettledRows : CrowdData → List Bundle → List (List Tokens)
     → List (Vec Bool Global) → Type 0
 AreSettledRows crowd bundles versions rows =
