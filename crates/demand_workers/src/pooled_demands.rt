@@ -201,7 +201,7 @@ impl<'g> PooledDemands<AnyGate<'g>> {
             (λ survey. prices_of (arc_value survey.found.inquiries).versions.items
             ≡ prices_of versions.now) }
     {
-        let list = unsettled(alloc, remembered, versions)?;
+        let list = unsettled(rt, alloc, self.pool.workers, remembered, versions)?;
         let inquiries = Inquiries {
             remembered: Arc::try_clone(remembered)?,
             versions: copies_of(alloc, versions)?,
