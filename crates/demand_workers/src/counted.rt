@@ -1,10 +1,9 @@
-// Rounds of workers, whose students are counted. What starts the workers of a round is private here:
-// other code asks by these functions, and each of them counts.
-ghost use Rattle.std.specs.Prelude.{◌≡◌, ◌<◌, ◌↔◌, ◌+◌, ◌-◌, ◌^◌, [], ◌∷◌};
-ghost use Rattle.std.specs.Prelude.{IfOk, IsTrue, length, min};
+// Rounds of workers, whose students are counted. The functions that start a round are private here:
+// other code asks by those below, and each of them counts.
+ghost use Rattle.std.specs.Prelude.{◌≡◌, ◌<◌, ◌↔◌, [], ◌∷◌, IfOk, IsTrue, length};
 ghost use Rattle.std.specs.Arc.{arc_value};
 ghost use Rattle.bundle_rules.specs.Demand.{price_in};
-ghost use Rattle.demand_api.specs.Asking.{ArePricesFor, RoseAtMost};
+ghost use Rattle.demand_api.specs.Asking.{ArePricesFor, RoseAtMost, RoseBy};
 ghost use Rattle.demand_api.specs.{Crowds.count, Views.data_of};
 ghost use Rattle.price_board.specs.{Openings.IsAskOf, declared.terms.Terms.Terms};
 ghost use Rattle.demand_workers.specs.Views.{crowd_of};
@@ -46,10 +45,8 @@ impl PooledDemands<AnyGate<'_>> {
         ensures inquiries { RoseAtMost (length (data_of (arc_value self.old.crowd)).students)
             self.old.inquiries self.new.inquiries }
         ensures counted { IfOk result
-            (λ answers. self.new.inquiries
-            ≡ min
-            (self.old.inquiries + length (data_of (arc_value self.old.crowd)).students)
-            (2 ^ 64 - 1)) }
+            (λ answers. RoseBy (length (data_of (arc_value self.old.crowd)).students)
+            self.old.inquiries self.new.inquiries) }
         ensures terms { IfOk result
             (λ answers. answers.terms
             ≡ record {
@@ -88,8 +85,8 @@ impl PooledDemands<AnyGate<'_>> {
         ensures inquiries { RoseAtMost (length inquiries.list.items) self.old.inquiries
             self.new.inquiries }
         ensures counted { IfOk result
-            (λ found. self.new.inquiries
-            ≡ min (self.old.inquiries + length inquiries.list.items) (2 ^ 64 - 1)) }
+            (λ found. RoseBy (length inquiries.list.items) self.old.inquiries
+            self.new.inquiries) }
         ensures found { IfOk result (λ found. arc_value found.inquiries ≡ inquiries) }
     {
         let found = ask(rt, alloc, &self.pool, self.gate, inquiries)?;
@@ -110,7 +107,7 @@ impl PooledDemands<AnyGate<'_>> {
     ) -> Result<task_board::Answers<WalkTasks>, NoMemory>
         requires { ground.now.remembered.now ≡ arc_value remembered.now }
         ensures kept { (self.new.crowd ≡ self.old.crowd) × (self.new.asked ≡ self.old.asked) }
-        ensures counted { self.new.inquiries ≡ min (self.old.inquiries + tasks) (2 ^ 64 - 1) }
+        ensures counted { RoseBy tasks self.old.inquiries self.new.inquiries }
         ensures tasks { IfOk result (λ answers. answers.terms.count ≡ tasks) }
         ensures crowd { IfOk result
             (λ answers. answers.terms.crowd ≡ crowd_of (arc_value remembered.now)) }

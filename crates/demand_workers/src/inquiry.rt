@@ -1,8 +1,8 @@
 // What is asked of single students.
 ghost use Rattle.std.specs.Prelude.{◌≡◌, All, IfOk, length};
 ghost use Rattle.std.specs.Arc.{arc_value};
-ghost use Rattle.demand_workers.specs.{Inquiring.IsInquiry, Rounds.AreVersionsFor, Rounds.prices_of};
-ghost use Rattle.demand_workers.specs.Views.{crowd_of};
+ghost use Rattle.demand_workers.specs.{Inquiring.IsInquiry, Views.crowd_of};
+ghost use Rattle.demand_workers.specs.Rounds.{AreVersionsFor, prices_of};
 
 use crate::remembered::Remembered;
 use market_units::{NoMemory, SectionNo, StudentNo, Tokens};

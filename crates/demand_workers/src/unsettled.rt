@@ -1,6 +1,6 @@
 // Students whom what is remembered does not settle.
 ghost use Rattle.std.specs.Prelude.{◌≡◌, ◌<◌, ◌≤◌, ◌+◌, ◌*◌, ℕ, [], All, IfOk, false, length};
-ghost use Rattle.std.specs.Prelude.{slice_index_or};
+ghost use Rattle.std.specs.Prelude.{max, slice_index_or};
 ghost use Rattle.bundle_rules.specs.{Bundles.sections_of, Demand.price_in};
 ghost use Rattle.demand_api.specs.{Crowds.demand_of, Views.data_of};
 ghost use Rattle.demand_workers.specs.{Asked.no_inquiry, Remembered.AreTaken};
@@ -20,8 +20,8 @@ use std::alloc::Global;
 use std::thread::Threads;
 use worker_threads::for_each_mut;
 
-// So many students, each counted at each version, are worth a thread: its start takes about as long
-// as settling a third of them.
+// A thread is worth its start for so many students, each counted at each version: in the time of a
+// start a third of them are settled.
 const SHARE: usize = 4096;
 
 /// An inquiry for each student at each of these versions at which what is remembered does not
@@ -122,7 +122,8 @@ fn settle_rows<R: Threads + Sync>(
 // In how many threads so many students are settled, each counted at each version: one for each
 // 4,096, at most as many as there are workers, and at least one.
 fn threads_for(workers: u16, students: usize) -> usize
-    ensures { 0 < result }
+    ensures some { 0 < result }
+    ensures most { result ≤ max workers 1 }
 {
     (students / SHARE).min(usize::from(workers)).max(1)
 }
