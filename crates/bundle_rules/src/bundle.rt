@@ -100,8 +100,9 @@ impl Bundle {
     }
 }
 
-// Whether the section is one of these. Not by a search of std, which tests many places at once: that
-// takes several times as long where they are at most eight, and stages look through all bundles.
+// Whether the section is one of these. Not by a search of std, which tests many places at once. The
+// stages look through all bundles, each of at most eight sections, and in a market of 1,000
+// students that search was a third of what the first thread did alone.
 fn is_among(sections: &[SectionNo], section: SectionNo) -> bool
     ensures { result ≡ has (ordinals sections.now) section.0 }
 {

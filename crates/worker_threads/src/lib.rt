@@ -1,7 +1,7 @@
-//! Threads of workers, which the caller starts one after another, so that the system finds each a
-//! processor of its own.
+//! Threads of workers, which the caller starts one after another, so that the system can find each
+//! a processor of its own.
 // Neither: that threads run beside one another, on which processor each runs, and how long a call
-// takes. Where a thread cannot be started, the caller does its work.
+// takes.
 #![tactic(auto)]
 
 mod parts;

@@ -7,10 +7,13 @@ ghost use Rattle.worker_threads.specs.Places.{AcceptsFrom, ChangesFrom};
 use std::marker::{Send, Sync};
 use std::thread::{Threads, join_mut};
 
+// `std::thread::for_each_mut` promises the same, but starts its threads as a tree, two at one
+// moment. With it, only three of four workers ran for a third of the time of a search; where the
+// caller starts one after another, all four did.
+
 /// Calls `f(i, &mut s[i])` at each place, in at most `threads` threads, the caller's among them.
-// `std::thread::for_each_mut` promises the same, but starts its threads as a tree: two that were
-// started at the same moment were often put on one processor, while another had nothing to do. A
-// thread that the caller starts while the earlier ones run is put on a processor that is free.
+/// Where a thread cannot be started, the caller does its work. The caller's stack grows with
+/// `threads`, by two calls for each.
 pub fn for_each_mut<R: Threads + Sync, T: Send, F: Fn(usize, &mut T) + Sync>(
     rt: &R,
     s: &mut [T],
@@ -28,8 +31,8 @@ pub fn for_each_mut<R: Threads + Sync, T: Send, F: Fn(usize, &mut T) + Sync>(
     parts_from(rt, f, size, 0, s);
 }
 
-// `s` stands at place `base` of the whole slice. Each part of `size` places but the last gets a new
-// thread, so the caller's stack grows with the number of threads.
+// `s` stands at place `base` of the whole slice. Each part of `size` places gets a new thread; the
+// caller does the last part, which may be shorter.
 #[cycle(parts)]
 fn parts_from<R: Threads + Sync, T: Send, F: Fn(usize, &mut T) + Sync>(
     rt: &R,
@@ -82,6 +85,7 @@ fn part_and_others<R: Threads + Sync, T: Send, F: Fn(usize, &mut T) + Sync>(
     join_mut(rt, &mut theirs, &mut ours);
 }
 
+// The work of one thread: each element of a part, in order.
 fn in_turn<T, F: Fn(usize, &mut T)>(f: &F, base: usize, s: &mut [T])
     requires { AcceptsFrom (AcceptsAt F.Fn f.now) base s.old }
     ensures { ChangesFrom (ChangesAt F.Fn f.now) base s.old s.new }
@@ -91,6 +95,7 @@ fn in_turn<T, F: Fn(usize, &mut T)>(f: &F, base: usize, s: &mut [T])
     }
 }
 
+// Apart from the loop, which so has one call with the conditions of one element.
 fn at_one<T, F: Fn(usize, &mut T)>(f: &F, place: usize, it: &mut T)
     requires { AcceptsAt F.Fn f.now place it.old }
     ensures { ChangesAt F.Fn f.now place it.old it.new }
