@@ -1,8 +1,8 @@
 -- What a survey of versions settles.
-use Rattle.std.proofs.Common.{ℕ, ◌≡◌, ◌≢◌, ◌<◌, ◌≤◌, ◌+◌, ◌∙◌, ◌++◌, Bool, false, List, [], ◌∷◌, None, Some, All, length, slice_index_or, slice_set, sym, subst, arith, inl, inr}
+use Rattle.std.proofs.Common.{ℕ, ◌≡◌, ◌≢◌, ◌<◌, ◌≤◌, ◌+◌, ◌∙◌, ◌++◌, Bool, false, List, [], ◌∷◌, None, Some, All, length, slice_index_or, sym, subst, arith, inl, inr}
 use Rattle.std.specs.Prelude.{IsTrue}
-use Rattle.std.proofs.lemmas.Bool.{cases_eq, cases_lt, cases_order, false≢true}
-use Rattle.std.proofs.lemmas.List.{get_or_append_left, get_or-append-add, get_or_past, get_or-set_other, get_or-set_same, length-append}
+use Rattle.std.proofs.lemmas.Bool.{cases_lt, cases_order, false≢true}
+use Rattle.std.proofs.lemmas.List.{get_or_append_left, get_or-append-add, get_or_past, length-append}
 use Rattle.std.proofs.lemmas.List.Elements.{All-push}
 use Rattle.market_units.specs.declared.units.SectionNo.{SectionNo}
 use Rattle.market_units.specs.declared.units.Tokens.{Tokens}
@@ -71,28 +71,15 @@ first_asked crowd bundles prices v n inquiries new inquiry kept more is at s low
       | inr (inr beyond) ↦ absurd (omega (arith, low, beyond))
     ]
 
--- ---- the row of a version
+-- ---- the rows of the students
 
--- a student of whom the row says that it is settled has a place in it
-pub settled_inside : (row : List Bool) (s : ℕ) → IsTrue (slice_index_or row s false) → s < length row
-settled_inside row s holds = elim (cases_lt s (length row)) [
+-- a student of whom its row says so has a row
+pub settled_has_row : (rows : List (List Bool)) (s v : ℕ) → IsTrue (slice_index_or (slice_index_or rows s []) v false) → s < length rows
+settled_has_row rows s v holds = elim (cases_lt s (length rows)) [
   | inl low ↦ low
-  | inr past ↦ absurd (false≢true (sym (get_or_past row s false past) ∙ holds))
-]
-
--- who of the first students is settled by the row takes what is remembered
-abbrev pub AreFirstSettled : CrowdData → List Bundle → List Tokens → ℕ → List Bool → Type 0
-AreFirstSettled crowd bundles prices n row = (s : ℕ) → s < n → IsTrue (slice_index_or row s false) → IsKept crowd prices bundles s
-
--- the place of one student more is written
-pub first_settled : (crowd : CrowdData) (bundles : List Bundle) (prices : List Tokens) (n : ℕ) (row : List Bool) (stays : Bool) → n < length row
-    → AreFirstSettled crowd bundles prices n row → (IsTrue stays → IsKept crowd prices bundles n)
-    → AreFirstSettled crowd bundles prices (n + 1) (slice_set row n stays)
-first_settled crowd bundles prices n row stays inside before next s low = elim (cases_eq s n) [
-  | inl same ↦
-      subst (λ j. IsTrue (slice_index_or (slice_set row n stays) j false) → IsKept crowd prices bundles j) (sym same)
-      (λ holds. next (sym (get_or-set_same row n stays false inside) ∙ holds))
-  | inr apart ↦ λ holds. before s (omega arith) (sym (get_or-set_other row n s stays false apart) ∙ holds)
+  | inr past ↦
+      let none : slice_index_or rows s [] ≡ [] = get_or_past rows s [] past in
+      absurd (false≢true (subst (λ (row : List Bool). IsTrue (slice_index_or row v false)) none holds))
 ]
 
 module _ (crowd : CrowdData) (bundles : List Bundle) (versions : List (List Tokens)) where

@@ -2,27 +2,35 @@
 use Rattle.std.specs.Prelude.{ℕ, ◌<◌, ◌≤◌, ◌≡◌, ◌≢◌, Bool, false, IsTrue, List, [], None, length}
 use Rattle.std.specs.Prelude.{slice_index_or}
 use Rattle.std.specs.List.{All}
-use Rattle.std.proofs.Common.{Vec, Global}
 use Rattle.market_units.specs.declared.units.Tokens.{Tokens}
 use Rattle.bundle_rules.specs.declared.bundle.Bundle.{Bundle}
 use Rattle.demand_api.specs.Crowds.{CrowdData}
+use Rattle.demand_workers.specs.declared.cheaper.Cheaper.{Cheaper}
 use Rattle.demand_workers.specs.declared.inquiry.Inquiry.{Inquiry}
 use Rattle.demand_workers.specs.Asked.{no_inquiry}
 use Rattle.demand_workers.specs.Inquiring.{IsInquiry}
-use Rattle.demand_workers.specs.Remembered.{IsKept}
+use Rattle.demand_workers.specs.Remembered.{AreWithin, IsKept}
 
--- each student whose place in the row says true takes at these prices what is remembered
-abbrev pub IsSettledRow : CrowdData → List Bundle → List Tokens → List Bool → Type 0
-IsSettledRow crowd bundles prices row =
-    (student : ℕ) → student < length bundles → IsTrue (slice_index_or row student false)
-    → IsKept crowd prices bundles student
+-- each says, of the version of its place, where the sections stand that became cheaper
+abbrev pub AreEachWithin : List Tokens → List (List Tokens) → List Cheaper → Type 0
+AreEachWithin before versions cheaper =
+    (v : ℕ) (d : Cheaper) → v < length cheaper
+    → AreWithin (slice_index_or cheaper v d).first (slice_index_or cheaper v d).past before
+    (slice_index_or versions v [])
 
--- so it is with each row, at the prices of the version of its place
-abbrev pub AreSettledRows : CrowdData → List Bundle → List (List Tokens)
-    → List (Vec Bool Global) → Type 0
+-- each version whose place in the student's row says true is one at whose prices the student takes
+-- what is remembered
+abbrev pub IsSettledRow : CrowdData → List Bundle → List (List Tokens) → ℕ → List Bool → Type 0
+IsSettledRow crowd bundles versions student row =
+    (v : ℕ) → v < length versions → IsTrue (slice_index_or row v false)
+    → IsKept crowd (slice_index_or versions v []) bundles student
+
+-- so it is with each student's row
+abbrev pub AreSettledRows : CrowdData → List Bundle → List (List Tokens) → List (List Bool)
+    → Type 0
 AreSettledRows crowd bundles versions rows =
-    (v : ℕ) (d : Vec Bool Global) → v < length rows
-    → IsSettledRow crowd bundles (slice_index_or versions v []) (slice_index_or rows v d).items
+    (student : ℕ) (d : List Bool) → student < length rows
+    → IsSettledRow crowd bundles versions student (slice_index_or rows student d)
 
 -- from this place on the student is not asked at the version
 abbrev pub IsLeftOut : ℕ → ℕ → ℕ → List Inquiry → Type 0

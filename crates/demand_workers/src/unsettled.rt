@@ -5,8 +5,8 @@ ghost use Rattle.bundle_rules.specs.{Bundles.sections_of, Demand.price_in};
 ghost use Rattle.demand_api.specs.{Crowds.demand_of, Views.data_of};
 ghost use Rattle.demand_workers.specs.{Asked.no_inquiry, Remembered.AreTaken};
 ghost use Rattle.demand_workers.specs.Rounds.{AreVersionsFor, prices_of};
-ghost use Rattle.demand_workers.specs.Surveys.{AreOthersKept, AreSettledRows, IsSettledRow};
-ghost use Rattle.demand_workers.specs.Surveys.{IsSurvey};
+ghost use Rattle.demand_workers.specs.Surveys.{AreEachWithin, AreOthersKept, AreSettledRows};
+ghost use Rattle.demand_workers.specs.Surveys.{IsSettledRow, IsSurvey};
 ghost use Rattle.demand_workers.specs.Views.{crowd_of};
 
 use crate::cheaper::Cheaper;
@@ -15,7 +15,7 @@ use crate::question::Question;
 use crate::remembered::Remembered;
 use bundle_rules::Bundle;
 use demand_api::Crowd;
-use market_units::{NoMemory, StudentNo, Tokens};
+use market_units::{MAX_VERSIONS, NoMemory, StudentNo, Tokens};
 use std::alloc::Global;
 use std::thread::Threads;
 use worker_threads::for_each_mut;
@@ -45,62 +45,73 @@ pub(crate) fn unsettled<R: Threads + Sync>(
     let rows = settled_rows(rt, alloc, workers, remembered, versions)?;
     let mut inquiries = Vec::new(alloc);
     'versions: for version in 0..versions.len() {
-        add_unsettled(
-            remembered,
-            versions,
-            version,
-            &rows[version],
-            &mut inquiries,
-        )?;
+        add_unsettled(remembered, versions, version, &rows, &mut inquiries)?;
     }
     Ok(inquiries)
 }
 
-// For each version a row of whom what is remembered settles there. All memory is taken before the
-// first thread starts.
+// A row for each student: at which versions what is remembered settles what it takes. All memory is
+// taken before the first thread starts.
 fn settled_rows<R: Threads + Sync>(
     rt: &R,
     alloc: Global,
     workers: u16,
     remembered: &Remembered,
     versions: &[Vec<Tokens>],
-) -> Result<Vec<Vec<bool>>, NoMemory>
+) -> Result<Vec<[bool; MAX_VERSIONS]>, NoMemory>
     requires { AreVersionsFor (crowd_of remembered.now) versions.now }
-    ensures count { IfOk result (λ rows. length rows.items ≡ length versions.now) }
-    ensures rows { IfOk result
+    ensures { IfOk result
         (λ rows. AreSettledRows (crowd_of remembered.now) remembered.now.bundles.items
         (prices_of versions.now) rows.items) }
 {
-    let mut rows = reserve_rows(alloc, versions.len(), remembered.bundles.len())?;
-    settle_rows(rt, workers, remembered, versions, rows.as_mut_slice());
+    let cheaper = cheaper_at_each(alloc, remembered, versions)?;
+    let mut rows = vec![in alloc; [false; MAX_VERSIONS]; remembered.bundles.len()]?;
+    settle_rows(
+        rt,
+        workers,
+        remembered,
+        versions,
+        &cheaper,
+        rows.as_mut_slice(),
+    );
     Ok(rows)
 }
 
-// So many rows, each with a place for each of so many students, of whom none is known to be
-// settled.
-fn reserve_rows(alloc: Global, versions: usize, students: usize) -> Result<Vec<Vec<bool>>, NoMemory>
-    ensures { IfOk result (λ rows. length rows.items ≡ versions) }
+// Where the sections stand that became cheaper, at each version.
+fn cheaper_at_each(
+    alloc: Global,
+    remembered: &Remembered,
+    versions: &[Vec<Tokens>],
+) -> Result<Vec<Cheaper>, NoMemory>
+    ensures count { IfOk result (λ cheaper. length cheaper.items ≡ length versions.now) }
+    ensures within { IfOk result
+        (λ cheaper. AreEachWithin remembered.now.prices.items (prices_of versions.now)
+        cheaper.items) }
 {
-    let mut rows = Vec::with_capacity(alloc, versions)?;
-    'rows: for _ in 0..versions {
-        let row = vec![in alloc; false; students]?;
-        rows.push(row)?;
+    let mut cheaper = Vec::with_capacity(alloc, versions.len())?;
+    'versions: for version in 0..versions.len() {
+        let prices: &[Tokens] = &versions[version];
+        cheaper.push(Cheaper::between(&remembered.prices, prices))?;
     }
-    Ok(rows)
+    Ok(cheaper)
 }
 
-// Writes the row of each version, in threads.
+// Writes the row of each student, in threads. All versions of a student stand in one row, so that
+// its menu is fetched from memory once: 2,000 menus do not fit in a processor's cache.
 fn settle_rows<R: Threads + Sync>(
     rt: &R,
     workers: u16,
     remembered: &Remembered,
     versions: &[Vec<Tokens>],
-    rows: &mut [Vec<bool>],
+    cheaper: &[Cheaper],
+    rows: &mut [[bool; MAX_VERSIONS]],
 )
     requires versions { AreVersionsFor (crowd_of remembered.now) versions.now }
-    requires count { length rows.old ≡ length versions.now }
-    ensures count { length rows.new ≡ length rows.old }
-    ensures rows { AreSettledRows (crowd_of remembered.now) remembered.now.bundles.items
+    requires count { length cheaper.now ≡ length versions.now }
+    requires within { AreEachWithin remembered.now.prices.items (prices_of versions.now)
+        cheaper.now }
+    requires students { length rows.old ≡ length remembered.now.bundles.items }
+    ensures { AreSettledRows (crowd_of remembered.now) remembered.now.bundles.items
         (prices_of versions.now) rows.new }
 {
     let students = remembered.bundles.len().saturating_mul(versions.len());
@@ -109,13 +120,15 @@ fn settle_rows<R: Threads + Sync>(
         rt,
         rows,
         threads,
-        &|version, row|
-            requires { (version < length versions.now)
-                × AreVersionsFor (crowd_of remembered.now) versions.now }
+        &|student, row|
+            requires { (student < length remembered.now.bundles.items)
+                × AreVersionsFor (crowd_of remembered.now) versions.now
+                × (length cheaper.now ≡ length versions.now)
+                × AreEachWithin remembered.now.prices.items (prices_of versions.now) cheaper.now }
             ensures { IsSettledRow (crowd_of remembered.entry.now)
-                remembered.entry.now.bundles.items
-                (slice_index_or (prices_of versions.entry.now) version []) row.exit.now.items }
-        { settle_row(remembered, versions, version, row) },
+                remembered.entry.now.bundles.items (prices_of versions.entry.now) student
+                row.exit.now }
+        { settle_row(remembered, versions, cheaper, student, row) },
     );
 }
 
@@ -128,43 +141,46 @@ fn threads_for(workers: u16, students: usize) -> usize
     (students / SHARE).min(usize::from(workers)).max(1)
 }
 
-// Writes for each student of the row whether it surely takes at the version what is remembered.
+// Writes for each version of the row whether the student surely takes there what is remembered.
 fn settle_row(
     remembered: &Remembered,
     versions: &[Vec<Tokens>],
-    version: usize,
-    row: &mut Vec<bool>,
+    cheaper: &[Cheaper],
+    student: usize,
+    row: &mut [bool; MAX_VERSIONS],
 )
     requires versions { AreVersionsFor (crowd_of remembered.now) versions.now }
-    requires version { version < length versions.now }
+    requires count { length cheaper.now ≡ length versions.now }
+    requires within { AreEachWithin remembered.now.prices.items (prices_of versions.now)
+        cheaper.now }
+    requires student { student < length remembered.now.bundles.items }
     ensures { IsSettledRow (crowd_of remembered.now) remembered.now.bundles.items
-        (slice_index_or (prices_of versions.now) version []) row.new.items }
+        (prices_of versions.now) student row.new }
 {
-    let prices: &[Tokens] = &versions[version];
-    let cheaper = Cheaper::between(&remembered.prices, prices);
-    let students = row.len().min(remembered.bundles.len());
-    'students: for place in 0..students {
-        let student = StudentNo(place as u16);
+    let number = StudentNo(student as u16);
+    let count = row.len().min(versions.len());
+    'versions: for version in 0..count {
+        let prices: &[Tokens] = &versions[version];
         let question = Question {
             remembered,
             prices,
-            student,
+            student: number,
         };
-        row[place] = question.stays(cheaper);
+        row[version] = question.stays(cheaper[version]);
     }
 }
 
-// Adds those of one version, by its row.
+// Adds those of one version, by the rows of all students.
 fn add_unsettled(
     remembered: &Remembered,
     _versions: &[Vec<Tokens>],
     version: usize,
-    row: &[bool],
+    rows: &[[bool; MAX_VERSIONS]],
     inquiries: &mut Vec<Inquiry>,
 ) -> Result<(), NoMemory>
     requires version { version < length _versions.now }
-    requires row { IsSettledRow (crowd_of remembered.now) remembered.now.bundles.items
-        (slice_index_or (prices_of _versions.now) version []) row.now }
+    requires rows { AreSettledRows (crowd_of remembered.now) remembered.now.bundles.items
+        (prices_of _versions.now) rows.now }
     requires survey { IsSurvey (crowd_of remembered.now) remembered.now.bundles.items
         (prices_of _versions.now) version inquiries.old.items }
     ensures few { IfOk result
@@ -175,7 +191,7 @@ fn add_unsettled(
         (prices_of _versions.now) (version + 1) inquiries.new.items) }
 {
     'students: for place in 0..remembered.bundles.len() {
-        if is_settled(row, place) {
+        if is_settled(rows, version, place) {
             continue;
         }
         let student = StudentNo(place as u16);
@@ -188,11 +204,16 @@ fn add_unsettled(
     Ok(())
 }
 
-// Whether the row says that the student is settled. Beyond its end nobody is known to be.
-fn is_settled(row: &[bool], student: usize) -> bool
-    ensures { result ≡ slice_index_or row.now student false }
+// Whether the student's row says that it is settled at the version. A student without a row, and
+// one at a version beyond its row, is not known to be.
+fn is_settled(rows: &[[bool; MAX_VERSIONS]], version: usize, student: usize) -> bool
+    ensures { result ≡ slice_index_or (slice_index_or rows.now student []) version false }
 {
-    student < row.len() && row[student]
+    if student >= rows.len() {
+        return false;
+    }
+    let row = &rows[student];
+    version < row.len() && row[version]
 }
 
 /// Writes what was found at a version for those who were asked there. The others take at its prices

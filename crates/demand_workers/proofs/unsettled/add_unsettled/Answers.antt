@@ -1,4 +1,4 @@
-use Rattle.std.proofs.Common.{rules, ◌≡◌, ◌<◌, ◌≤◌, ◌∙◌, None, Some, Vec, Global, length, refl, sym, subst, arith}
+use Rattle.std.proofs.Common.{rules, ℕ, ◌≡◌, ◌<◌, ◌≤◌, ◌∙◌, List, [], None, Some, Vec, Global, length, refl, sym, subst, arith}
 use Rattle.std.specs.Arc.{arc_value}
 use Rattle.std.specs.Prelude.{IsTrue}
 use Rattle.std.proofs.lemmas.List.{length-map}
@@ -7,8 +7,11 @@ use Rattle.demand_api.proofs.Parts.{menus_few, students_length}
 use Rattle.demand_workers.specs.Rounds.{prices_of}
 use Rattle.demand_workers.specs.Views.{crowd_of}
 use Rattle.demand_workers.proofs.Allowing.{pushed_one}
-use Rattle.demand_workers.proofs.Surveying.{first_asked, first_kept, survey_asks, survey_more}
+use Rattle.demand_workers.proofs.Surveying.{first_asked, first_kept, settled_has_row, survey_asks, survey_more}
 use Rattle.demand_workers.proofs.unsettled.add_unsettled.Goals as goal
+
+its_version : (versions : List (Vec Tokens Global)) (v : ℕ) → v < length versions → v < length (prices_of versions)
+its_version versions v low = subst (λ n. v < n) (sym (length-map versions (λ (w : Vec Tokens Global). w.items))) low
 
 pub overflow_cast-student : goal.overflow_cast-student
 overflow_cast-student c =
@@ -20,14 +23,15 @@ overflow_cast-student c =
 pub students-preserved-then-is_settled : goal.students-preserved-then-is_settled
 students-preserved-then-is_settled c =
     let remembered = c.args.remembered.now in
-    let low : c.students.place < length remembered.bundles.items = search rules in
-    let holds : IsTrue c.is_settled.result = search rules in
+    let settled : IsTrue c.is_settled.result = search rules in
+    let holds = sym c.is_settled.ensures ∙ settled in
+    let inside = settled_has_row c.args.rows.now c.students.place c.args.version holds in
     record {
       survey = c.students.invariant.survey;
       few = omega (arith, c.students.invariant.few);
       kept =
           first_kept (crowd_of remembered) remembered.bundles.items _ c.args.version c.students.place c.students.inquiries.items c.students.invariant.kept
-          (c.requires.row c.students.place low (sym c.is_settled.ensures ∙ holds));
+          (c.requires.rows c.students.place [] inside c.args.version (its_version c.args._versions.now c.args.version c.requires.version) holds);
     }
 
 pub students-preserved : goal.students-preserved
@@ -40,7 +44,7 @@ students-preserved c =
           c.push.new.self.items _ c.students.invariant.survey c.in_ok-push.ensures.items
           (record {
             student = subst (λ n. c.students.place < n) (remembered.each ∙ sym (students_length (arc_value remembered.crowd))) low;
-            its_version = subst (λ n. c.args.version < n) (sym (length-map versions (λ (w : Vec Tokens Global). w.items))) c.requires.version;
+            its_version = its_version versions c.args.version c.requires.version;
             its_price = λ told is. (let none : None ≡ Some told = is in cc);
           })
           refl;
