@@ -130,8 +130,8 @@ impl Rehearsal {
         self.heard.add(next.raise, next.student, bundle);
     }
 
-    // Who is surely asked on the walk at this place, which is made where it is not yet. A first
-    // walk at its end is gone, and walks are made anew from there.
+    // Who is surely asked on the walk at this place, which is made where it is not yet. A walk at its
+    // end is gone, if it may be.
     fn first_sure(&mut self, place: usize) -> Option<Leaver> {
         for _ in 0..STEPS {
             if place >= self.made {
@@ -141,17 +141,10 @@ impl Rehearsal {
                 return None;
             }
             let found = self.walks[place].first_sure(&self.stand, &self.heard, &self.asked);
-            if found.is_some() {
+            if found.is_some() || !self.walks[place].is_done() {
                 return found;
             }
-            if place > 0 || !self.walks[place].is_done() {
-                return None;
-            }
-            let raise = Raise {
-                section: self.walks[place].section,
-                price: self.walks[place].least,
-            };
-            self.end(raise);
+            self.end(place)?;
         }
         None
     }
@@ -209,14 +202,38 @@ impl Rehearsal {
         false
     }
 
-    // The first walk came to this price.
-    fn end(&mut self, raise: Raise) {
-        self.made = 0;
-        self.gone = self.gone.saturating_add(1);
+    // The walk at this place is gone. In an elimination only the first one may be, since all others
+    // begin where it ends: they are made anew. Walks of pairs begin at the same prices, so the others
+    // stay.
+    fn end(&mut self, place: usize) -> Option<()> {
         match self.plan {
-            Plan::Elimination(_) => self.stand_at(raise),
-            Plan::Pairs(_) => {}
+            Plan::Elimination(_) => {
+                if place > 0 {
+                    return None;
+                }
+                let walk = self.walks.first()?;
+                let raise = Raise {
+                    section: walk.section,
+                    price: walk.least,
+                };
+                self.made = 0;
+                self.stand_at(raise);
+            }
+            Plan::Pairs(_) => self.close_up(place),
         }
+        self.gone = self.gone.saturating_add(1);
+        Some(())
+    }
+
+    // Puts the walk at this place behind those that are made, which keep their order.
+    fn close_up(&mut self, place: usize) {
+        let last = self.made.saturating_sub(1);
+        for place in place..last {
+            if place + 1 < self.walks.len() {
+                self.walks.swap(place, place + 1);
+            }
+        }
+        self.made = last;
     }
 
     // The section has this price from now on, and who can not pay any more takes what was heard.

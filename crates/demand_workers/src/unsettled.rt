@@ -20,8 +20,7 @@ use std::alloc::Global;
 use std::thread::Threads;
 use worker_threads::for_each_mut;
 
-// A thread is worth its start for so many students, each counted at each version: in the time of a
-// start a third of them are settled.
+// A thread is worth its start for so many students, each counted at each version.
 const SHARE: usize = 4096;
 
 /// An inquiry for each student at each of these versions at which what is remembered does not
