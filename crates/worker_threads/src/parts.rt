@@ -9,11 +9,11 @@ use std::thread::{Threads, join_mut};
 
 // `std::thread::for_each_mut` promises the same, but starts its threads as a tree, two at one
 // moment. With it, only three of four workers ran for a third of the time of a search; where the
-// caller starts one after another, all four did.
+// caller starts one after another, for a tenth.
 
 /// Calls `f(i, &mut s[i])` at each place, in at most `threads` threads, the caller's among them.
 /// Where a thread cannot be started, the caller does its work. The caller's stack grows with
-/// `threads`, by two calls for each.
+/// `threads`: for each by two calls of this crate, and one of std between them.
 pub fn for_each_mut<R: Threads + Sync, T: Send, F: Fn(usize, &mut T) + Sync>(
     rt: &R,
     s: &mut [T],
@@ -95,7 +95,7 @@ fn in_turn<T, F: Fn(usize, &mut T)>(f: &F, base: usize, s: &mut [T])
     }
 }
 
-// Apart from the loop, which so has one call with the conditions of one element.
+// A function of its own, so that the call in the loop has the conditions of one element.
 fn at_one<T, F: Fn(usize, &mut T)>(f: &F, place: usize, it: &mut T)
     requires { AcceptsAt F.Fn f.now place it.old }
     ensures { ChangesAt F.Fn f.now place it.old it.new }
