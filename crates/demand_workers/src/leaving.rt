@@ -51,7 +51,7 @@ pub(crate) fn holders_of(
 {
     let mut holders = BinaryHeap::new(alloc);
     for place in 0..remembered.bundles.len() {
-        let bundle = remembered.bundles[place];
+        let bundle = &remembered.bundles[place];
         if !bundle.has(section) {
             continue;
         }
@@ -60,7 +60,7 @@ pub(crate) fn holders_of(
             prices: &remembered.prices,
             student: StudentNo(place as u16),
         };
-        let holder = holder_of(&question, section, &bundle);
+        let holder = holder_of(&question, section, bundle);
         holders.push(holder)?;
     }
     Ok(holders)

@@ -96,7 +96,7 @@ fn cheaper_at_each(
 }
 
 // Writes the row of each student, in threads. All versions of a student stand in one row, so that
-// its menu is fetched from memory once: 2,000 menus do not fit in a processor's cache.
+// its menu is fetched once: 2,000 menus do not fit in the cache that a processor has for itself.
 fn settle_rows<R: Threads + Sync>(
     rt: &R,
     workers: u16,

@@ -5,15 +5,15 @@ use market_units::Tokens;
 use std::alloc::Global;
 use std::process::Abort;
 
-/// So many students, at most 100, who all want the one section, with budgets from 100 on.
+/// So many students, at most 1,000, who all want the one section, with budgets from 100 on.
 pub fn rivals<R: Abort>(rt: &R, alloc: Global, count: u32) -> Crowd {
     students_of(rt, alloc, count, 1)
 }
 
-/// So many students, at most 100, with budgets from 100 on, each of whom wants one of so many
+/// So many students, at most 1,000, with budgets from 100 on, each of whom wants one of so many
 /// sections, in turn.
 pub fn students_of<R: Abort>(rt: &R, alloc: Global, count: u32, sections: u16) -> Crowd {
-    assert!(rt; count <= 100 && 1 <= sections);
+    assert!(rt; count <= 1000 && 1 <= sections);
     let mut menus = Vec::new(alloc);
     let mut budgets = Vec::new(alloc);
     for more in 0..count {

@@ -101,6 +101,28 @@ fn counts_by<R: Abort + Threads + Wait + Sync>(
     Ok(counts)
 }
 
+// Of 600 students with budgets from 100 on so many can pay 100, 140 and so on to 700. That is enough
+// for two threads to look for those whom what is remembered does not settle.
+#[test]
+fn counts_of_many(rt: HostRuntime) -> Result<(), Fail> {
+    let alloc = rt.alloc();
+    let crowd = shared_rivals(&rt, alloc, 600)?;
+    let mut batch = Vec::new(alloc);
+    for version in 0..16 {
+        batch.push(at(alloc, 100 + 40 * version)?)?;
+    }
+    assert_eq!(rt; batch.len(), 16);
+    assert!(rt; all_have_prices(&crowd, &batch));
+    let mut demands = PooledDemands::make(Pool::reserve(alloc, 2)?, crowd, &OpenGate);
+    let found = demands.counts(&rt, alloc, &batch)?;
+    assert_eq!(rt; found.len(), 16);
+    for version in 0..16 {
+        let able = 600 - 40 * version as u32;
+        assert_eq!(rt; found[version].as_slice(), [able].as_slice());
+    }
+    Ok(())
+}
+
 #[test]
 fn counts_of_four_students(rt: HostRuntime) -> Result<(), Fail> {
     for workers in [1, 2, 16] {
