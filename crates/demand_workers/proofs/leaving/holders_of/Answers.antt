@@ -13,8 +13,8 @@ loop-place-preserved-then-not-has c =
     let remembered = c.args.remembered.now in
     let place : ℕ = c.loop-place.place in
     let within : place < length remembered.bundles.items = search rules in
-    let was : sections_of c.index.result.now ≡ demand_of (crowd_of remembered) (price_before remembered) c.loop-place.place =
-    ap sections_of c.index.ensures ∙ remembered.taken c.loop-place.place c.index.result.now within in
+    let was : sections_of c.index-bundle.result.now ≡ demand_of (crowd_of remembered) (price_before remembered) c.loop-place.place =
+    ap sections_of c.index-bundle.ensures ∙ remembered.taken c.loop-place.place c.index-bundle.result.now within in
     let lacks : c.has.result ≡ false = search rules in
     record {
       heap = c.loop-place.invariant.heap;
