@@ -10,3 +10,4 @@ pub mod Pairs
 pub mod Uncounting
 pub mod Holders
 pub mod Within
+pub mod Tallies

@@ -1,6 +1,9 @@
 -- Counts by section, and what one bundle adds to them.
-use Rattle.std.specs.Prelude.{ℕ, ◌≡◌, ◌<◌, ◌+◌, true, List, [], length, slice_index, slice_index_or, if◌then◌else◌}
+use Rattle.std.specs.Prelude.{ℕ, ◌≡◌, ◌<◌, ◌≤◌, ◌+◌, true, List, [], length, map, slice_index, slice_index_or, if◌then◌else◌}
+use Rattle.market_units.specs.declared.limits.TheConstants.{MAX_STUDENTS}
 use Rattle.market_units.specs.Members.{has}
+use Rattle.bundle_rules.specs.declared.bundle.Bundle.{Bundle}
+use Rattle.bundle_rules.specs.Bundles.{sections_of}
 use Rattle.demand_api.specs.Crowds.{holders}
 
 -- one more at the section where the bundle has it, and no change where not
@@ -16,3 +19,11 @@ AreWithin sections bundles = (i s : ℕ) → has (slice_index_or bundles i []) s
 pub record AreCounts (sections : ℕ) (bundles : List (List ℕ)) (counts : List ℕ) : Type 0 where
   pub len : length counts ≡ sections
   pub each : (s : ℕ) → s < sections → slice_index counts s ≡ holders s bundles
+
+-- at most 2,000 bundles of sections below this number, and for each section how many of them have
+-- it
+pub record IsTally (sections : ℕ) (bundles : List Bundle) (counts : List ℕ) : Type 0 where
+  pub few : length bundles ≤ MAX_STUDENTS
+  pub within : AreWithin sections (map sections_of bundles)
+  pub len : length counts ≡ sections
+  pub each : (s : ℕ) → s < sections → slice_index counts s ≡ holders s (map sections_of bundles)

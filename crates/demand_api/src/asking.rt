@@ -61,6 +61,27 @@ pub trait Demands {
             (inquiries self.new) }
         ensures value { IfOk result (λ found. map (λ counts. counts.items) found.items ≡ map (λ prices. counts (crowd self.old) (price_in prices.items)) batch.now) };
 
+    /// Tells at which vectors counts will be asked for next, in their order. Who asks its students
+    /// at all of them in one round can answer those calls from what it found. Nothing is promised
+    /// but what stays: each count is as it would be without. Each student is asked at most once at
+    /// each, and once more. The provided body does nothing.
+    fn foresee<R: Threads + Wait + Sync>(
+        &mut self,
+        _rt: &R,
+        _alloc: Global,
+        _vectors: &[Vec<Tokens>],
+    ) -> Result<(), NoMemory>
+        requires sync { IsSync R.row }
+        requires prices { All (λ prices. ArePricesFor (crowd self.old) prices.items) _vectors.now }
+        ensures crowd { crowd self.new ≡ crowd self.old }
+        ensures asked { asked self.new ≡ asked self.old }
+        ensures inquiries { RoseAtMost
+            ((length _vectors.now + 1) * length (crowd self.old).students) (inquiries self.old)
+            (inquiries self.new) }
+    {
+        Ok(())
+    }
+
     /// What each of at most 2,000 students takes, in the order of the list. At most as many students
     /// are asked as are listed, or as there are, whichever is more.
     fn bundles<R: Threads + Wait + Sync>(

@@ -1,7 +1,9 @@
 // Counts of all sections at once.
 ghost use Rattle.std.specs.Prelude.{◌≡◌, ◌<◌, ◌≤◌, ◌+◌, ◌^◌, ℕ, All, IfOk, length, map, slice_index};
+ghost use Rattle.std.specs.Prelude.{true, slice_set};
+ghost use Rattle.market_units.specs.Members.{has};
 ghost use Rattle.bundle_rules.specs.{Bundles.sections_of, Ordinals.ordinals, Sets.IsAscending};
-ghost use Rattle.demand_api.specs.Counting.{AreCounts, AreWithin, HasCounted};
+ghost use Rattle.demand_api.specs.Counting.{AreCounts, AreWithin, HasCounted, IsTally};
 
 use bundle_rules::Bundle;
 use market_units::{NoMemory, SectionNo};
@@ -62,4 +64,18 @@ pub fn uncount_bundle(counts: &mut [u32], sections: &[SectionNo])
             counts[usize::from(section.0)] -= 1;
         }
     }
+}
+
+/// Puts another bundle at this place, and keeps the counts of the sections in step.
+pub fn exchange_bundle(counts: &mut [u32], bundles: &mut [Bundle], place: usize, other: Bundle)
+    requires tally { IsTally (length counts.old) bundles.old counts.old }
+    requires place { place < length bundles.old }
+    requires within { (s : ℕ) → has (sections_of other) s ≡ true → s < length counts.old }
+    ensures len { length counts.new ≡ length counts.old }
+    ensures bundles { bundles.new ≡ slice_set bundles.old place other }
+    ensures tally { IsTally (length counts.old) bundles.new counts.new }
+{
+    uncount_bundle(counts, bundles[place].sections());
+    count_bundle(counts, other.sections());
+    bundles[place] = other;
 }

@@ -12,6 +12,6 @@ mod plain;
 mod plain_demands;
 
 pub use asking::Demands;
-pub use counting::{count_bundle, count_bundles, uncount_bundle};
+pub use counting::{count_bundle, count_bundles, exchange_bundle, uncount_bundle};
 pub use crowd::Crowd;
 pub use plain_demands::PlainDemands;

@@ -11,38 +11,22 @@ use Rattle.demand_workers.specs.Allowances.{HasSpent}
 -- one part after another
 pub spent_both : (first second left left_first left_then before now after : ℕ) → HasSpent first left left_first before now
     → HasSpent second left_first left_then now after → HasSpent (first + second) left left_then before after
-spent_both first second left left_first left_then before now after one other = record {
-  kept = let kept = one.kept in let then = other.kept in omega arith;
-  paid = let paid = one.paid in let then = other.paid in omega arith;
-  less = let less = one.less in let then = other.less in omega arith;
-}
+spent_both first second left left_first left_then before now after one other = record { kept = omega arith; paid = omega arith; less = omega arith }
 
 -- and then a part that is not taken from those who may be asked
 pub spent_besides : (rise left left_then before now after : ℕ) → HasSpent 0 left left_then before now → RoseAtMost rise now after
     → HasSpent rise left left_then before after
-spent_besides rise left left_then before now after one other = record {
-  kept = let kept = one.kept in let then = other.kept in omega arith;
-  paid = let paid = one.paid in let most = other.most in omega arith;
-  less = one.less;
-}
+spent_besides rise left left_then before now after one other = record { kept = omega arith; paid = omega arith; less = one.less }
 
 -- more may be asked besides
 pub spent_within : (first more left left_then before now : ℕ) → HasSpent first left left_then before now → first ≤ more
     → HasSpent more left left_then before now
-spent_within first more left left_then before now one within = record {
-  kept = one.kept;
-  paid = let paid = one.paid in omega arith;
-  less = one.less;
-}
+spent_within first more left left_then before now one within = record { kept = one.kept; paid = omega arith; less = one.less }
 
 -- one student more, of those who may be asked
 pub spent_one : (left left_first before now after : ℕ) → HasSpent 0 left left_first before now → 1 ≤ left_first → RoseAtMost 1 now after
     → HasSpent 0 left (left_first - 1) before after
-spent_one left left_first before now after one some other = record {
-  kept = let kept = one.kept in let then = other.kept in omega arith;
-  paid = let paid = one.paid in let most = other.most in omega arith;
-  less = let less = one.less in omega arith;
-}
+spent_one left left_first before now after one some other = record { kept = omega arith; paid = omega arith; less = omega arith }
 
 -- as many as a rehearsal has tasks
 pub spent_ahead : (tasks asked left before now : ℕ) → asked ≡ tasks → tasks ≤ left → now ≡ min (before + asked) (2 ^ 64 - 1)
@@ -52,43 +36,29 @@ spent_ahead tasks asked left before now same within is = record { kept = omega a
 -- a walk that has a share of those who may be asked, and gives back what is left of it
 pub spent_share : (cost left share share_then before now : ℕ) → share ≤ left → HasSpent cost share share_then before now
     → HasSpent cost left (left - share + share_then) before now
-spent_share cost left share share_then before now within one = record {
-  kept = one.kept;
-  paid = let paid = one.paid in omega arith;
-  less = let less = one.less in omega arith;
-}
+spent_share cost left share share_then before now within one = record { kept = one.kept; paid = omega arith; less = omega arith }
 
 -- a walk that has a share, and gives nothing back
 pub spent_whole : (cost left share share_then before now : ℕ) → share ≤ left → HasSpent cost share share_then before now
     → HasSpent cost left (left - share) before now
-spent_whole cost left share share_then before now within one = record {
-  kept = one.kept;
-  paid = let paid = one.paid in omega arith;
-  less = omega arith;
-}
+spent_whole cost left share share_then before now within one = record { kept = one.kept; paid = omega arith; less = omega arith }
 
 -- one walk more
 pub spent_more : (i cost left left_first left_then before now after : ℕ) → HasSpent (i * cost) left left_first before now
     → HasSpent cost left_first left_then now after → HasSpent ((i + 1) * cost) left left_then before after
-spent_more i cost left left_first left_then before now after so_far one =
-    let both = spent_both (i * cost) cost left left_first left_then before now after so_far one in
-    spent_within (i * cost + cost) ((i + 1) * cost) left left_then before after both (omega arith)
+spent_more i cost left left_first left_then before now after so_far one = record { kept = omega arith; paid = omega arith; less = omega arith }
 
 -- these are no more than all walks
 pub spent_on_some : (i pairs cost left left_then before now : ℕ) → HasSpent (i * cost) left left_then before now → i ≤ pairs
     → HasSpent (pairs * cost) left left_then before now
 spent_on_some i pairs cost left left_then before now so_far some =
-    let cost_same : cost ≤ cost = omega arith in
-    spent_within (i * cost) (pairs * cost) left left_then before now so_far (mul-le i cost pairs cost some cost_same)
+    spent_within (i * cost) (pairs * cost) left left_then before now so_far (mul-le i cost pairs cost some (omega arith))
 
 -- the digits of a number, of which the first is at this place
 pub digits_least : (place number digits : ℕ) → 2 ^ place ≤ number → number < 2 ^ digits → place + 1 ≤ digits
 digits_least place number digits low high = elim (cases_lt place digits) [
-  | inl inside ↦ (let goal : place + 1 ≤ digits = omega arith in goal)
-  | inr past ↦
-      let positive : 0 < 2 = omega arith in
-      let more : 2 ^ digits ≤ 2 ^ place = pow-le-pow_right positive past in
-      absurd (omega (arith, more))
+  | inl inside ↦ omega (arith, inside)
+  | inr past ↦ let more : 2 ^ digits ≤ 2 ^ place = pow-le-pow_right {n = 2} (omega arith) past in absurd (omega (arith, more))
 ]
 
 -- the top is some price
@@ -106,8 +76,7 @@ walks_within pairs own digits n students some one least same =
     let joined : (pairs * (own + 1) - 2 + 2) * n ≡ pairs * (own + 1) * n = ap (λ m. m * n) back in
     let longer : pairs * (own + 1) ≤ pairs * (digits + 1) = mul-le pairs (own + 1) pairs (digits + 1) (omega arith) (omega (arith, least)) in
     let each : pairs * (own + 1) * n ≤ pairs * (digits + 1) * n = mul-le (pairs * (own + 1)) n (pairs * (digits + 1)) n longer (omega arith) in
-    let all : (pairs * (own + 1) - 2) * n + 2 * n ≤ pairs * n * (digits + 1) = omega (arith, split, joined, each) in
-    subst (λ m. (pairs * (own + 1) - 2) * n + 2 * m ≤ pairs * m * (digits + 1)) same all
+    subst (λ m. (pairs * (own + 1) - 2) * n + 2 * m ≤ pairs * m * (digits + 1)) same (omega (arith, split, joined, each))
 
 -- and they fit 64 bits
 pub walks_few : (pairs own n : ℕ) → pairs ≤ 400 → own ≤ 32 → n ≤ 2000 → (pairs * (own + 1) - 2) * n ≤ 13200 * 2000

@@ -1,35 +1,38 @@
 -- Holders of a section whose price rises.
-use Rattle.std.proofs.Common.{ℕ, zero, suc, true, false, ◌≡◌, ◌≢◌, ◌<◌, ◌≤◌, ◌+◌, ◌-◌, ◌==◌, ◌∙◌, List, [], ◌∷◌, All, length, min, slice_index_or, slice_set, refl, ap, sym, subst, arith, inl, inr}
-use Rattle.std.specs.Prelude.{nat_lt, map, if◌then◌else◌}
+use Rattle.std.proofs.Common.{ℕ, zero, suc, true, false, ◌≡◌, ◌≢◌, ◌<◌, ◌≤◌, ◌+◌, ◌-◌, ◌==◌, ◌∙◌, List, [], ◌∷◌, ◌++◌, All, Vec, Global, length, take, min, slice_index_or, slice_set, refl, ap, sym, subst, arith, inl, inr}
+use Rattle.std.specs.Prelude.{map, slice_index, if◌then◌else◌}
 use Rattle.std.specs.List.{sum_by}
 use Rattle.std.specs.List.Sorted.{IsPermutation}
 use Rattle.std.proofs.lemmas.Bool.{cases_Bool, cases_lt, cases_order, false≢true, ne_eqb}
 use Rattle.std.proofs.lemmas.Bool.Decides.{nat_tests}
-use Rattle.std.proofs.lemmas.List.{length-set}
-use Rattle.std.proofs.lemmas.List.Elements.{All-cons, All-tail, All-set}
-use Rattle.std.proofs.lemmas.List.Sorted.{All-permutation, IsPermutation-sym, sum_by_popped, sum_by_pushed}
+use Rattle.std.proofs.lemmas.List.{get_or-set_other, get_or-set_same, length-set}
+use Rattle.std.proofs.lemmas.List.Elements.{All-append, All-cons, All-nil, All-tail, All-set}
+use Rattle.std.proofs.lemmas.List.Sums.{sum_by-cons, sum_by_more, sum_by_push}
+use Rattle.market_units.specs.declared.units.SectionNo.{SectionNo}
+use Rattle.bundle_rules.specs.Ordinals.{ordinals}
+use Rattle.demand_workers.specs.Leaving.{AreListed}
+use Rattle.demand_workers.specs.Views.{crowd_of, price_before}
+use Rattle.demand_workers.specs.declared.remembered.Remembered.{Remembered}
+use Rattle.std.proofs.lemmas.List.Sorted.{All-permutation, IsPermutation-sym, sum_by-IsPermutation, sum_by_popped, sum_by_pushed}
 use Rattle.market_units.specs.declared.units.Tokens.{Tokens}
 use Rattle.market_units.specs.Totals.{total}
 use Rattle.market_units.specs.Members.{has}
 use Rattle.bundle_rules.specs.Sets.{IsAscending}
 use Rattle.bundle_rules.specs.Demand.{price_in}
 use Rattle.bundle_rules.specs.Existence.Orders.{none_below}
-use Rattle.bundle_rules.specs.Menus.{MenuData}
-use Rattle.bundle_rules.proofs.BestValue.{best-is}
 use Rattle.demand_api.specs.declared.crowd.Crowd.{Crowd}
 use Rattle.demand_api.specs.Asking.{ArePricesFor}
-use Rattle.demand_api.specs.Crowds.{Student, CrowdData, top, demand, demands, demand_of, count}
-use Rattle.demand_api.specs.Parts.{greatest}
+use Rattle.demand_api.specs.Crowds.{Student, CrowdData, greatest_budget, top, demand, demands, demand_of, count}
 use Rattle.demand_api.specs.Views.{data_of}
 use Rattle.demand_api.specs.Prices.{with_price, IsRaised, IsLeastFrom}
 use Rattle.demand_api.proofs.Counts.{taken_falls, member_le, demands_by_top}
 use Rattle.demand_api.proofs.Halving.{with_here, with_there, with_raised, price_at, price_kept, price_written, tried}
 use Rattle.demand_api.proofs.Keeping.{same_cost, none_falls}
-use Rattle.demand_api.proofs.Parts.{top_found, top_high}
-use Rattle.demand_api.proofs.Takers.{demand_at}
+use Rattle.demand_api.proofs.Parts.{top_high}
 use Rattle.demand_workers.specs.Leaving.{takes, leaves, listed, Keeps, AreLeft}
-use Rattle.demand_workers.proofs.HolderSums.{one_at, listed-cons, count_at_least, count_at_most}
-use Rattle.demand_workers.proofs.Recalling.{kept_demand}
+use Rattle.demand_workers.proofs.HolderSums.{one_at, count_at_least, count_at_most}
+use Rattle.demand_workers.specs.Notes.{budget_of}
+use Rattle.demand_workers.proofs.Recalling.{budget_is, kept_bundle, taken_affordable}
 
 -- at the same prices a student takes the same
 pub demand_same : (crowd : CrowdData) (one other : ℕ → ℕ) (i : ℕ) → ((t : ℕ) → one t ≡ other t) → demand_of crowd one i ≡ demand_of crowd other i
@@ -92,68 +95,35 @@ total_raised s more before after is up (t ∷ ts) ascending = elim (cases_order 
 ]
 
 -- a holder takes the section as long as its price is not higher by more than what is left of the budget
-pub holder_keeps : (crowd : Crowd) (price : ℕ → ℕ) (s more i : ℕ) (menu : MenuData) (budget : Tokens)
-    (bundle : List ℕ)
-    → i < length crowd.menus.items
-    → menu ≡ slice_index_or crowd.menus.items i menu → budget ≡ slice_index_or crowd.budgets.items i budget → bundle ≡ demand_of (data_of crowd) price i
-    → has bundle s ≡ true → IsAscending bundle → total price bundle + more ≤ budget.0
-    → takes (data_of crowd) price s (price s + more) i ≡ true
-holder_keeps crowd price s more i menu budget bundle low is has_it told holds ascending paid =
+holder_keeps : (crowd : CrowdData) (price : ℕ → ℕ) (s more i : ℕ) (bundle : List ℕ) → bundle ≡ demand_of crowd price i → has bundle s ≡ true
+    → IsAscending bundle → total price bundle + more ≤ budget_of crowd i → takes crowd price s (price s + more) i ≡ true
+holder_keeps crowd price s more i bundle told holds ascending paid =
     let after : ℕ → ℕ = with_price price s (price s + more) in
-    let raised : IsRaised s price after =
-    record {
-      others = λ t apart. with_there price s (price s + more) t apart;
-      raised = (let e : after s ≡ price s + more = with_here price s (price s + more) in omega arith);
-    } in
-    let cost : total after bundle ≤ total price bundle + more = total_raised s more price after raised (with_here price s (price s + more)) bundle ascending in
-    let kept : bundle ≡ demand_of (data_of crowd) after i =
-    kept_demand crowd price after i menu budget bundle low is has_it
-    (λ k d within. none_falls s price after raised (slice_index_or menu.places k d).section.0)
-    (let goal : total after bundle ≤ budget.0 = omega arith in goal) told in
+    let here : after s ≡ price s + more = with_here price s (price s + more) in
+    let raised : IsRaised s price after = record { others = λ t apart. with_there price s (price s + more) t apart; raised = omega arith } in
+    let cost : total after bundle ≤ total price bundle + more = total_raised s more price after raised here bundle ascending in
+    let kept : bundle ≡ demand_of crowd after i =
+    kept_bundle crowd price after i bundle (λ k d within. none_falls s price after raised _) (omega arith) told in
     ap (λ b. has b s) (sym kept) ∙ holds
 
--- what a student takes is affordable
-pub taken_affordable : (crowd : Crowd) (price : ℕ → ℕ) (i : ℕ) (menu : MenuData) (budget : Tokens)
-    (bundle : List ℕ)
-    → i < length crowd.menus.items
-    → menu ≡ slice_index_or crowd.menus.items i menu → budget ≡ slice_index_or crowd.budgets.items i budget → bundle ≡ demand_of (data_of crowd) price i
-    → total price bundle ≤ budget.0
-taken_affordable crowd price i menu budget bundle low is has_it told =
-    let was : bundle ≡ demand crowd.sections price (record { menu = menu; budget = budget.0 }) =
-    told ∙ demand_at crowd price i menu budget low ∙ same_student in
-    subst (λ (b : List ℕ). total price b ≤ budget.0) (sym was) (best-is menu price budget.0 (λ t. nat_lt t crowd.sections)).choice.affordable
-  where
-    same_student : demand crowd.sections price (record { menu = slice_index_or crowd.menus.items i menu; budget = (slice_index_or crowd.budgets.items i budget).0 })
-        ≡ demand crowd.sections price (record { menu = menu; budget = budget.0 })
-    same_student = rw (← is, ← has_it) refl
-
 -- a budget is below the top
-pub budget_below_top : (crowd : Crowd) (i : ℕ) (budget : Tokens) → i < length crowd.menus.items
-    → budget ≡ slice_index_or crowd.budgets.items i budget → budget.0 < top (data_of crowd)
-budget_below_top crowd i budget low is =
-    let most : (slice_index_or crowd.budgets.items i budget).0 ≤ greatest crowd.budgets.items = among crowd.budgets.items i (omega arith) in
-    let e : budget.0 ≡ (slice_index_or crowd.budgets.items i budget).0 = ap (λ (b : Tokens). b.0) is in
-    let at_top : greatest crowd.budgets.items + 1 ≡ top (data_of crowd) = top_found crowd (greatest crowd.budgets.items) refl in
-    omega arith
+budget_below_top : (crowd : CrowdData) (i : ℕ) → budget_of crowd i < top crowd
+unfolding top
+budget_below_top crowd i = omega (arith, among crowd.students i)
   where
-    among : (bs : List Tokens) (k : ℕ) → k < length bs → (slice_index_or bs k budget).0 ≤ greatest bs
-    among [] k below = absurd (omega arith)
-    among (b ∷ bs) zero below = omega arith
-    among (b ∷ bs) (suc k) below = let rest : (slice_index_or bs k budget).0 ≤ greatest bs = among bs k (omega arith) in omega arith
+    among : (students : List Student) (k : ℕ) → slice_index (map (λ (student : Student). student.budget) students) k ≤ greatest_budget students
+    among [] k = omega arith
+    among (x ∷ xs) zero = omega arith
+    among (x ∷ xs) (suc k) = omega (arith, among xs k)
 
--- a student's menu
-some_menu : (menus : List MenuData) (i : ℕ) → i < length menus → (menu : MenuData) × (menu ≡ slice_index_or menus i menu)
-some_menu [] i low = absurd (omega arith)
-some_menu (m ∷ ms) zero low = (m, refl)
-some_menu (m ∷ ms) (suc i) low = some_menu ms i (omega arith)
-
--- what is known of a holder with its bundle
+-- What is known of a holder with its bundle, where the section costs what stands at the place: its budget pays for the bundle, and it keeps the bundle up to
+-- the price at which it leaves
 pub record HolderTold (crowd : CrowdData) (prices : List Tokens) (s i place cost budget : ℕ) : Type 0 where
   pub paid : cost ≤ budget
   pub price : (slice_index_or prices place (record { 0 = 0 })).0 ≡ price_in prices s
   pub most : price_in prices s + (budget - cost) + 1 ≤ top crowd
   pub top_most : top crowd ≤ 1000001
-  pub still : takes crowd (price_in prices) s (price_in prices s + (budget - cost)) i ≡ true
+  pub still : takes crowd (price_in prices) s (leaves (1000001 - ((slice_index_or prices place (record { 0 = 0 })).0 + (budget - cost) + 1), i) - 1) i ≡ true
 
 pub holder_told : (crowd : Crowd) (prices : List Tokens) (s i place cost : ℕ) (budget : Tokens) (bundle : List ℕ)
     → ArePricesFor (data_of crowd) prices → s < crowd.sections → i < length crowd.menus.items
@@ -161,22 +131,22 @@ pub holder_told : (crowd : Crowd) (prices : List Tokens) (s i place cost : ℕ) 
     → IsAscending bundle → cost ≡ total (price_in prices) bundle → place ≡ s
     → HolderTold (data_of crowd) prices s i place cost budget.0
 holder_told crowd prices s i place cost budget bundle are within low has_it told holds ascending sum at =
-    let some = some_menu crowd.menus.items i low in
-    let paid : total (price_in prices) bundle ≤ budget.0 =
-    taken_affordable crowd (price_in prices) i some.0 budget bundle low some.1 has_it told in
-    let part : price_in prices s ≤ total (price_in prices) bundle = member_le (price_in prices) bundle s holds in
-    let high : budget.0 < top (data_of crowd) = budget_below_top crowd i budget low has_it in
+    let price : ℕ → ℕ = price_in prices in
+    let own : budget_of (data_of crowd) i ≡ budget.0 = budget_is crowd i budget low has_it in
+    let paid : total price bundle ≤ budget_of (data_of crowd) i = taken_affordable (data_of crowd) price i bundle told in
+    let part : price s ≤ total price bundle = member_le price bundle s holds in
+    let high : budget_of (data_of crowd) i < top (data_of crowd) = budget_below_top (data_of crowd) i in
     let length_is : length prices ≡ crowd.sections = are.same in
-    let read : price_in prices s ≡ (slice_index_or prices s (record { 0 = 0 })).0 =
-    price_at prices s (record { 0 = 0 }) (let goal : s < length prices = omega arith in goal) in
+    let here : (slice_index_or prices place (record { 0 = 0 })).0 ≡ price s =
+    ap (λ (n : ℕ). (slice_index_or prices n (record { 0 = 0 })).0) at ∙ sym (price_at prices s (record { 0 = 0 }) (omega arith)) in
+    let kept = holder_keeps (data_of crowd) price s (budget.0 - cost) i bundle told holds ascending (omega arith) in
+    let top_most : top (data_of crowd) ≤ 1000001 = top_high crowd in
     record {
-      paid = (let goal : cost ≤ budget.0 = omega arith in goal);
-      price = ap (λ (n : ℕ). (slice_index_or prices n (record { 0 = 0 })).0) at ∙ sym read;
-      most = (let goal : price_in prices s + (budget.0 - cost) + 1 ≤ top (data_of crowd) = omega arith in goal);
-      top_most = top_high crowd;
-      still =
-          holder_keeps crowd (price_in prices) s (budget.0 - cost) i some.0 budget bundle low some.1 has_it told holds ascending
-          (let goal : total (price_in prices) bundle + (budget.0 - cost) ≤ budget.0 = omega arith in goal);
+      paid = omega arith;
+      price = here;
+      most = omega arith;
+      top_most = top_most;
+      still = subst (λ (n : ℕ). takes (data_of crowd) price s n i ≡ true) (omega arith) kept;
     }
 
 -- how far below the greatest price the holders leave, all together
@@ -311,94 +281,127 @@ least_found crowd price s low limit least hs from lower left few = record {
   lower = lower;
 }
 
--- the holders among the first students
-pub record AreFirst (crowd : CrowdData) (price : ℕ → ℕ) (s n : ℕ) (hs : List (ℕ × ℕ)) : Type 0 where
-  pub students : All (λ (h : ℕ × ℕ). h.1 < n) hs
-  pub once : (i : ℕ) → listed i hs ≤ 1
-  pub keep : All (Keeps crowd price s (price s)) hs
-  pub others : (i : ℕ) → i < n → takes crowd price s (price s) i ≡ true → 1 ≤ listed i hs
+-- how often the section is among these
+abbrev pub times : ℕ → List SectionNo → ℕ
+times s sections = sum_by (λ (t : SectionNo). one_at t.0 s) sections
 
-pub first_none : (crowd : CrowdData) (price : ℕ → ℕ) (s : ℕ) → AreFirst crowd price s 0 []
-first_none crowd price s =
+times_in : (s : ℕ) (sections : List SectionNo) → IsAscending (ordinals sections) → times s sections ≡ (if has (ordinals sections) s then 1 else 0)
+times_in s [] up = refl
+times_in s (t ∷ ts) up = elim (cases_Bool (t.0 == s)) [
+  | inl here ↦
+      let none : has (ordinals ts) s ≡ false = none_below t.0 (ordinals ts) up.0 s (grind (arith, nat_tests)) in
+      let rest : times s ts ≡ 0 = times_in s ts up.1 ∙ rw none refl in
+      sum_by-cons (λ (u : SectionNo). one_at u.0 s) t ts ∙ rw (here, rest) refl
+  | inr apart ↦ let rest = times_in s ts up.1 in sum_by-cons (λ (u : SectionNo). one_at u.0 s) t ts ∙ rw apart (omega arith)
+]
+
+-- the holders among the first students, and the next one as often as the section was met in its bundle
+pub record AreMet (crowd : CrowdData) (price : ℕ → ℕ) (s n met : ℕ) (hs : List (ℕ × ℕ)) : Type 0 where
+  pub students : All (λ (h : ℕ × ℕ). h.1 < length crowd.students) hs
+  pub keep : All (Keeps crowd price s (price s)) hs
+  pub before : (i : ℕ) → i < n → listed i hs ≡ (if has (demand_of crowd price i) s then 1 else 0)
+  pub next : listed n hs ≡ met
+  pub later : (i : ℕ) → n < i → listed i hs ≡ 0
+
+pub none_met : (crowd : CrowdData) (price : ℕ → ℕ) (s : ℕ) (hs : List (ℕ × ℕ)) → hs ≡ [] → AreMet crowd price s 0 0 hs
+none_met crowd price s hs none =
+    subst (AreMet crowd price s 0 0) (sym none)
     record {
       students = λ k d low. absurd (omega arith);
-      once = λ i. (let goal : 0 ≤ 1 = omega arith in goal);
       keep = λ k d low. absurd (omega arith);
-      others = λ i low is. absurd (omega arith);
+      before = λ i low. absurd (omega arith);
+      next = refl;
+      later = λ i low. refl;
     }
 
--- a student who does not hold the section
-pub first_skip : (crowd : CrowdData) (price : ℕ → ℕ) (s n : ℕ) (hs : List (ℕ × ℕ)) → has (demand_of crowd price n) s ≡ false → AreFirst crowd price s n hs
-    → AreFirst crowd price s (n + 1) hs
-first_skip crowd price s n hs lacks are = record {
-  students = λ k d low. (let h : (slice_index_or hs k d).1 < n = are.students k d low in let goal : (slice_index_or hs k d).1 < n + 1 = omega arith in goal);
-  once = are.once;
-  keep = are.keep;
-  others = λ i low is. elim (cases_order i n) [
-    | inl same ↦ absurd (false≢true (sym lacks ∙ sym (takes_now crowd price s (price s) n refl) ∙ ap (takes crowd price s (price s)) (sym same) ∙ is))
-    | inr (inl less) ↦ are.others i less is
-    | inr (inr more) ↦ absurd (omega arith)
-  ];
-}
-
--- nobody is listed past the number
-none_listed : (n : ℕ) (hs : List (ℕ × ℕ)) → All (λ (h : ℕ × ℕ). h.1 < n) hs → listed n hs ≡ 0
-none_listed n [] all = refl
-none_listed n (h ∷ hs) all =
-    let low : h.1 < n = all 0 h (omega arith) in
-    let apart : (h.1 == n) ≡ false = ne_eqb h.1 n (λ e. absurd (omega arith)) in
-    let first : one_at h.1 n ≡ 0 = rw apart refl in
-    let rest : listed n hs ≡ 0 = none_listed n hs (All-tail (λ (h : ℕ × ℕ). h.1 < n) h hs all) in
-    let whole : listed n (h ∷ hs) ≡ one_at h.1 n + listed n hs = listed-cons n h hs in
-    omega arith
-
--- a student who holds it
-pub first_more : (crowd : CrowdData) (price : ℕ → ℕ) (s n : ℕ) (hs new : List (ℕ × ℕ)) (holder : ℕ × ℕ) → IsPermutation (holder ∷ hs) new → holder.1 ≡ n
-    → Keeps crowd price s (price s) holder → AreFirst crowd price s n hs → AreFirst crowd price s (n + 1) new
-first_more crowd price s n hs new holder pushed is keeps are = record {
-  students = All-permutation (λ (h : ℕ × ℕ). h.1 < n + 1) (holder ∷ hs) new pushed (All-cons (λ (h : ℕ × ℕ). h.1 < n + 1) holder hs (let goal : holder.1 < n + 1 = omega arith in goal)
-      (λ k d low. (let h : (slice_index_or hs k d).1 < n = are.students k d low in let goal : (slice_index_or hs k d).1 < n + 1 = omega arith in goal)));
-  once = λ i. elim (cases_order i n) [
-    | inl same ↦
-        (let none : listed i hs
-        ≡ 0 = ap (λ j. listed j hs) same ∙ none_listed n hs are.students in let more = split i in let one = small i in let goal : listed i new
-        ≤ 1 = omega arith in goal)
-    | inr (inl less) ↦
-        (let more = split i in let before : listed i hs ≤ 1 = are.once i in let none = other i (λ e. absurd (omega arith)) in let goal : listed i new
-        ≤ 1 = omega arith in goal)
-    | inr (inr later) ↦
-        (let more = split i in let before : listed i hs ≤ 1 = are.once i in let none = other i (λ e. absurd (omega arith)) in let goal : listed i new
-        ≤ 1 = omega arith in goal)
-  ];
-  keep = All-permutation (Keeps crowd price s (price s)) (holder ∷ hs) new pushed (All-cons (Keeps crowd price s (price s)) holder hs keeps are.keep);
-  others = λ i low taken. elim (cases_order i n) [
-    | inl same ↦ (let more = split i in let here = own i (is ∙ sym same) in let goal : 1 ≤ listed i new = omega arith in goal)
-    | inr (inl less) ↦ (let more = split i in let before : 1 ≤ listed i hs = are.others i less taken in let goal : 1 ≤ listed i new = omega arith in goal)
-    | inr (inr later) ↦ absurd (omega arith)
-  ];
+-- the next student is met once more
+met_again : (crowd : CrowdData) (price : ℕ → ℕ) (s n met : ℕ) (hs : List (ℕ × ℕ)) (holder : ℕ × ℕ) → holder.1 ≡ n → n < length crowd.students
+    → Keeps crowd price s (price s) holder → AreMet crowd price s n met hs → AreMet crowd price s n (met + 1) (hs ++ holder ∷ [])
+met_again crowd price s n met hs holder own within keeps are = record {
+  students =
+      All-append (λ (h : ℕ × ℕ). h.1 < length crowd.students) hs (holder ∷ []) are.students
+      (All-cons (λ (h : ℕ × ℕ). h.1 < length crowd.students) holder [] (let goal : holder.1 < length crowd.students = omega arith in goal) (All-nil _));
+  keep = All-append (Keeps crowd price s (price s)) hs (holder ∷ []) are.keep (All-cons (Keeps crowd price s (price s)) holder [] keeps (All-nil _));
+  before = λ i low. let one = more i in let none = other i (λ e. absurd (omega arith)) in let were = are.before i low in omega arith;
+  next = let one = more n in let here : one_at holder.1 n ≡ 1 = rw own (grind (arith, nat_tests)) in let were = are.next in omega arith;
+  later = λ i past. let one = more i in let none = other i (λ e. absurd (omega arith)) in let were = are.later i past in omega arith;
 }
   where
-    split : (i : ℕ) → listed i new ≡ one_at holder.1 i + listed i hs
-    split i = sum_by_pushed (λ (h : ℕ × ℕ). if h.1 == i then 1 else 0) holder hs new pushed
+    more : (i : ℕ) → listed i (hs ++ holder ∷ []) ≡ listed i hs + one_at holder.1 i
+    more i = sum_by_push (λ (h : ℕ × ℕ). one_at h.1 i) hs holder
 
-    small : (i : ℕ) → one_at holder.1 i ≤ 1
-    small i = elim (cases_Bool (holder.1 == i)) [ inl same ↦ rw same (omega arith) | inr apart ↦ rw apart (omega arith) ]
+    other : (i : ℕ) → n ≢ i → one_at holder.1 i ≡ 0
+    other i apart = rw (ne_eqb holder.1 i (λ e. apart (sym own ∙ e))) refl
 
-    other : (i : ℕ) → i ≢ n → one_at holder.1 i ≡ 0
-    other i apart = let no_match : (holder.1 == i) ≡ false = ne_eqb holder.1 i (λ e. apart (sym e ∙ is)) in rw no_match refl
+-- one section more of the next student's bundle
+module _ (crowd : CrowdData) (price : ℕ → ℕ) (s n k : ℕ) (sections : List SectionNo) (t none : SectionNo) (low : k < length sections)
+    (at : t ≡ slice_index_or sections k none) where
+  one_more : times s (take (k + 1) sections) ≡ times s (take k sections) + one_at t.0 s
+  one_more =
+      sum_by_more (λ (u : SectionNo). one_at u.0 s) sections k none low ∙ ap (λ (u : SectionNo). times s (take k sections) + one_at u.0 s) (sym at)
 
-    own : (i : ℕ) → holder.1 ≡ i → one_at holder.1 i ≡ 1
-    own i same = let match : (holder.1 == i) ≡ true = grind (arith, nat_tests) in rw match refl
+  -- it is another one
+  pub met_other : (hs : List (ℕ × ℕ)) → t.0 ≢ s → AreMet crowd price s n (times s (take k sections)) hs
+      → AreMet crowd price s n (times s (take (k + 1) sections)) hs
+  met_other hs apart are =
+      let none : one_at t.0 s ≡ 0 = rw (ne_eqb t.0 s apart) refl in
+      let more = one_more in
+      let same : times s (take k sections) ≡ times s (take (k + 1) sections) = omega arith in subst (λ (m : ℕ). AreMet crowd price s n m hs) same are
+
+  -- its list has one holder more
+  pub met_listed : (lists : List (Vec (ℕ × ℕ) Global)) (i : ℕ) (old new d : Vec (ℕ × ℕ) Global) (holder : ℕ × ℕ) → i ≡ t.0
+      → old ≡ slice_index_or lists i old → i < length lists → new.items ≡ old.items ++ holder ∷ [] → holder.1 ≡ n → n < length crowd.students → Keeps crowd price t.0 (price t.0) holder
+      → ((e : Vec (ℕ × ℕ) Global) → AreMet crowd price s n (times s (take k sections)) (slice_index_or lists s e).items)
+      → AreMet crowd price s n (times s (take (k + 1) sections)) (slice_index_or (slice_set lists i new) s d).items
+  met_listed lists i old new d holder to is below pushed own within keeps are = elim (cases_Bool (t.0 == s)) [
+    | inl here ↦
+        let here' : t.0 ≡ s = grind (arith, nat_tests) in
+        let e : i ≡ s = to ∙ here' in
+        let was : AreMet crowd price s n (times s (take k sections)) old.items =
+        subst (λ (v : Vec (ℕ × ℕ) Global). AreMet crowd price s n (times s (take k sections)) v.items)
+        (sym (is ∙ ap (λ (j : ℕ). slice_index_or lists j old) e)) (are old) in
+        let one : one_at t.0 s ≡ 1 = rw here refl in
+        let more = one_more in
+        let up : times s (take k sections) + 1 ≡ times s (take (k + 1) sections) = omega arith in
+        subst (λ (v : Vec (ℕ × ℕ) Global). AreMet crowd price s n (times s (take (k + 1) sections)) v.items)
+        (sym (ap (λ (j : ℕ). slice_index_or (slice_set lists i new) j d) (sym e) ∙ get_or-set_same lists i new d below))
+        (subst (AreMet crowd price s n (times s (take (k + 1) sections))) (sym pushed)
+        (subst (λ (m : ℕ). AreMet crowd price s n m (old.items ++ holder ∷ [])) up
+        (met_again crowd price s n (times s (take k sections)) old.items holder own within
+        (subst (λ (j : ℕ). Keeps crowd price j (price j) holder) here' keeps) was)))
+    | inr apart ↦
+        subst (λ (v : Vec (ℕ × ℕ) Global). AreMet crowd price s n (times s (take (k + 1) sections)) v.items)
+        (sym (get_or-set_other lists i s new d (λ e. grind (arith, nat_tests))))
+        (met_other (slice_index_or lists s d).items (λ e. grind (arith, nat_tests)) (are d))
+  ]
+
+-- all sections of the next student's bundle were met
+pub met_all : (crowd : CrowdData) (price : ℕ → ℕ) (s n : ℕ) (sections : List SectionNo) (hs : List (ℕ × ℕ)) → IsAscending (ordinals sections)
+    → ordinals sections ≡ demand_of crowd price n → AreMet crowd price s n (times s sections) hs → AreMet crowd price s (n + 1) 0 hs
+met_all crowd price s n sections hs up told are = record {
+  students = are.students;
+  keep = are.keep;
+  before = λ i low. elim (cases_order i n) [
+    | inl same ↦ rw same (are.next ∙ times_in s sections up ∙ ap (λ (b : List ℕ). if has b s then 1 else 0) told)
+    | inr (inl less) ↦ are.before i less
+    | inr (inr more) ↦ absurd (omega arith)
+  ];
+  next = are.later (n + 1) (omega arith);
+  later = λ i past. are.later i (omega arith);
+}
 
 -- all students were looked at
-pub first_all : (crowd : CrowdData) (price : ℕ → ℕ) (s n : ℕ) (hs : List (ℕ × ℕ)) → n ≡ length crowd.students → AreFirst crowd price s n hs
+pub met_left : (crowd : CrowdData) (price : ℕ → ℕ) (s n : ℕ) (hs : List (ℕ × ℕ)) → n ≡ length crowd.students → AreMet crowd price s n 0 hs
     → AreLeft crowd price s (price s) hs
-first_all crowd price s n hs all are = record {
-  students = subst (λ (m : ℕ). All (λ (h : ℕ × ℕ). h.1 < m) hs) all are.students;
-  once = are.once;
+met_left crowd price s n hs all are = record {
+  students = are.students;
+  once = λ i. elim (cases_lt i n) [
+    | inl low ↦ rw (are.before i low) (elim (cases_Bool (has (demand_of crowd price i) s)) [ inl is ↦ rw is (omega arith) | inr lacks ↦ rw lacks (omega arith) ])
+    | inr past ↦ let none : listed i hs ≡ 0 = grind (arith, are.next, are.later i) in omega arith
+  ];
   keep = are.keep;
   others = λ i is. elim (cases_lt i n) [
-    | inl low ↦ are.others i low is
+    | inl low ↦ rw (are.before i low, sym (takes_now crowd price s (price s) i refl) ∙ is) (omega arith)
     | inr past ↦
         absurd
         (false≢true
@@ -406,6 +409,31 @@ first_all crowd price s n hs all are = record {
         ∙ is))
   ];
 }
+
+-- the list at the place of a pair, where the same is remembered
+pub listed_at : (known remembered : Remembered) (pairs : List (SectionNo × ℕ)) (lists : List (Vec (ℕ × ℕ) Global)) (k i : ℕ) (none : SectionNo × ℕ)
+    (list : Vec (ℕ × ℕ) Global) (hs : List (ℕ × ℕ)) → AreListed (crowd_of known) (price_before known) pairs lists → known ≡ remembered → k < length pairs
+    → i ≡ (slice_index_or pairs k none).0.0 → list ≡ slice_index_or lists i list → hs ≡ list.items
+    → AreLeft (crowd_of remembered) (price_before remembered) (slice_index_or pairs k none).0.0
+    (price_before remembered (slice_index_or pairs k none).0.0) hs
+listed_at known remembered pairs lists k i none list hs listed same low at is items =
+    let s : ℕ = (slice_index_or pairs k none).0.0 in
+    subst (λ (r : Remembered). AreLeft (crowd_of r) (price_before r) s (price_before r s) hs) same
+    (subst (AreLeft (crowd_of known) (price_before known) s (price_before known s))
+    (sym (items ∙ ap (λ (l : Vec (ℕ × ℕ) Global). l.items) (is ∙ ap (λ (j : ℕ). slice_index_or lists j list) at))) (listed k none low list))
+
+-- the same holders in another order
+pub left_moved : (crowd : CrowdData) (price : ℕ → ℕ) (s level : ℕ) (hs new : List (ℕ × ℕ)) → IsPermutation hs new → AreLeft crowd price s level hs
+    → AreLeft crowd price s level new
+left_moved crowd price s level hs new moved left = record {
+  students = All-permutation (λ (h : ℕ × ℕ). h.1 < length crowd.students) hs new moved left.students;
+  once = λ i. subst (λ (n : ℕ). n ≤ 1) (sym (same i)) (left.once i);
+  keep = All-permutation (Keeps crowd price s level) hs new moved left.keep;
+  others = λ i is. subst (λ (n : ℕ). 1 ≤ n) (sym (same i)) (left.others i is);
+}
+  where
+    same : (i : ℕ) → listed i new ≡ listed i hs
+    same i = sum_by-IsPermutation (λ (h : ℕ × ℕ). if h.1 == i then 1 else 0) hs new moved
 
 -- prices of which the section's is raised to one that is at most the top
 pub raised_prices : (crowd : CrowdData) (prices : List Tokens) (s q : ℕ) → ArePricesFor crowd prices → q ≤ top crowd
@@ -441,12 +469,6 @@ keeps_there crowd prices s q i holder are within is room later capped still =
           (λ t apart. price_kept prices s q t apart))
           ∙ still;
     }
-
--- a price that is written twice, and one that is put back
-pub written_twice : (prices : List Tokens) (i : ℕ) (a b : Tokens) → slice_set (slice_set prices i a) i b ≡ slice_set prices i b
-written_twice [] i a b = refl
-written_twice (x ∷ xs) zero a b = refl
-written_twice (x ∷ xs) (suc i) a b = ap (λ ys. x ∷ ys) (written_twice xs i a b)
 
 -- a holder that was found at the present prices, however they are read
 pub keeps_now : (crowd : CrowdData) (prices read : List Tokens) (s i : ℕ) (holder : ℕ × ℕ) → read ≡ prices → holder.1 ≡ i → holder.0 ≤ 1000001

@@ -1,5 +1,5 @@
 -- What is remembered of a student, where a single section became cheaper.
-use Rattle.std.proofs.Common.{ℕ, suc, Bool, All, ◌≡◌, ◌≢◌, ◌<◌, ◌≤◌, ◌+◌, ◌∙◌, List, length, slice_index_or, refl, ap, sym, subst, true≢false, arith, inl, inr}
+use Rattle.std.proofs.Common.{ℕ, suc, Bool, All, ◌≡◌, ◌≢◌, ◌<◌, ◌≤◌, ◌+◌, ◌∙◌, List, length, slice_index_or, ap, sym, subst, true≢false, arith, inl, inr}
 use Rattle.std.specs.Prelude.{nat_lt}
 use Rattle.std.proofs.lemmas.Bool.{cases_order}
 use Rattle.market_units.specs.declared.units.Tokens.{Tokens}
@@ -32,15 +32,6 @@ leads_where_cheaper wishes before after budget fewer allowed section bundle same
       best.preferred other (record { feasible = choice.feasible; affordable = omega arith; within = λ s is. sym (same s) ∙ choice.within s is }) apart;
 }
 
--- a section from the first to before the next one is the first
-pub no_other_cheaper : (first past : ℕ) (before after : List Tokens) (s : ℕ) → AreWithin first past before after → past ≡ first + 1 → s < length before
-    → s < length after → s ≢ first → price_in before s ≤ price_in after s
-no_other_cheaper first past before after s within one low low' other = elim (cases_order s first) [
-  | inl same ↦ absurd (other same)
-  | inr (inl below) ↦ within.below s low low' below
-  | inr (inr above) ↦ within.above s low low' (omega arith)
-]
-
 -- no rated section but that one became cheaper
 pub dearer_but : (menu : MenuData) (sections first past section : ℕ) (before after : List Tokens)
     → All (λ (rated : Rated). rated.section.0 < sections) menu.places → length before ≡ sections → length after ≡ sections → AreWithin first past before after
@@ -48,23 +39,21 @@ pub dearer_but : (menu : MenuData) (sections first past section : ℕ) (before a
 unfolding wishes_of
 dearer_but menu sections first past section before after below same same' within its one s rated other =
     let low : suc s ≤ sections = rated_no_cheaper menu.places (λ t. suc t) (λ t. sections) below s rated in
-    no_other_cheaper first past before after s within one (omega arith) (omega arith) (λ e. other (e ∙ sym its))
+    elim (cases_order s first) [
+      | inl at ↦ absurd (other (at ∙ sym its))
+      | inr (inl less) ↦ within.below s (omega arith) (omega arith) less
+      | inr (inr more) ↦ within.above s (omega arith) (omega arith) (omega arith)
+    ]
 
 -- so it is with what a student took
-pub leads_demand : (crowd : Crowd) (before after : ℕ → ℕ) (i : ℕ) (menu : MenuData) (budget : Tokens)
-    (allowed : ℕ → Bool) (section : ℕ) (bundle : List ℕ)
-    → i < length crowd.menus.items
-    → menu ≡ slice_index_or crowd.menus.items i menu → budget ≡ slice_index_or crowd.budgets.items i budget → ((s : ℕ) → allowed s ≡ nat_lt s crowd.sections)
+pub leads_demand : (crowd : Crowd) (before after : ℕ → ℕ) (i : ℕ) (menu : MenuData) (budget : Tokens) (allowed : ℕ → Bool) (section : ℕ) (bundle : List ℕ)
+    → i < length crowd.menus.items → menu ≡ slice_index_or crowd.menus.items i menu → budget ≡ slice_index_or crowd.budgets.items i budget
+    → ((s : ℕ) → allowed s ≡ nat_lt s crowd.sections)
     → ((s : ℕ) → 0 < (wishes_of menu).rating s → s ≢ section → before s ≤ after s) → total after bundle ≤ budget.0
     → bundle ≡ demand_of (data_of crowd) before i → LeadsThoseWithout (wishes_of menu) after budget.0 allowed section bundle
 leads_demand crowd before after i menu budget allowed section bundle low is has_it allows dearer affordable told =
     let within : ℕ → Bool = λ t. nat_lt t crowd.sections in
     let was : bundle ≡ demand crowd.sections before (record { menu = menu; budget = budget.0 }) =
-    told ∙ demand_at crowd before i menu budget low ∙ same_student in
-    let best : IsBest (wishes_of menu) before budget.0 within bundle =
-    subst (IsBest (wishes_of menu) before budget.0 within) (sym was) (best-is menu before budget.0 within) in
-    leads_where_cheaper (wishes_of menu) before after budget.0 within allowed section bundle allows dearer best affordable
-  where
-    same_student : demand crowd.sections before (record { menu = slice_index_or crowd.menus.items i menu; budget = (slice_index_or crowd.budgets.items i budget).0 })
-        ≡ demand crowd.sections before (record { menu = menu; budget = budget.0 })
-    same_student = rw (← is, ← has_it) refl
+    told ∙ rw (← is, ← has_it) at (demand_at crowd before i menu budget low) in
+    leads_where_cheaper (wishes_of menu) before after budget.0 within allowed section bundle allows dearer
+    (subst (IsBest (wishes_of menu) before budget.0 within) (sym was) (best-is menu before budget.0 within)) affordable

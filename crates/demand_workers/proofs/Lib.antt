@@ -1,6 +1,7 @@
 pub mod Allowing
 pub mod Spending
 pub mod Surveying
+pub mod Exchanging
 pub mod Counting
 pub mod HolderSums
 pub mod HoldersLeave

@@ -34,6 +34,12 @@ one_is_round crowd prices ask are its =
     only P x is zero d low = is
     only P x is (suc k) d low = absurd (omega (arith, low))
 
+-- the prices of a version
+pub version_prices : (versions : List (Vec Tokens Global)) (v : ℕ) (version : Vec Tokens Global) (prices : List Tokens) → v < length versions
+    → version ≡ slice_index_or versions v version → prices ≡ version.items → slice_index_or (prices_of versions) v [] ≡ prices
+version_prices versions v version prices low at are =
+    get_or-map (λ (w : Vec Tokens Global). w.items) versions v version [] low ∙ ap (λ (w : Vec Tokens Global). w.items) (sym at) ∙ sym are
+
 -- copies of versions are versions
 pub copies_priced : (crowd : CrowdData) (versions copies : List (Vec Tokens Global)) → prices_of copies ≡ prices_of versions → AreVersionsFor crowd versions
     → AreVersionsFor crowd copies

@@ -14,9 +14,9 @@ none_gone zero = refl
 none_gone (suc n) = none_gone n
 
 -- one answer more is noted
-pub gone_noted : (marks : List (Mark Told)) (task : ℕ) (answer : Told) (gone : Bool) → gone ≡ are_gone (answers_in marks)
-    → task < length marks → answer_in (mark_at marks task) ≡ None
+pub gone_noted : (marks : List (Mark Told)) (count task : ℕ) (answer : Told) (gone : Bool) → gone ≡ are_gone (answers_in marks) → length marks ≡ count
+    → task < count → answer_in (mark_at marks task) ≡ None
     → (says_gone (Some answer) || gone) ≡ are_gone (slice_set (answers_in marks) task (Some answer))
-gone_noted marks task answer gone is low none =
+gone_noted marks count task answer gone is each low none =
     ap (λ b. says_gone (Some answer) || b) is
-    ∙ sym (gone_posted (answers_in marks) task answer (get_or-map answer_in marks task Open (Some answer) low ∙ none))
+    ∙ sym (gone_posted (answers_in marks) task answer (get_or-map answer_in marks task Open (Some answer) (rw each low) ∙ none))

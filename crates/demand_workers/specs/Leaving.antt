@@ -1,7 +1,9 @@
 -- Holders of a section whose price rises, and who of them is left at a price.
-use Rattle.std.specs.Prelude.{ℕ, ◌<◌, ◌≤◌, ◌≡◌, ◌-◌, ◌==◌, Bool, true, List, All, length, if◌then◌else◌}
+use Rattle.std.specs.Prelude.{ℕ, ◌<◌, ◌≤◌, ◌≡◌, ◌-◌, ◌==◌, Bool, true, List, All, length, slice_index_or, if◌then◌else◌}
+use Rattle.std.proofs.Common.{Vec, Global}
 use Rattle.std.specs.List.{sum_by}
 use Rattle.market_units.specs.declared.limits.TheConstants.{MAX_PRICE}
+use Rattle.market_units.specs.declared.units.SectionNo.{SectionNo}
 use Rattle.market_units.specs.Members.{has}
 use Rattle.demand_api.specs.Crowds.{CrowdData, top, demand_of}
 use Rattle.demand_api.specs.Prices.{with_price}
@@ -36,3 +38,12 @@ pub record AreLeft (crowd : CrowdData) (price : ℕ → ℕ) (s level : ℕ)
   pub once : (student : ℕ) → listed student holders ≤ 1
   pub keep : All (Keeps crowd price s level) holders
   pub others : (student : ℕ) → takes crowd price s level student ≡ true → 1 ≤ listed student holders
+
+-- at its place is a list of all who hold the section, for the section of each of these pairs
+abbrev pub AreListed : CrowdData → (ℕ → ℕ) → List (SectionNo × ℕ)
+    → List (Vec (ℕ × ℕ) Global) → Type 0
+AreListed crowd price pairs lists =
+    All
+    (λ pair. (d : _) → AreLeft crowd price pair.0.0 (price pair.0.0)
+    (slice_index_or lists pair.0.0 d).items)
+    pairs

@@ -1,6 +1,7 @@
 pub mod Allowances
 pub mod Answering
 pub mod Asked
+pub mod Foreseen
 pub mod Found
 pub mod Inquiring
 pub mod Lasting

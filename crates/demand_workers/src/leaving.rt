@@ -1,13 +1,11 @@
 // Holders of a section, by the prices at which they leave it.
-ghost use Rattle.std.specs.Prelude.{◌≡◌, ◌<◌, ◌≤◌, ◌-◌, IfOk, true};
+ghost use Rattle.std.specs.Prelude.{◌≡◌, ◌<◌, ◌≤◌, ◌-◌, All, IfOk, length, true};
 ghost use Rattle.std.specs.Arc.{arc_value};
-ghost use Rattle.std.specs.BinaryHeap.{IsHeap, heap_items};
-ghost use Rattle.std.specs.Ordering.{nat_cmp, ordering_then};
 ghost use Rattle.bundle_rules.specs.{Bundles.sections_of, Demand.price_in};
 ghost use Rattle.market_units.specs.Members.{has};
 ghost use Rattle.demand_api.specs.Crowds.{top};
 ghost use Rattle.demand_workers.specs.Answering.{answer_to};
-ghost use Rattle.demand_workers.specs.Leaving.{leaves, takes, AreLeft};
+ghost use Rattle.demand_workers.specs.Leaving.{leaves, takes, AreListed};
 ghost use Rattle.demand_workers.specs.Views.{crowd_of, price_before};
 
 use crate::question::Question;
@@ -15,7 +13,6 @@ use crate::remembered::Remembered;
 use bundle_rules::{Bundle, price_of};
 use market_units::{MAX_PRICE, NoMemory, SectionNo, StudentNo, Tokens};
 use std::alloc::Global;
-use std::collections::BinaryHeap;
 use std::sync::Arc;
 
 // A price of a section from its remembered one up, at most the top, the others as remembered.
@@ -34,36 +31,44 @@ pub(crate) struct Walk {
 // and its number. So the greatest is the first to leave.
 pub(crate) type Holder = (u32, u16);
 
-/// All who hold the section at the remembered prices, the first to leave on top. The only error is
-/// that memory was not given.
+/// Lists of holders at the remembered prices, by the ordinal of the section. All who hold a section
+/// of these pairs are listed; of one pair alone no other section has a list. The only error is that
+/// memory was not given.
 pub(crate) fn holders_of(
     alloc: Global,
     remembered: &Remembered,
-    section: SectionNo,
-) -> Result<BinaryHeap<Holder>, NoMemory>
-    requires { section.0 < (arc_value remembered.now.crowd).sections }
-    ensures heap { IfOk result
-        (λ holders. IsHeap (λ a b. ordering_then (nat_cmp a.0 b.0) (nat_cmp a.1 b.1))
-        (heap_items holders)) }
+    pairs: &[(SectionNo, u32)],
+) -> Result<Vec<Vec<Holder>>, NoMemory>
+    requires { All (λ pair. pair.0.0 < (arc_value remembered.now.crowd).sections) pairs.now }
+    ensures len { IfOk result
+        (λ lists. length lists.items ≡ (arc_value remembered.now.crowd).sections) }
     ensures left { IfOk result
-        (λ holders. AreLeft (crowd_of remembered.now) (price_before remembered.now) section.0
-        (price_before remembered.now section.0) (heap_items holders)) }
+        (λ lists. AreListed (crowd_of remembered.now) (price_before remembered.now) pairs.now
+        lists.items) }
 {
-    let mut holders = BinaryHeap::new(alloc);
+    let mut lists = Vec::new(alloc);
+    'sections: for _ in 0..remembered.prices.len() {
+        lists.push(Vec::new(alloc))?;
+    }
     for place in 0..remembered.bundles.len() {
         let bundle = &remembered.bundles[place];
-        if !bundle.has(section) {
-            continue;
-        }
         let question = Question {
             remembered,
             prices: &remembered.prices,
             student: StudentNo(place as u16),
         };
-        let holder = holder_of(&question, section, bundle);
-        holders.push(holder)?;
+        let sections = bundle.sections();
+        for index in 0..sections.len() {
+            let section = sections[index];
+            if pairs.len() == 1 && pairs[0].0.0 != section.0 {
+                continue;
+            }
+            let holder = holder_of(&question, section, bundle);
+            let list = &mut lists[usize::from(section.0)];
+            list.push(holder)?;
+        }
     }
-    Ok(holders)
+    Ok(lists)
 }
 
 /// The holder with its bundle at these prices: it keeps the bundle as long as the section costs no
@@ -80,8 +85,8 @@ pub(crate) fn holder_of(question: &Question, section: SectionNo, bundle: &Bundle
         section.0 (leaves result - 1) question.now.student.0
         ≡ true }
 {
+    let price = question.prices[usize::from(section.0)].0;
     let cost = price_of(question.prices, bundle.sections());
     let left = question.budget().0 - cost;
-    let last = question.prices[usize::from(section.0)].0 + left;
-    (MAX_PRICE - (last + 1), question.student.0)
+    (MAX_PRICE - (price + left + 1), question.student.0)
 }

@@ -13,6 +13,7 @@ mod asker;
 mod beside;
 mod cheaper;
 mod counted;
+mod foreseen;
 mod found;
 mod ground;
 mod heard;

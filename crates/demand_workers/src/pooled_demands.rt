@@ -1,9 +1,10 @@
 // Demands of a crowd that workers find.
-ghost use Rattle.std.specs.Prelude.{◌≡◌, ◌*◌, [], IfOk, IfSome, length};
+ghost use Rattle.std.specs.Prelude.{◌≡◌, ◌≤◌, ◌+◌, ◌*◌, [], IfOk, IfSome, length};
 ghost use Rattle.std.specs.Arc.{arc_value};
 ghost use Rattle.demand_api.specs.Asking.{ArePricesFor, RoseAtMost};
 ghost use Rattle.demand_api.specs.Views.{data_of};
-ghost use Rattle.demand_workers.specs.Rounds.{AreVersionsFor, prices_of};
+ghost use Rattle.demand_workers.specs.{Foreseen.AreNext, Rounds.AreVersionsFor};
+ghost use Rattle.demand_workers.specs.Rounds.{prices_of};
 ghost use Rattle.demand_workers.specs.Remembered.{AreTaken};
 ghost use Rattle.demand_workers.specs.Views.{crowd_of};
 ghost use Rattle.std.proofs.Props.{props};
@@ -13,20 +14,27 @@ ghost use Rattle.bundle_rules.specs.contracts.menu.Rated as rated;
 use crate::Pool;
 use crate::allowance::walks_for;
 use crate::answering::read_all;
-use crate::inquiry::{Inquiries, copies_of};
+use crate::foreseen::Foreseen;
+use crate::leaving::holders_of;
 use crate::notes::Notes;
 use crate::remembered::{Remembered, are_same};
 use crate::survey::Survey;
 use crate::taking::read_listed;
-use crate::unsettled::unsettled;
+use crate::unsettled::inquiries_at;
 use bundle_rules::Bundle;
 use demand_api::{Crowd, Demands};
 use market_edge::{AnyGate, Gate};
-use market_units::{NoMemory, SectionNo, SectionSet, StudentNo, Tokens};
+use market_units::{
+    MAX_STUDENTS, MAX_VERSIONS, NoMemory, SectionNo, SectionSet, StudentNo, Tokens,
+};
 use price_board::Ask;
 use std::alloc::Global;
 use std::sync::{Arc, Wait};
 use std::thread::Threads;
+
+// At most so many inquiries are made before counts are asked for: as many as two calls of `counts`
+// can make, so that not much more memory is wanted.
+const MOST_AHEAD: usize = 2 * MAX_VERSIONS * MAX_STUDENTS as usize;
 
 /// A crowd that is asked by the workers of a pool, each with a workspace of its own. What each
 /// student takes at some prices is remembered. Whom that does not settle at the versions of a call
@@ -51,12 +59,15 @@ pub struct PooledDemands<G> {
     pub(crate) inquiries: u64,
     pub(crate) remembered: Option<Arc<Remembered>>,
     notes: Option<Notes>,
+    // The last survey that counts were asked of, or will be where they were foreseen.
+    foreseen: Option<Foreseen>,
     // How many seats each section has, where that was told, and there are several workers.
     pub(crate) seats: Option<Vec<u16>>,
     // The pairs of a call whose walks are rehearsed where somebody has to be asked; `None` where
     // they were, and for one worker.
     pub(crate) ahead: Option<Vec<(SectionNo, u32)>>,
     ghost same: { IfSome remembered (λ memory. crowd_of (arc_value memory) ≡ data_of (arc_value crowd)) } by { Prim.hlevel (props, codes, rated.the_row.coded) },
+    ghost surveyed: { IfSome foreseen (λ foreseen. crowd_of (arc_value (arc_value foreseen.survey.found.inquiries).remembered) ≡ data_of (arc_value crowd)) } by { Prim.hlevel (props, codes, rated.the_row.coded) },
     ghost noted: { IfSome notes (λ noted. crowd_of (arc_value noted.remembered) ≡ data_of (arc_value crowd)) } by { Prim.hlevel (props, codes, rated.the_row.coded) },
 }
 
@@ -81,6 +92,7 @@ impl<'g> PooledDemands<AnyGate<'g>> {
             inquiries: 0,
             remembered: None,
             notes: None,
+            foreseen: None,
             seats: None,
             ahead: None,
         }
@@ -201,14 +213,43 @@ impl<'g> PooledDemands<AnyGate<'g>> {
             (λ survey. prices_of (arc_value survey.found.inquiries).versions.items
             ≡ prices_of versions.now) }
     {
-        let list = unsettled(rt, alloc, self.pool.workers, remembered, versions)?;
-        let inquiries = Inquiries {
-            remembered: Arc::try_clone(remembered)?,
-            versions: copies_of(alloc, versions)?,
-            list,
-        };
+        let inquiries = inquiries_at(rt, alloc, self.pool.workers, remembered, versions)?;
         let found = self.inquire(rt, alloc, inquiries)?;
-        Ok(Survey { found })
+        Survey::of(alloc, found)
+    }
+
+    // A survey of which these versions come next: the foreseen one, or else a new one. What is
+    // remembered once stays as it is here: a search counts its neighbours and then asks again near
+    // the vector where it stands.
+    fn surveyed<R: Threads + Wait + Sync>(
+        &mut self,
+        rt: &R,
+        alloc: Global,
+        batch: &[Vec<Tokens>],
+    ) -> Result<Foreseen, NoMemory>
+        requires some { 1 ≤ length batch.now }
+        requires prices { AreVersionsFor (data_of (arc_value self.old.crowd)) batch.now }
+        ensures kept { (self.new.crowd ≡ self.old.crowd) × (self.new.asked ≡ self.old.asked) }
+        ensures inquiries { RoseAtMost
+            ((length batch.now + 1) * length (data_of (arc_value self.old.crowd)).students)
+            self.old.inquiries self.new.inquiries }
+        ensures crowd { IfOk result
+            (λ foreseen. crowd_of
+            (arc_value (arc_value foreseen.survey.found.inquiries).remembered)
+            ≡ data_of (arc_value self.old.crowd)) }
+        ensures next { IfOk result
+            (λ foreseen. AreNext
+            (prices_of (arc_value foreseen.survey.found.inquiries).versions.items)
+            foreseen.done (prices_of batch.now)) }
+    {
+        if let Some(foreseen) = self.foreseen.take() {
+            if foreseen.goes_on_with(batch) {
+                return Ok(foreseen);
+            }
+        }
+        let remembered = self.recall_first(rt, alloc, &batch[0])?;
+        let survey = self.survey(rt, alloc, &remembered, batch)?;
+        Ok(Foreseen { survey, done: 0 })
     }
 
     // Remembers what each student takes at these prices.
@@ -298,15 +339,34 @@ impl Demands for PooledDemands<AnyGate<'_>> {
     ) -> Result<Vec<Vec<u32>>, NoMemory> {
         self.asked = self.asked.saturating_add(1);
         let mut found = Vec::with_capacity(alloc, batch.len())?;
-        // What is remembered once stays as it is here: a search counts its neighbours and then asks
-        // again near the vector where it stands.
-        let remembered = self.recall_first(rt, alloc, &batch[0])?;
-        let survey = self.survey(rt, alloc, &remembered, batch)?;
+        let Foreseen { survey, done } = self.surveyed(rt, alloc, batch)?;
+        let base = survey.remembered_counts(alloc)?;
         for version in 0..batch.len() {
-            let counts = survey.counts_at(alloc, version)?;
+            let counts = survey.counts_at(alloc, &base, done + version)?;
             found.push(counts)?;
         }
+        let done = done + batch.len();
+        self.foreseen = Some(Foreseen { survey, done });
         Ok(found)
+    }
+
+    fn foresee<R: Threads + Wait + Sync>(
+        &mut self,
+        rt: &R,
+        alloc: Global,
+        vectors: &[Vec<Tokens>],
+    ) -> Result<(), NoMemory> {
+        if self.pool.workers == 1 || vectors.is_empty() {
+            return Ok(());
+        }
+        let remembered = self.recall_first(rt, alloc, &vectors[0])?;
+        let inquiries = inquiries_at(rt, alloc, self.pool.workers, &remembered, vectors)?;
+        if inquiries.list.len() <= MOST_AHEAD {
+            let found = self.inquire(rt, alloc, inquiries)?;
+            let survey = Survey::of(alloc, found)?;
+            self.foreseen = Some(Foreseen { survey, done: 0 });
+        }
+        Ok(())
     }
 
     fn bundles<R: Threads + Wait + Sync>(
@@ -348,14 +408,16 @@ impl Demands for PooledDemands<AnyGate<'_>> {
         let remembered = self.recall(rt, alloc, prices)?;
         let mut notes = self.notes_with(alloc, remembered);
         let mut left = walks_for(&self.crowd, pairs.len());
-        let [(section, limit)] = pairs else {
+        let [pair] = pairs else {
             let found = self.least_for_each(rt, alloc, &mut notes, pairs, &mut left)?;
             self.notes = Some(notes);
             return Ok(found);
         };
         // What is taken at the least price is remembered: who raises the price asks for it next.
         self.ahead = self.pairs_ahead(alloc, pairs)?;
-        let walk = self.least_price(rt, alloc, &mut notes, *section, *limit, &mut left)?;
+        let lists = holders_of(alloc, &notes.remembered, pairs)?;
+        let list = &lists[usize::from(pair.0.0)];
+        let walk = self.least_price(rt, alloc, &mut notes, *pair, list, &mut left)?;
         let memory = self.raised_memory(rt, alloc, &notes, &walk)?;
         let found = vec![in alloc; walk.least; 1]?;
         self.remembered = Some(Arc::new(alloc, memory)?);

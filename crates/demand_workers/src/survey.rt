@@ -1,18 +1,18 @@
 // What the students of a crowd take at some versions.
-ghost use Rattle.std.specs.Prelude.{◌≡◌, ◌<◌, [], IfOk, length, slice_index_or};
+ghost use Rattle.std.specs.Prelude.{◌≡◌, ◌<◌, [], All, IfOk, length, slice_index_or};
 ghost use Rattle.std.specs.Arc.{arc_value};
 ghost use Rattle.bundle_rules.specs.Demand.{price_in};
 ghost use Rattle.demand_api.specs.Crowds.{counts};
 ghost use Rattle.demand_workers.specs.{Remembered.AreTaken, Rounds.prices_of};
-ghost use Rattle.demand_workers.specs.{Surveyed.AreSurveyed, Views.crowd_of};
+ghost use Rattle.demand_workers.specs.Surveyed.{AreParts, AreSurveyed};
+ghost use Rattle.demand_workers.specs.Views.{AreRememberedCounts, crowd_of};
 
 use crate::found::Found;
-use crate::inquiry::Inquiries;
+use crate::inquiry::{Inquiries, Inquiry};
 use crate::remembered::Remembered;
-use crate::taking::count_all;
 use crate::unsettled::write_found;
 use bundle_rules::Bundle;
-use demand_api::Crowd;
+use demand_api::{Crowd, count_bundles, exchange_bundle};
 use market_units::{NoMemory, Tokens};
 use std::alloc::Global;
 
@@ -21,10 +21,45 @@ use std::alloc::Global;
 #[derive(Drop)]
 pub(crate) struct Survey {
     pub found: Found,
+    // Between which places all inquiries at a version stand, for each of them.
+    parts: Vec<(usize, usize)>,
     pub ghost surveyed: { AreSurveyed (arc_value found.inquiries) },
+    ghost each: { length parts.items ≡ length (arc_value found.inquiries).versions.items },
+    ghost parted: { AreParts (arc_value found.inquiries).list.items (length (arc_value found.inquiries).list.items) parts.items },
+}
+
+// Between which places all inquiries at a version stand, for each of so many versions.
+fn parts_of(
+    alloc: Global,
+    versions: usize,
+    inquiries: &[Inquiry],
+) -> Result<Vec<(usize, usize)>, NoMemory>
+    requires { All (λ inquiry. inquiry.version < versions) inquiries.now }
+    ensures each { IfOk result (λ parts. length parts.items ≡ versions) }
+    ensures parts { IfOk result
+        (λ parts. AreParts inquiries.now (length inquiries.now) parts.items) }
+{
+    let mut parts = vec![in alloc; (0, 0); versions]?;
+    for place in 0..inquiries.len() {
+        let version = inquiries[place].version;
+        let (first, past) = parts[version];
+        let from = if first < past { first } else { place };
+        parts[version] = (from, place + 1);
+    }
+    Ok(parts)
 }
 
 impl Survey {
+    /// What was found for all who have to be asked. The only error is that memory was not given.
+    pub(crate) fn of(alloc: Global, found: Found) -> Result<Survey, NoMemory>
+        requires { AreSurveyed (arc_value found.inquiries) }
+        ensures { IfOk result (λ survey. survey.found ≡ found) }
+    {
+        let inquiries: &Inquiries = &found.inquiries;
+        let parts = parts_of(alloc, inquiries.versions.len(), &inquiries.list)?;
+        Ok(Survey { found, parts })
+    }
+
     /// What each student takes at a version: what was found for it there, or what is remembered.
     /// The only error is that memory was not given.
     pub(crate) fn bundles_at(&self, alloc: Global, version: usize) -> Result<Vec<Bundle>, NoMemory>
@@ -56,10 +91,34 @@ impl Survey {
         Ok(bundles)
     }
 
-    /// How many students take each section at a version. The only error is that memory was not
-    /// given.
-    pub(crate) fn counts_at(&self, alloc: Global, version: usize) -> Result<Vec<u32>, NoMemory>
-        requires { version < length (arc_value self.now.found.inquiries).versions.items }
+    /// How many students take each section, of what is remembered. The only error is that memory
+    /// was not given.
+    pub(crate) fn remembered_counts(&self, alloc: Global) -> Result<Vec<u32>, NoMemory>
+        ensures { IfOk result
+            (λ base. AreRememberedCounts
+            (arc_value (arc_value self.now.found.inquiries).remembered) base.items) }
+    {
+        let inquiries: &Inquiries = &self.found.inquiries;
+        let remembered: &Remembered = &inquiries.remembered;
+        count_bundles(
+            alloc,
+            usize::from(remembered.crowd.sections),
+            &remembered.bundles,
+        )
+    }
+
+    /// How many students take each section at a version. The base is how many take it of what is
+    /// remembered; for who was asked at the version, what was found is counted in its place. The
+    /// only error is that memory was not given.
+    pub(crate) fn counts_at(
+        &self,
+        alloc: Global,
+        base: &[u32],
+        version: usize,
+    ) -> Result<Vec<u32>, NoMemory>
+        requires version { version < length (arc_value self.now.found.inquiries).versions.items }
+        requires base { AreRememberedCounts
+            (arc_value (arc_value self.now.found.inquiries).remembered) base.now }
         ensures { IfOk result
             (λ counted. counted.items
             ≡ counts (crowd_of (arc_value (arc_value self.now.found.inquiries).remembered))
@@ -67,12 +126,22 @@ impl Survey {
             (prices_of (arc_value self.now.found.inquiries).versions.items) version []))) }
     {
         let inquiries: &Inquiries = &self.found.inquiries;
-        let remembered: &Remembered = &inquiries.remembered;
-        let crowd: &Crowd = &remembered.crowd;
-        let prices: &[Tokens] = &inquiries.versions[version];
-        let bundles = self.bundles_at(alloc, version)?;
-        let mut counted = vec![in alloc; 0; usize::from(crowd.sections)]?;
-        count_all(crowd, prices, &bundles, &mut counted);
+        let mut bundles = inquiries.remembered.bundles.as_slice().to_vec(alloc)?;
+        let mut counted = base.to_vec(alloc)?;
+        let (first, past) = self.parts[version];
+        'part: for place in first..past {
+            let inquiry = inquiries.list[place];
+            if inquiry.version != version {
+                continue;
+            }
+            let student = usize::from(inquiry.student.0);
+            exchange_bundle(
+                &mut counted,
+                &mut bundles,
+                student,
+                self.found.bundles[place],
+            );
+        }
         Ok(counted)
     }
 }

@@ -1,15 +1,14 @@
 // What students take, found in one thread: remembered where that serves, else asked.
-ghost use Rattle.std.specs.Prelude.{◌≡◌, ◌<◌, ℕ, All, length, map, nat_lt, replicate};
+ghost use Rattle.std.specs.Prelude.{◌≡◌, ◌<◌, All, length, map};
 ghost use Rattle.std.specs.Arc.{arc_value};
 ghost use Rattle.bundle_rules.specs.{Bundles.sections_of, Demand.price_in};
-ghost use Rattle.demand_api.specs.{Crowds.counts, Crowds.demand_of, Views.data_of};
-ghost use Rattle.demand_workers.specs.{Answering.answer_to, Remembered.AreTaken};
+ghost use Rattle.demand_api.specs.Crowds.{demand_of};
+ghost use Rattle.demand_workers.specs.Answering.{answer_to};
 ghost use Rattle.demand_workers.specs.Views.{crowd_of, price_before};
 
 use crate::question::Question;
 use crate::remembered::Remembered;
 use bundle_rules::Bundle;
-use demand_api::{Crowd, count_bundle};
 use demand_oracle::{Workspace, demand_from};
 use market_units::{StudentNo, Tokens};
 
@@ -47,17 +46,5 @@ pub(crate) fn read_listed(remembered: &Remembered, students: &[StudentNo], bundl
 {
     for place in 0..students.len() {
         bundles[place] = remembered.bundles[usize::from(students[place].0)];
-    }
-}
-
-/// Counts, from 0, how many students take each section, of what each takes at these prices.
-pub(crate) fn count_all(_crowd: &Crowd, _prices: &[Tokens], bundles: &[Bundle], found: &mut [u32])
-    requires all { length bundles.now ≡ length _crowd.now.menus.items }
-    requires taken { AreTaken (data_of _crowd.now) _prices.now bundles.now }
-    requires zeros { found.old ≡ replicate _crowd.now.sections 0 }
-    ensures { found.new ≡ counts (data_of _crowd.now) (price_in _prices.now) }
-{
-    for place in 0..bundles.len() {
-        count_bundle(found, bundles[place].sections());
     }
 }

@@ -1,32 +1,64 @@
 // Students whom what is remembered does not settle.
 ghost use Rattle.std.specs.Prelude.{◌≡◌, ◌<◌, ◌≤◌, ◌+◌, ◌*◌, ℕ, [], All, IfOk, false, length};
 ghost use Rattle.std.specs.Prelude.{max, slice_index_or};
+ghost use Rattle.std.specs.Arc.{arc_value};
 ghost use Rattle.bundle_rules.specs.{Bundles.sections_of, Demand.price_in};
 ghost use Rattle.demand_api.specs.{Crowds.demand_of, Views.data_of};
 ghost use Rattle.demand_workers.specs.{Asked.no_inquiry, Remembered.AreTaken};
 ghost use Rattle.demand_workers.specs.Rounds.{AreVersionsFor, prices_of};
+ghost use Rattle.demand_workers.specs.Surveyed.{AreSurveyed};
 ghost use Rattle.demand_workers.specs.Surveys.{AreEachWithin, AreOthersKept, AreSettledRows};
 ghost use Rattle.demand_workers.specs.Surveys.{IsSettledRow, IsSurvey};
 ghost use Rattle.demand_workers.specs.Views.{crowd_of};
 
 use crate::cheaper::Cheaper;
-use crate::inquiry::Inquiry;
+use crate::inquiry::{Inquiries, Inquiry, copies_of};
 use crate::question::Question;
 use crate::remembered::Remembered;
 use bundle_rules::Bundle;
 use demand_api::Crowd;
-use market_units::{MAX_VERSIONS, NoMemory, StudentNo, Tokens};
+use market_units::{MAX_SECTIONS, MAX_STEPS, NoMemory, StudentNo, Tokens};
 use std::alloc::Global;
+use std::sync::Arc;
 use std::thread::Threads;
 use worker_threads::for_each_mut;
 
 // A thread is worth its start for so many students, each counted at each version.
 const SHARE: usize = 4096;
 
-/// An inquiry for each student at each of these versions at which what is remembered does not
-/// settle what it takes. Several workers look for them where that is worth a thread. The only error
-/// is that memory was not given.
-pub(crate) fn unsettled<R: Threads + Sync>(
+// So many neighbours a turn of a search has at most: one for each step, and one for each section.
+const ROW: usize = MAX_STEPS + MAX_SECTIONS as usize;
+
+/// The inquiries at these versions that have to be made, of what is remembered. The only error is
+/// that memory was not given.
+pub(crate) fn inquiries_at<R: Threads + Sync>(
+    rt: &R,
+    alloc: Global,
+    workers: u16,
+    remembered: &Arc<Remembered>,
+    versions: &[Vec<Tokens>],
+) -> Result<Inquiries, NoMemory>
+    requires { AreVersionsFor (crowd_of (arc_value remembered.now)) versions.now }
+    ensures few { IfOk result
+        (λ inquiries. length inquiries.list.items
+        ≤ length versions.now * length (crowd_of (arc_value remembered.now)).students) }
+    ensures remembered { IfOk result
+        (λ inquiries. arc_value inquiries.remembered ≡ arc_value remembered.now) }
+    ensures versions { IfOk result
+        (λ inquiries. prices_of inquiries.versions.items ≡ prices_of versions.now) }
+    ensures surveyed { IfOk result AreSurveyed }
+{
+    let list = unsettled(rt, alloc, workers, remembered, versions)?;
+    Ok(Inquiries {
+        remembered: Arc::try_clone(remembered)?,
+        versions: copies_of(alloc, versions)?,
+        list,
+    })
+}
+
+// An inquiry for each student at each of these versions at which what is remembered does not settle
+// what it takes. Several workers look for them where that is worth a thread.
+fn unsettled<R: Threads + Sync>(
     rt: &R,
     alloc: Global,
     workers: u16,
@@ -57,14 +89,14 @@ fn settled_rows<R: Threads + Sync>(
     workers: u16,
     remembered: &Remembered,
     versions: &[Vec<Tokens>],
-) -> Result<Vec<[bool; MAX_VERSIONS]>, NoMemory>
+) -> Result<Vec<[bool; ROW]>, NoMemory>
     requires { AreVersionsFor (crowd_of remembered.now) versions.now }
     ensures { IfOk result
         (λ rows. AreSettledRows (crowd_of remembered.now) remembered.now.bundles.items
         (prices_of versions.now) rows.items) }
 {
     let cheaper = cheaper_at_each(alloc, remembered, versions)?;
-    let mut rows = vec![in alloc; [false; MAX_VERSIONS]; remembered.bundles.len()]?;
+    let mut rows = vec![in alloc; [false; ROW]; remembered.bundles.len()]?;
     settle_rows(
         rt,
         workers,
@@ -103,7 +135,7 @@ fn settle_rows<R: Threads + Sync>(
     remembered: &Remembered,
     versions: &[Vec<Tokens>],
     cheaper: &[Cheaper],
-    rows: &mut [[bool; MAX_VERSIONS]],
+    rows: &mut [[bool; ROW]],
 )
     requires versions { AreVersionsFor (crowd_of remembered.now) versions.now }
     requires count { length cheaper.now ≡ length versions.now }
@@ -146,7 +178,7 @@ fn settle_row(
     versions: &[Vec<Tokens>],
     cheaper: &[Cheaper],
     student: usize,
-    row: &mut [bool; MAX_VERSIONS],
+    row: &mut [bool; ROW],
 )
     requires versions { AreVersionsFor (crowd_of remembered.now) versions.now }
     requires count { length cheaper.now ≡ length versions.now }
@@ -174,7 +206,7 @@ fn add_unsettled(
     remembered: &Remembered,
     _versions: &[Vec<Tokens>],
     version: usize,
-    rows: &[[bool; MAX_VERSIONS]],
+    rows: &[[bool; ROW]],
     inquiries: &mut Vec<Inquiry>,
 ) -> Result<(), NoMemory>
     requires version { version < length _versions.now }
@@ -205,7 +237,7 @@ fn add_unsettled(
 
 // Whether the student's row says that it is settled at the version. A student without a row, and
 // one at a version beyond its row, is not known to be.
-fn is_settled(rows: &[[bool; MAX_VERSIONS]], version: usize, student: usize) -> bool
+fn is_settled(rows: &[[bool; ROW]], version: usize, student: usize) -> bool
     ensures { result ≡ slice_index_or (slice_index_or rows.now student []) version false }
 {
     if student >= rows.len() {

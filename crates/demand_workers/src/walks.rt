@@ -7,13 +7,14 @@ ghost use Rattle.demand_api.specs.{Asking.RoseAtMost, Crowds.count, Crowds.top, 
 ghost use Rattle.demand_api.specs.Prices.{AreLeastPrices, IsLeastFrom, with_price};
 ghost use Rattle.demand_workers.specs.Allowances.{HasSpent};
 ghost use Rattle.demand_workers.specs.Inquiring.{IsInquiry, taken_at};
+ghost use Rattle.demand_workers.specs.Leaving.{AreLeft};
 ghost use Rattle.demand_workers.specs.{Rounds.prices_of, Views.crowd_of, Views.price_before};
 
 use crate::PooledDemands;
 use crate::allowance::tasks_for;
 use crate::ground::Ground;
 use crate::inquiry::{Inquiries, Inquiry};
-use crate::leaving::{Walk, holder_of, holders_of};
+use crate::leaving::{Holder, Walk, holder_of, holders_of};
 use crate::notes::Notes;
 use crate::question::Question;
 use crate::rehearsal::Rehearsal;
@@ -25,6 +26,7 @@ use bundle_rules::Bundle;
 use market_edge::AnyGate;
 use market_units::{MAX_PRICE, NoMemory, SectionNo, StudentNo, Tokens};
 use std::alloc::Global;
+use std::collections::BinaryHeap;
 use std::sync::{Arc, Mutex, Wait};
 use std::thread::Threads;
 
@@ -82,13 +84,15 @@ impl PooledDemands<AnyGate<'_>> {
             (λ found. AreLeastPrices (crowd_of (arc_value notes.old.remembered))
             (price_before (arc_value notes.old.remembered)) pairs.now found.items) }
     {
+        let lists = holders_of(alloc, &notes.remembered, pairs)?;
         let mut found = Vec::new(alloc);
         for place in 0..pairs.len() {
-            let (section, limit) = pairs[place];
+            let pair = pairs[place];
+            let list = &lists[usize::from(pair.0.0)];
             self.ahead = self.pairs_ahead(alloc, &pairs[place..])?;
             let mut share = *left / (pairs.len() - place) as u64;
             *left -= share;
-            let walk = self.least_price(rt, alloc, notes, section, limit, &mut share)?;
+            let walk = self.least_price(rt, alloc, notes, pair, list, &mut share)?;
             *left += share;
             found.push(walk.least)?;
         }
@@ -146,24 +150,27 @@ impl PooledDemands<AnyGate<'_>> {
         Ok(())
     }
 
-    /// The walk to the least price of the section for one limit. As long as there are too many
-    /// holders, the first of them to leave is asked at the price from which it does not keep what
-    /// it holds: it holds the section from then on up to another price, or leaves. Before the first
-    /// is asked the walks ahead are rehearsed, if there are any. Where nobody may be asked any
-    /// more, the rest is found by halving, so that no crowd makes a walk long.
+    /// The walk to the least price of a section for one limit, from all who hold it. As long as
+    /// these are too many, the first of them to leave is asked at the price from which it does not
+    /// keep what it holds: it holds the section from then on up to another price, or leaves. Before
+    /// the first is asked the walks ahead are rehearsed, if there are any. Where nobody may be asked
+    /// any more, the rest is found by halving, so that no crowd makes a walk long.
     pub(crate) fn least_price<R: Threads + Wait + Sync>(
         &mut self,
         rt: &R,
         alloc: Global,
         notes: &mut Notes,
-        section: SectionNo,
-        limit: u32,
+        pair: (SectionNo, u32),
+        list: &[Holder],
         left: &mut u64,
     ) -> Result<Walk, NoMemory>
         requires crowd { crowd_of (arc_value notes.old.remembered)
             ≡ data_of (arc_value self.old.crowd) }
-        requires section { section.0
+        requires section { pair.0.0
             < (arc_value (arc_value notes.old.remembered).crowd).sections }
+        requires list { AreLeft (crowd_of (arc_value notes.old.remembered))
+            (price_before (arc_value notes.old.remembered)) pair.0.0
+            (price_before (arc_value notes.old.remembered) pair.0.0) list.now }
         ensures kept { (self.new.crowd ≡ self.old.crowd) × (self.new.asked ≡ self.old.asked) }
         ensures inquiries { (digits : ℕ)
             → top (crowd_of (arc_value notes.old.remembered)) < 2 ^ digits
@@ -173,15 +180,16 @@ impl PooledDemands<AnyGate<'_>> {
         ensures remembered { IfOk result
             (λ walk. arc_value walk.remembered ≡ arc_value notes.old.remembered) }
         ensures least { IfOk result
-            (λ walk. IsLeastFrom (price_before (arc_value notes.old.remembered) section.0)
+            (λ walk. IsLeastFrom (price_before (arc_value notes.old.remembered) pair.0.0)
             (crowd_of (arc_value notes.old.remembered))
-            (price_before (arc_value notes.old.remembered)) section.0 limit walk.least.0) }
+            (price_before (arc_value notes.old.remembered)) pair.0.0 pair.1 walk.least.0) }
     {
+        let (section, limit) = pair;
         let remembered = Arc::try_clone(&notes.remembered)?;
         let known: &Remembered = &remembered;
         let mut least = known.prices[usize::from(section.0)];
         let mut room = [Tokens(0); ROOM];
-        let mut holders = holders_of(alloc, known, section)?;
+        let mut holders = BinaryHeap::from(list.to_vec(alloc)?);
         while holders.len() > limit as usize {
             let Some(first) = holders.pop() else {
                 unreachable!();

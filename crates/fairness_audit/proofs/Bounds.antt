@@ -1,5 +1,5 @@
 -- What is seen in a bundle is worth at most the weights of its sections.
-use Rattle.std.proofs.Common.{◌≡◌, ◌≢◌, ◌<◌, ◌≤◌, ◌+◌, ◌-◌, ◌+ℤ◌, ℕ, zero, suc, true, false, List, [], ◌∷◌, length, map, slice_index, slice_set, ap, sym, subst, arith, inl, inr}
+use Rattle.std.proofs.Common.{◌≡◌, ◌≢◌, ◌<◌, ◌≤◌, ◌+◌, ◌-◌, ◌+ℤ◌, ℕ, zero, suc, true, false, List, [], ◌∷◌, length, map, slice_index, slice_set, sym, subst, arith, inl, inr}
 use Rattle.std.specs.Prelude.{ℤ, pos, negsuc, ◌≤ℤ◌, int_lt}
 use Rattle.std.proofs.lemmas.Bool.{cases_eq}
 use Rattle.std.proofs.lemmas.Int.{ints}
@@ -132,10 +132,3 @@ weight_written menu weights p value is low inside each high k below = elim (case
       let apart : section_at menu.places k ≢ section_at menu.places p = λ e. absurd (omega arith) in
       subst (λ n. weight_at menu k ≤ n) (sym (get_or-set_other weights (section_at menu.places p) (section_at menu.places k) value 0 apart)) (each k earlier)
 ]
-
--- the gains from a number on: that at the number, and the later ones
-pub gains_step : (f : ℕ → ℤ) (first n : ℕ) → first < n → gains f first (n - first) ≡ above_zero (f first) + gains f (first + 1) (n - (first + 1))
-gains_step f first n low = ap (gains f first) (let goal : n - first ≡ suc (n - (first + 1)) = omega arith in goal)
-
-pub gains_none : (f : ℕ → ℤ) (first n : ℕ) → n ≤ first → gains f first (n - first) ≡ 0
-gains_none f first n past = ap (gains f first) (let goal : n - first ≡ 0 = omega arith in goal)

@@ -14,7 +14,6 @@ use Rattle.bundle_rules.specs.Ordinals.{ordinals}
 use Rattle.market_units.specs.Members.{has}
 use Rattle.bundle_rules.specs.Sets.{IsAscending}
 use Rattle.bundle_rules.specs.Wishes.{Wishes, IsFeasible}
-use Rattle.bundle_rules.specs.Existence.Demands.{no_section}
 use Rattle.bundle_rules.specs.Existence.Members.{IsAscending-front, IsAscending-middle}
 use Rattle.bundle_rules.proofs.BestValue.{best-only}
 use Rattle.bundle_rules.proofs.Firsts.{first_rest}
@@ -52,9 +51,6 @@ free_choice w bundle is = record { feasible = is; affordable = free bundle; with
     free : (ss : List ℕ) → total (λ s. 0) ss ≤ 0
     free [] = omega arith
     free (s ∷ ss) = let rest : total (λ t. 0) ss ≤ 0 = free ss in omega arith
-
-pub nothing_feasible : (w : Wishes) → IsFeasible w []
-nothing_feasible w = (no_section w (λ s. 0) 0 (λ s. true)).feasible
 
 -- the best of all that these sections make is what is seen in them
 pub is_seen : (menu : MenuData) (sections bundle : List ℕ) → IsBestOfThese (wishes_of menu) [] sections bundle → bundle ≡ seen menu sections

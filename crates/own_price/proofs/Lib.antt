@@ -1,4 +1,3 @@
 pub mod Leasts
-pub mod Tallies
 pub mod Exchanging
 pub mod Raising

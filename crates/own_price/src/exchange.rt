@@ -1,11 +1,11 @@
 // Bundles that are exchanged for others, with a count for each section.
 ghost use Rattle.std.specs.Prelude.{◌≡◌, ◌<◌, All, length, map};
 ghost use Rattle.bundle_rules.specs.Bundles.{sections_of};
-ghost use Rattle.demand_api.specs.Counting.{AreWithin};
-ghost use Rattle.own_price.specs.{Exchanges.exchanged, Kept.IsTally};
+ghost use Rattle.demand_api.specs.Counting.{AreWithin, IsTally};
+ghost use Rattle.own_price.specs.Exchanges.{exchanged};
 
 use bundle_rules::Bundle;
-use demand_api::{count_bundle, uncount_bundle};
+use demand_api::exchange_bundle;
 use market_units::StudentNo;
 
 /// Gives each listed student the bundle at the same place of the other list, and keeps the counts
@@ -25,9 +25,6 @@ pub(crate) fn exchange_all(
 {
     for place in 0..students.len() {
         let student = usize::from(students[place].0);
-        let other = others[place];
-        uncount_bundle(counts, bundles[student].sections());
-        count_bundle(counts, other.sections());
-        bundles[student] = other;
+        exchange_bundle(counts, bundles, student, others[place]);
     }
 }

@@ -29,7 +29,8 @@ pub struct Held {
 impl Model for Held {
     ghost use Rattle.std.specs.Prelude.{length, map};
     ghost use Rattle.bundle_rules.specs.Bundles.{sections_of};
-    ghost use Rattle.own_price.specs.{Holding.HeldData, Kept.IsTally};
+    ghost use Rattle.demand_api.specs.Counting.{IsTally};
+    ghost use Rattle.own_price.specs.Holding.{HeldData};
 
     ghost Value = { HeldData };
 

@@ -1,8 +1,8 @@
 -- What the posted bundles decide.
-use Rattle.std.proofs.Common.{ℕ, zero, suc, ◌≡◌, ◌≤◌, ◌<◌, ◌+◌, ◌==◌, ◌||◌, ◌∙◌, Bool, true, false, List, [], ◌∷◌, Some, None, Option, length, refl, ap, sym, subst, arith, slice_index_or, nat_lt, nat_le, cond, inl, inr, if◌then◌else◌}
+use Rattle.std.proofs.Common.{ℕ, zero, suc, ◌≡◌, ◌≤◌, ◌<◌, ◌+◌, ◌||◌, ◌∙◌, Bool, true, false, List, [], ◌∷◌, Some, None, Option, length, refl, ap, sym, subst, arith, slice_index_or, nat_lt, nat_le, cond, inl, inr, if◌then◌else◌}
 use Rattle.std.specs.Prelude.{IsSome, is_none}
 use Rattle.std.specs.List.{count_by}
-use Rattle.std.proofs.lemmas.Bool.{cases_Bool, false≢true}
+use Rattle.std.proofs.lemmas.Bool.{cases_Bool, cases_lt, eq-eqb, eqb-true, false≢true, le-leb, lt-ltb, or_left, or_right}
 use Rattle.std.proofs.lemmas.Bool.Decides.{nat_tests}
 use Rattle.std.proofs.lemmas.List.{get_or-map, get_or_past, length-map}
 use Rattle.std.proofs.lemmas.List.Sums.{sum_by-cons, get_or-le-sum_by}
@@ -40,23 +40,17 @@ some_is (Some bundle) some = refl
 none_unfilled : (row : List (Option Bundle)) → ((s : ℕ) (d : Option Bundle) → s < length row → IsSome (slice_index_or row s d)) → unfilled_in row ≡ 0
 none_unfilled [] filled = refl
 none_unfilled (b ∷ row) filled =
-    let k : ℕ = length row in
-    let a : ℕ = unfilled_in (b ∷ row) in
-    let c : ℕ = unfilled_in row in
-    let x : ℕ = cond (is_none b) 1 0 in
-    let rest : c ≡ 0 = none_unfilled row (λ s d below. filled (suc s) d (let l : s < k = below in let goal : suc s < suc k = omega arith in goal)) in
-    let here : x ≡ 0 = ap (λ t. cond t 1 0) (some_is b (filled zero b (let goal : zero < suc k = omega arith in goal))) in
-    let sum : a ≡ x + c = count-cons is_none b row in
-    let goal : a ≡ 0 = omega arith in goal
+    let here = ap (λ t. let n : ℕ = cond t 1 0 in n) (some_is b (filled zero b (omega arith))) in
+    omega (arith, here, count-cons is_none b row, none_unfilled row (λ s d below. filled (suc s) d (omega (arith, below))))
 
 full_settled : (ask : Ask) (row : List (Option Bundle)) → unfilled_in row ≡ 0 → is_settled ask row ≡ true
-full_settled Counts row none = let n : ℕ = unfilled_in row in let h : n ≡ 0 = none in let goal : (n == 0) ≡ true = grind (arith, nat_tests) in goal
+full_settled Counts row none = eq-eqb (unfilled_in row) 0 none
 full_settled (Exceeds section limit) row none =
     let c : ℕ = count_for (Exceeds section limit) row in
-    ap (λ u. nat_lt limit c || nat_le (c + u) limit) none
-    ∙ elim (cases_Bool (nat_lt limit c)) [
-      | inl over ↦ rw over refl
-      | inr under ↦ let all : nat_le (c + 0) limit ≡ true = grind (arith, nat_tests) in rw (under, all) refl
+    let u : ℕ = unfilled_in row in
+    elim (cases_lt limit c) [
+      | inl over ↦ or_left (nat_lt limit c) (nat_le (c + u) limit) (lt-ltb limit c over)
+      | inr under ↦ or_right (nat_lt limit c) (nat_le (c + u) limit) (le-leb (c + u) limit (omega (arith, under, none)))
     ]
 
 module _ (terms : Terms) (marks : List (Mark Bundle)) (each : length marks ≡ task_count terms) where
@@ -80,7 +74,7 @@ module _ (terms : Terms) (marks : List (Mark Bundle)) (each : length marks ≡ t
         | inr more ↦
             full_settled (ask_of terms.asks v) row
             (none_unfilled row (λ s d below.
-            let within : s < student_count terms = subst (λ n. s < n) long below in
+            let within : s < student_count terms = omega (arith, below, long) in
             subst (λ (b : Option Bundle). IsSome b) (sym (answer_there v s d low within))
             (elim (settled (number_of terms v s) (number-below terms v s low within)) [
               | inl some ↦ some
@@ -96,15 +90,13 @@ module _ (terms : Terms) (marks : List (Mark Bundle)) (each : length marks ≡ t
       → IsSome (answer_in (mark_at marks (number_of terms v s)))
   counts_filled settled v s low within counts =
       let row : List (Option Bundle) = row_of terms (answers_in marks) v in
-      let u : ℕ = unfilled_in row in
-      let all : (u == 0) ≡ true = subst (λ a. is_settled a row ≡ true) counts (settled v low) in
-      let none : u ≡ 0 = grind (arith, nat_tests) in
-      let inside : s < length row = subst (λ n. s < n) (sym (row-length terms (answers_in marks) v each_answer low)) within in
-      let one : cond (is_none (slice_index_or row s None)) 1 0 ≤ u = get_or-le-sum_by (λ (b : Option Bundle). cond (is_none b) 1 0) row s None inside in
-      subst (λ (b : Option Bundle). IsSome b) (answer_there v s None low within) (some_of (slice_index_or row s None) u none one)
+      let none : unfilled_in row ≡ 0 = eqb-true (unfilled_in row) 0 (subst (λ a. is_settled a row ≡ true) counts (settled v low)) in
+      let inside : s < length row = omega (arith, within, row-length terms (answers_in marks) v each_answer low) in
+      subst (λ (b : Option Bundle). IsSome b) (answer_there v s None low within)
+      (some_of (slice_index_or row s None) (unfilled_in row) none (get_or-le-sum_by (λ (b : Option Bundle). cond (is_none b) 1 0) row s None inside))
     where
       some_of : (b : Option Bundle) (u : ℕ) → u ≡ 0 → cond (is_none b) 1 0 ≤ u → IsSome b
-      some_of None u none one = absurd (let h : 1 ≤ u = one in omega arith)
+      some_of None u none one = absurd (omega (arith, one))
       some_of (Some bundle) u none one = refl
 
 -- ---- what the posted bundles with the section decide
@@ -113,53 +105,28 @@ module _ (terms : Terms) (marks : List (Mark Bundle)) (each : length marks ≡ t
 one_between : (section : ℕ) (b : Option Bundle) (sections : List ℕ) → ((c : Bundle) → b ≡ Some c → sections_of c ≡ sections)
     → (cond (is_with section b) 1 0 ≤ (if has sections section then 1 else 0))
     × ((if has sections section then 1 else 0) ≤ cond (is_with section b) 1 0 + cond (is_none b) 1 0)
-one_between section None sections right =
-    elim (cases_Bool (has sections section)) [
-      | inl it ↦ rw it ((let goal : 0 ≤ 1 = omega arith in goal), (let goal : 1 ≤ 0 + 1 = omega arith in goal))
-      | inr other ↦ rw other ((let goal : 0 ≤ 0 = omega arith in goal), (let goal : 0 ≤ 0 + 1 = omega arith in goal))
-    ]
+one_between section None sections right = elim (cases_Bool (has sections section)) [
+  | inl it ↦ rw it (omega arith)
+  | inr other ↦ rw other (omega arith)
+]
 one_between section (Some c) sections right =
     let x : ℕ = if has (sections_of c) section then 1 else 0 in
-    subst (λ l. (x ≤ (if has l section then 1 else 0)) × ((if has l section then 1 else 0) ≤ x + 0)) (right c refl)
-    ((let goal : x ≤ x = omega arith in goal), (let goal : x ≤ x + 0 = omega arith in goal))
+    subst (λ l. (x ≤ (if has l section then 1 else 0)) × ((if has l section then 1 else 0) ≤ x + 0)) (right c refl) (omega arith)
 
 -- how many take the section is between the posted bundles with it and these with those of whom none is posted
 between : (section : ℕ) (row : List (Option Bundle)) (list : List (List ℕ)) → length row ≡ length list
     → ((s : ℕ) (b : Bundle) → slice_index_or row s None ≡ Some b → sections_of b ≡ slice_index_or list s [])
     → (count_by (is_with section) row ≤ holders section list) × (holders section list ≤ count_by (is_with section) row + unfilled_in row)
-between section [] [] same right = ((let goal : 0 ≤ 0 = omega arith in goal), (let goal : 0 ≤ 0 + 0 = omega arith in goal))
-between section [] (sections ∷ list) same right = absurd (let k : ℕ = length list in let h : 0 ≡ suc k = same in omega arith)
-between section (b ∷ row) [] same right = absurd (let k : ℕ = length row in let h : suc k ≡ 0 = same in omega arith)
+between section [] [] same right = omega arith
+between section [] (sections ∷ list) same right = absurd (omega (arith, same))
+between section (b ∷ row) [] same right = absurd (omega (arith, same))
 between section (b ∷ row) (sections ∷ list) same right =
-    let j : ℕ = length row in
-    let k : ℕ = length list in
-    let more : suc j ≡ suc k = same in
-    let rest = between section row list (let goal : j ≡ k = omega arith in goal) (λ s c is. right (suc s) c is) in
+    let rest = between section row list (omega (arith, same)) (λ s c is. right (suc s) c is) in
     let first = one_between section b sections (λ c is. right zero c is) in
-    let a : ℕ = count_by (is_with section) row in
-    let u : ℕ = unfilled_in row in
-    let h : ℕ = holders section list in
-    let x : ℕ = cond (is_with section b) 1 0 in
-    let y : ℕ = cond (is_none b) 1 0 in
-    let z : ℕ = if has sections section then 1 else 0 in
-    let all : ℕ = count_by (is_with section) (b ∷ row) in
-    let all_of : all ≡ x + a = count-cons (is_with section) b row in
-    let left : ℕ = unfilled_in (b ∷ row) in
-    let left_of : left ≡ y + u = count-cons is_none b row in
-    let low : a ≤ h = rest.0 in
-    let high : h ≤ a + u = rest.1 in
-    let low_first : x ≤ z = first.0 in
-    let high_first : z ≤ x + y = first.1 in
-    ((let goal : all ≤ z + h = omega arith in goal), (let goal : z + h ≤ all + left = omega arith in goal))
+    omega (arith, rest.0, rest.1, first.0, first.1, count-cons (is_with section) b row, count-cons is_none b row)
 
 decided : (limit h g c : ℕ) → (nat_lt limit h || nat_le (h + g) limit) ≡ true → h ≤ c → c ≤ h + g → nat_lt limit h ≡ nat_lt limit c
-decided limit h g c settled low high =
-    elim (cases_Bool (nat_lt limit h)) [
-      | inl over ↦ let a : nat_lt limit c ≡ true = grind (arith, nat_tests) in over ∙ sym a
-      | inr under ↦
-          let b : nat_le (h + g) limit ≡ true = rw under at settled in
-          let a : nat_lt limit c ≡ false = grind (arith, nat_tests) in under ∙ sym a
-    ]
+decided limit h g c settled low high = grind (arith, nat_tests)
 
 as_many : (crowd : CrowdData) (price : ℕ → ℕ) → length (demands crowd price) ≡ length crowd.students
 unfolding demands
@@ -171,18 +138,14 @@ module _ (terms : Terms) (marks : List (Mark Bundle)) (each : length marks ≡ t
   posted_right : (v s : ℕ) (bundle : Bundle) → v < version_count terms → slice_index_or (row_of terms (answers_in marks) v) s None ≡ Some bundle
       → sections_of bundle ≡ demand_of terms v s
   posted_right v s bundle low is =
-      elim (cases_Bool (nat_lt s (student_count terms))) [
-        | inl under ↦
-            let n : ℕ = student_count terms in
-            let within : s < n = grind (arith, nat_tests) in
+      elim (cases_lt s (student_count terms)) [
+        | inl within ↦
             right_bundle terms v s bundle within
             (right (number_of terms v s) bundle (sym (answer_there terms marks each v s None low within) ∙ is))
         | inr past ↦
-            let n : ℕ = student_count terms in
-            let k : ℕ = length (row_of terms (answers_in marks) v) in
-            let long : k ≡ n = row-length terms (answers_in marks) v (each_answer terms marks each) low in
-            let beyond : k ≤ s = grind (arith, nat_tests) in
-            let none : None ≡ Some bundle = sym (get_or_past (row_of terms (answers_in marks) v) s None beyond) ∙ is in cc
+            let row : List (Option Bundle) = row_of terms (answers_in marks) v in
+            let beyond : length row ≤ s = omega (arith, past, row-length terms (answers_in marks) v (each_answer terms marks each) low) in
+            let none : None ≡ Some bundle = sym (get_or_past row s None beyond) ∙ is in cc
       ]
 
   decides : (v : ℕ) (ask : Ask) → v < version_count terms → is_settled ask (row_of terms (answers_in marks) v) ≡ true
@@ -200,18 +163,11 @@ module _ (terms : Terms) (marks : List (Mark Bundle)) (each : length marks ≡ t
   pub exceeds_right : (tallies : List Tally) (v : ℕ) (result : Option Bool) → HaveTallied terms tallies (answers_in marks)
       → length terms.asks ≡ version_count terms → (length tallies ≤ v → result ≡ None)
       → ((d : Tally) → v < length tallies → result ≡ exceeds_by (ask_of terms.asks v) (slice_index_or tallies v d)) → result ≡ exceeds_of terms v
-  exceeds_right tallies v result have asked none some =
-      let n : ℕ = version_count terms in
-      let k : ℕ = length tallies in
-      let all : k ≡ n = have.each in
-      elim (cases_Bool (nat_lt v n)) [
-        | inl under ↦
-            let low : v < n = grind (arith, nat_tests) in
-            let d : Tally = tally_of (ask_of terms.asks v) (row_of terms (answers_in marks) v) in
-            some d (let goal : v < k = omega arith in goal) ∙ ap (exceeds_by (ask_of terms.asks v)) (have.tallied v d low)
-            ∙ decides v (ask_of terms.asks v) low (settled v low)
-        | inr past ↦
-            let beyond : n ≤ v = grind (arith, nat_tests) in
-            let counts : ask_of terms.asks v ≡ Counts = get_or_past terms.asks v Counts (subst (λ m. m ≤ v) (sym asked) beyond) in
-            none (let goal : k ≤ v = omega arith in goal) ∙ sym (ap (exceeds_at terms v) counts)
-      ]
+  exceeds_right tallies v result have asked none some = elim (cases_lt v (version_count terms)) [
+    | inl low ↦
+        some (tally_of (ask_of terms.asks v) (row_of terms (answers_in marks) v)) (omega (arith, low, have.each))
+        ∙ ap (exceeds_by (ask_of terms.asks v)) (have.tallied v _ low) ∙ decides v (ask_of terms.asks v) low (settled v low)
+    | inr past ↦
+        let counts : ask_of terms.asks v ≡ Counts = get_or_past terms.asks v Counts (omega (arith, past, asked)) in
+        none (omega (arith, past, have.each)) ∙ sym (ap (exceeds_at terms v) counts)
+  ]

@@ -1,11 +1,10 @@
 -- The numbers of a round's tasks.
-use Rattle.std.proofs.Common.{ℕ, suc, ◌≡◌, ◌<◌, ◌≤◌, ◌+◌, ◌-◌, ◌*◌, ◌==◌, ◌&&◌, ◌∙◌, Bool, true, false, List, [], ◌∷◌, Option, None, Some, length, min, refl, sym, ap, subst, arith, drop}
+use Rattle.std.proofs.Common.{ℕ, suc, ◌≡◌, ◌<◌, ◌≤◌, ◌+◌, ◌*◌, ◌==◌, ◌∙◌, true, List, [], ◌∷◌, Option, None, Some, length, refl, sym, ap, subst, arith, drop}
 use Rattle.std.specs.Prelude.{IfSome}
-use Rattle.std.proofs.lemmas.Bool.{false≢true}
-use Rattle.std.proofs.lemmas.Bool.Decides.{nat_tests}
-use Rattle.std.proofs.lemmas.List.{length-take, length-drop}
+use Rattle.std.proofs.lemmas.Bool.{and_from, and_parts, eq-eqb, eqb-true, false≢true}
+use Rattle.std.proofs.lemmas.List.{length-take-le, length-drop}
 use Rattle.std.proofs.lemmas.Nat.{div-mul-add, mod-mul-add}
-use Rattle.std.proofs.Math.Nat.{mul-le-mul_right, suc-mul}
+use Rattle.std.proofs.Math.Nat.{mul-le-mul_right}
 use Rattle.bundle_rules.specs.declared.bundle.Bundle.{Bundle}
 use Rattle.bundle_rules.specs.Bundles.{sections_of}
 use Rattle.price_board.specs.declared.terms.Terms.{Terms}
@@ -15,21 +14,10 @@ use Rattle.price_board.specs.Terms.{student_count, task_count, version_count, de
 
 -- so many rows of this width come before the end of a row
 pub row_end : (v versions n : ℕ) → v < versions → v * n + n ≤ versions * n
-row_end v versions n low =
-    let a : ℕ = v * n in
-    let b : ℕ = versions * n in
-    let far : suc v * n ≤ b = mul-le-mul_right n (let goal : suc v ≤ versions = omega arith in goal) in
-    let next : suc v * n ≡ a + n = suc-mul v n in
-    let goal : a + n ≤ b = omega arith in goal
+row_end v versions n low = let next : suc v ≤ versions = low in omega (arith, mul-le-mul_right n next)
 
 pub number-below : (terms : Terms) (v s : ℕ) → v < version_count terms → s < student_count terms → number_of terms v s < task_count terms
-number-below terms v s low within =
-    let n : ℕ = student_count terms in
-    let a : ℕ = v * n in
-    let b : ℕ = version_count terms * n in
-    let ends : a + n ≤ b = row_end v (version_count terms) n low in
-    let w : s < n = within in
-    let goal : a + s < b = omega arith in goal
+number-below terms v s low within = omega (arith, row_end v (version_count terms) (student_count terms) low, within)
 
 pub version-at : (terms : Terms) (v s : ℕ) → s < student_count terms → version_at terms (number_of terms v s) ≡ v
 version-at terms v s within = div-mul-add v (student_count terms) s within
@@ -41,19 +29,10 @@ student-at terms v s within = mod-mul-add v (student_count terms) s within
 pub row-length : {X : Type 0} (terms : Terms) (list : List X) (v : ℕ) → length list ≡ task_count terms → v < version_count terms
     → length (row_of terms list v) ≡ student_count terms
 row-length terms list v each low =
-    let n : ℕ = student_count terms in
-    let a : ℕ = v * n in
-    let k : ℕ = length list in
-    let b : ℕ = version_count terms * n in
-    let long : k ≡ b = each in
-    let ends : a + n ≤ b = row_end v (version_count terms) n low in
-    length-take n (drop a list) ∙ ap (min n) (length-drop a list) ∙ (let goal : min n (k - a) ≡ n = omega arith in goal)
+    length-take-le (student_count terms) (drop (v * student_count terms) list)
+    (omega (arith, length-drop (v * student_count terms) list, each, row_end v (version_count terms) (student_count terms) low))
 
 -- ---- right bundles
-
-and_parts : (a b : Bool) → (a && b) ≡ true → (a ≡ true) × (b ≡ true)
-and_parts true b both = (refl, both)
-and_parts false b both = absurd (false≢true both)
 
 pub same_sections-is : (xs ys : List ℕ) → same_sections xs ys ≡ true → xs ≡ ys
 same_sections-is [] [] same = refl
@@ -61,14 +40,11 @@ same_sections-is [] (y ∷ ys) same = absurd (false≢true same)
 same_sections-is (x ∷ xs) [] same = absurd (false≢true same)
 same_sections-is (x ∷ xs) (y ∷ ys) same =
     let parts = and_parts (x == y) (same_sections xs ys) same in
-    let first : (x == y) ≡ true = parts.0 in
-    let head : x ≡ y = grind (arith, nat_tests) in
-    let rest = same_sections-is xs ys parts.1 in
-    λ i. head i ∷ rest i
+    λ i. eqb-true x y parts.0 i ∷ same_sections-is xs ys parts.1 i
 
 pub same_sections-own : (xs : List ℕ) → same_sections xs xs ≡ true
 same_sections-own [] = refl
-same_sections-own (x ∷ xs) = let first : (x == x) ≡ true = grind (arith, nat_tests) in rw first (same_sections-own xs)
+same_sections-own (x ∷ xs) = and_from (x == x) (same_sections xs xs) (eq-eqb x x refl) (same_sections-own xs)
 
 module _ (terms : Terms) (v s : ℕ) (bundle : Bundle) (within : s < student_count terms) where
   at_task : (v ≡ version_at terms (number_of terms v s)) × (s ≡ student_at terms (number_of terms v s))
@@ -91,3 +67,8 @@ pub right_posted : (terms : Terms) (v s n : ℕ) (bundle : Option Bundle) → n 
 right_posted terms v s n None is within right = right
 right_posted terms v s n (Some bundle) is within right =
     right_bundle terms v s bundle within (subst (λ k. is_taken terms k bundle ≡ true) is right)
+
+-- the number of a task, of which version, student and the number of students were read
+pub numbered : (terms : Terms) (v s students version student : ℕ) → v ≡ version → s ≡ student → students ≡ student_count terms
+    → v * students + s ≡ number_of terms version student
+numbered terms v s students version student is same all = λ i. is i * all i + same i

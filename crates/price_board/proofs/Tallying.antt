@@ -2,10 +2,9 @@
 use Rattle.std.proofs.Common.{ℕ, ◌≡◌, ◌<◌, ◌≤◌, ◌+◌, ◌-◌, ◌*◌, ◌∙◌, Bool, List, length, Option, Some, None, replicate, take, drop, sym, ap, subst, arith, slice_index_or, slice_set, cond, inl, inr}
 use Rattle.std.specs.Prelude.{is_none}
 use Rattle.std.proofs.lemmas.Bool.{cases_eq}
-use Rattle.std.proofs.lemmas.List.{take-replicate, drop-replicate, get_or-replicate, get_or-map, get_or-set_same, get_or-set_other, get_or_read_under, length-set, length-replicate}
+use Rattle.std.proofs.lemmas.List.{take-replicate, drop-replicate, get_or-replicate, get_or-map, get_or-set_same, get_or-set_other, get_or_read_under, length-set, length-replicate, length-take}
 use Rattle.std.proofs.lemmas.List.Folds.{sum_by-replicate}
 use Rattle.std.proofs.lemmas.List.Sums.{count_by-le-length}
-use Rattle.std.proofs.lemmas.List.{length-take}
 use Rattle.bundle_rules.specs.declared.bundle.Bundle.{Bundle}
 use Rattle.task_board.specs.declared.mark.Mark.{Mark}
 use Rattle.task_board.specs.declared.mark.Mark.TheVariants.{Open}
@@ -31,11 +30,8 @@ posted_tally : (ask : Ask) (row : List (Option Bundle)) (s : ℕ) (bundle : Bund
     → tally_of ask (slice_set row s (Some bundle))
     ≡ record { unfilled = unfilled_in row - 1; count = count_for ask row + cond (is_asked ask (Some bundle)) 1 0 }
 posted_tally ask row s bundle none =
-    let p : ℕ = unfilled_in (slice_set row s (Some bundle)) in
-    let r : ℕ = unfilled_in row in
-    let fewer : p + 1 ≡ r = unfilled-posted row s bundle none in
-    tally-is p (r - 1) (count_for ask (slice_set row s (Some bundle))) (count_for ask row + cond (is_asked ask (Some bundle)) 1 0)
-    (let goal : p ≡ r - 1 = omega arith in goal) (count-posted row s bundle none ask)
+    tally-is (unfilled_in (slice_set row s (Some bundle))) (unfilled_in row - 1) (count_for ask (slice_set row s (Some bundle)))
+    (count_for ask row + cond (is_asked ask (Some bundle)) 1 0) (omega (arith, unfilled-posted row s bundle none)) (count-posted row s bundle none ask)
 
 module _ (terms : Terms) (tallies : List Tally) (answers : List (Option Bundle)) (have : HaveTallied terms tallies answers) where
   -- a tally is small
@@ -43,20 +39,12 @@ module _ (terms : Terms) (tallies : List Tally) (answers : List (Option Bundle))
       → (tally.unfilled ≤ student_count terms) × (tally.count ≤ student_count terms)
   tally_small v tally low is =
       let same = is ∙ have.tallied v tally low in
+      let ask = ask_of terms.asks v in
       let row = row_of terms answers v in
-      let n : ℕ = student_count terms in
-      let k : ℕ = length row in
-      let short : k ≤ n = short_row n (drop (v * n) answers) in
-      let u : ℕ = unfilled_in row in
-      let c : ℕ = count_for (ask_of terms.asks v) row in
-      let few : u ≤ k = count_by-le-length is_none row in
-      let not_many : c ≤ k = count_by-le-length (is_asked (ask_of terms.asks v)) row in
-      let eu : tally.unfilled ≡ u = ap (λ (t : Tally). t.unfilled) same in
-      let ec : tally.count ≡ c = ap (λ (t : Tally). t.count) same in
-      ((let goal : tally.unfilled ≤ n = omega arith in goal), (let goal : tally.count ≤ n = omega arith in goal))
-    where
-      short_row : {X : Type 0} (n : ℕ) (xs : List X) → length (take n xs) ≤ n
-      short_row n xs = omega (arith, length-take n xs)
+      let short : length row ≤ student_count terms = omega (arith, length-take (student_count terms) (drop (v * student_count terms) answers)) in (
+        omega (arith, ap (λ (t : Tally). t.unfilled) same, count_by-le-length is_none row, short),
+        omega (arith, ap (λ (t : Tally). t.count) same, count_by-le-length (is_asked ask) row, short),
+      )
 
   module _ (task : ℕ) (bundle : Bundle) (below : task < task_count terms) (none : slice_index_or answers task (Some bundle) ≡ None) where
     abbrev v : ℕ
@@ -73,11 +61,7 @@ module _ (terms : Terms) (tallies : List Tally) (answers : List (Option Bundle))
 
     -- somebody is still to be posted
     pub some_unfilled : 1 ≤ unfilled_in (row_of terms answers v)
-    some_unfilled =
-        let a : ℕ = unfilled_in (slice_set (row_of terms answers v) s (Some bundle)) in
-        let b : ℕ = unfilled_in (row_of terms answers v) in
-        let fewer : a + 1 ≡ b = unfilled-posted (row_of terms answers v) s bundle here in
-        let goal : 1 ≤ b = omega arith in goal
+    some_unfilled = omega (arith, unfilled-posted (row_of terms answers v) s bundle here)
 
     pub noted : (tally new : Tally) → version_at terms task < version_count terms → tally ≡ slice_index_or tallies (version_at terms task) tally
         → new
@@ -115,12 +99,8 @@ nothing_tallied terms tallies are = record {
       let n : ℕ = student_count terms in
       let row : row_of terms (no_answers round_rules terms) v ≡ replicate n None =
       ap (take n) (drop-replicate (v * n) (task_count terms) None)
-      ∙ take-replicate n (task_count terms - v * n) None
-      (let a : ℕ = v * n in
-      let b : ℕ = task_count terms in let ends : a + n ≤ b = row_end v (version_count terms) n low in let goal : n ≤ b - a = omega arith in goal) in
-      let unfilled : unfilled_in (replicate n None) ≡ n =
-      (let a : ℕ = unfilled_in (replicate n None) in
-      let all : a ≡ n * 1 = sum_by-replicate (λ (o : Option Bundle). cond (is_none o) 1 0) n None in let goal : a ≡ n = omega arith in goal) in
+      ∙ take-replicate n (task_count terms - v * n) None (omega (arith, row_end v (version_count terms) n low)) in
+      let unfilled : unfilled_in (replicate n None) ≡ n = omega (arith, sum_by-replicate (λ (o : Option Bundle). cond (is_none o) 1 0) n None) in
       ap (λ l. slice_index_or l v d) are ∙ get_or-replicate (version_count terms) v _ d low
       ∙ tally-is n (unfilled_in (replicate n None)) 0 (count_for (ask_of terms.asks v) (replicate n None)) (sym unfilled)
       (sym (none_counted (ask_of terms.asks v) n))
@@ -128,14 +108,8 @@ nothing_tallied terms tallies are = record {
 }
   where
     none_counted : (ask : Ask) (n : ℕ) → count_for ask (replicate n None) ≡ 0
-    none_counted Counts n =
-        let a : ℕ = count_for Counts (replicate n None) in
-        let all : a ≡ n * 0 = sum_by-replicate (λ (o : Option Bundle). cond (is_asked Counts o) 1 0) n None in
-        let goal : a ≡ 0 = omega arith in goal
-    none_counted (Exceeds section limit) n =
-        let a : ℕ = count_for (Exceeds section limit) (replicate n None) in
-        let all : a ≡ n * 0 = sum_by-replicate (λ (o : Option Bundle). cond (is_asked (Exceeds section limit) o) 1 0) n None in
-        let goal : a ≡ 0 = omega arith in goal
+    none_counted Counts n = omega (arith, sum_by-replicate (λ (o : Option Bundle). cond (is_asked Counts o) 1 0) n None)
+    none_counted (Exceeds section limit) n = omega (arith, sum_by-replicate (λ (o : Option Bundle). cond (is_asked (Exceeds section limit) o) 1 0) n None)
 
 -- ---- a task whose version's tally and ask were read
 

@@ -32,6 +32,7 @@ pub(crate) fn count_all<R: Threads + Wait + Sync, D: Demands>(
         (λ counted. map (λ counts. counts.items) counted.items
         ≡ map (λ vector. counts_at (D.crowd demands.old) vector.items) vectors.now) }
 {
+    demands.foresee(rt, alloc, vectors)?;
     let mut counted = Vec::with_capacity(alloc, vectors.len())?;
     'batches: while counted.len() < vectors.len() {
         let batch = next_batch(vectors, counted.len());

@@ -1,8 +1,9 @@
 -- A board whose seats have finished.
-use Rattle.std.proofs.Common.{ℕ, zero, suc, ◌≡◌, ◌≤◌, ◌<◌, ◌+◌, ◌==◌, ◌&&◌, ◌++◌, ◌∙◌, ◌⊎◌, Bool, true, false, List, [], ◌∷◌, None, Some, Option, length, filter, refl, ap, sym, subst, arith, slice_index_or, nat_lt, inl, inr}
+use Rattle.std.proofs.Common.{ℕ, ◌≡◌, ◌≤◌, ◌<◌, ◌==◌, ◌++◌, ◌∙◌, ◌⊎◌, Bool, true, false, List, [], ◌∷◌, None, Some, Option, length, filter, refl, ap, sym, subst, arith, inl, inr}
 use Rattle.std.specs.List.{All, Any, list_any, AllByRecursion as Each}
 use Rattle.std.specs.Prelude.{IsSome, ⊤}
 use Rattle.std.proofs.lemmas.Bool.{cases_Bool, false≢true}
+use Rattle.std.proofs.lemmas.List.Elements.{recursion_from_All}
 use Rattle.market_units.specs.Beginnings.{BeginsWith}
 use Rattle.chronicle.specs.declared.journal.StepOf.{StepOf}
 use Rattle.chronicle.specs.History.{IsLegal, state_after, calls_by}
@@ -16,33 +17,27 @@ use Rattle.task_board.specs.declared.calls.Reply.TheVariants.{Draw as Drew}
 use Rattle.task_board.specs.declared.data.Progress.{Progress}
 use Rattle.task_board.specs.declared.mark.Mark.{Mark}
 use Rattle.task_board.specs.declared.mark.Mark.TheVariants.{Open, Held, Filled, Spent}
+use Rattle.task_board.specs.Closings.{IsEndOf}
 use Rattle.task_board.specs.Fates.{calls_on, is_on_call, drew, posted, IsWorked, IsTaken, IsTakenOrLate}
 use Rattle.task_board.specs.Kept.{AreSettled}
 use Rattle.task_board.specs.Marks.{mark_at, answer_in}
 use Rattle.task_board.specs.Openings.{IsOpening}
 use Rattle.task_board.specs.Rules.{Rules, IsLasting}
 use Rattle.task_board.specs.Seats.{BoardOf, SeatOf, HistoryOf, is_done, dones, marks_after, IsFinished}
-use Rattle.task_board.specs.Shared.{is_sound, reply_to, progress_after}
+use Rattle.task_board.specs.Shared.{is_sound, progress, reply_to, progress_after}
 use Rattle.task_board.specs.Steps.{is_over, is_left, first_left}
 use Rattle.task_board.proofs.Histories.{AreCallsTo, calls_tell, opened_at}
-use Rattle.task_board.proofs.Keeping.{IsGone, SpentAreOver, anyone, keeps_gone, keeps_spent_ones}
-use Rattle.task_board.proofs.SeatTurns.{count_after, count_stays, holder_stays}
+use Rattle.task_board.proofs.Keeping.{IsGone, SpentAreOver, anyone, keeps_gone, keeps_spent}
+use Rattle.task_board.proofs.SeatTurns.{count_after, count_stays, holder_stays, sound_parts}
 use Rattle.task_board.proofs.Stepping.{keeps_all, none_is, over_of}
 
 -- what holds of all steps holds of some of them
-each_of : {X : Type 0} (P : X → Type 0) (test : X → Bool) (xs : List X) → All P xs → Each P (filter test xs)
+each_of : {X : Type 0} (P : X → Type 0) (test : X → Bool) (xs : List X) → Each P xs → Each P (filter test xs)
 each_of P test [] all = tt
-each_of P test (x ∷ xs) all =
-    let later : All P xs = λ n d below. all (suc n) d (let k : ℕ = length xs in let b : n < k = below in let goal : suc n < suc k = omega arith in goal) in
-    let first : P x = all zero x (let k : ℕ = length xs in let goal : zero < suc k = omega arith in goal) in
-    elim (cases_Bool (test x)) [
-      | inl passes ↦ rw passes (first, each_of P test xs later)
-      | inr fails ↦ rw fails (each_of P test xs later)
-    ]
-
-and_second : (a b : Bool) → (a && b) ≡ true → b ≡ true
-and_second true b both = both
-and_second false b both = absurd (false≢true both)
+each_of P test (x ∷ xs) all = elim (cases_Bool (test x)) [
+  | inl passes ↦ rw passes (all.0, each_of P test xs all.1)
+  | inr fails ↦ rw fails (each_of P test xs all.1)
+]
 
 -- a reply that there is no task, of a seat, is one of the history
 done_of_seat : {A : Type 0} (n : ℕ) (history : HistoryOf A) → 1 ≤ dones (calls_by n history)
@@ -63,37 +58,30 @@ none_drawn (Some other) done = absurd (false≢true done)
 
 module _ {B A : Type 0} (rules : Rules B A) (terms : B) where
   -- each request of a legal history is sound
-  sound_on : (now : Progress A) (history : HistoryOf A) (task : ℕ) → IsLegal (is_sound rules) (progress_after rules) (reply_to rules) terms now history
-      → Each (λ (step : StepOf (Call A) Reply). is_sound rules terms step.request ≡ true) (calls_on task history)
-  sound_on now [] task legal = tt
-  sound_on now (step ∷ more) task legal =
-      let rest = sound_on (progress_after rules terms now step.seat step.request) more task legal.2 in
-      elim (cases_Bool (is_on_call task step.request step.reply)) [
-        | inl on ↦ rw on (legal.0, rest)
-        | inr off ↦ rw off rest
-      ]
+  each_sound : (now : Progress A) (history : HistoryOf A) → IsLegal (is_sound rules) (progress_after rules) (reply_to rules) terms now history
+      → Each (λ (step : StepOf (Call A) Reply). is_sound rules terms step.request ≡ true) history
+  each_sound now [] legal = tt
+  each_sound now (step ∷ more) legal = (legal.0, each_sound (progress_after rules terms now step.seat step.request) more legal.2)
 
   -- what a task's calls say of it
   right_in : (now : Progress A) (history : HistoryOf A) (task seat : ℕ) (answer : A) (said : Posted)
       → IsLegal (is_sound rules) (progress_after rules) (reply_to rules) terms now history
       → calls_on task history ≡ drew seat task ∷ posted seat task answer said ∷ [] → rules.is_right terms task answer ≡ true
   right_in now history task seat answer said legal calls =
-      let each : Each (λ (step : StepOf (Call A) Reply). is_sound rules terms step.request ≡ true) (drew seat task ∷ posted seat task answer said ∷ []) =
-      subst (λ l. Each (λ (step : StepOf (Call A) Reply). is_sound rules terms step.request ≡ true) l) calls (sound_on now history task legal) in
-      and_second (nat_lt task (rules.count terms)) (rules.is_right terms task answer) each.1.0
+      let sound = each_of (λ (step : StepOf (Call A) Reply). is_sound rules terms step.request ≡ true)
+      (λ (step : StepOf (Call A) Reply). is_on_call task step.request step.reply) history (each_sound now history legal) in
+      (sound_parts rules terms task answer
+      (subst (λ l. Each (λ (step : StepOf (Call A) Reply). is_sound rules terms step.request ≡ true) l) calls sound).1.0).1
 
   -- that there is no task is the reply where none is left
   gone_where : (now : Progress A) (seat : ℕ) (call : Call A) → length now.marks ≡ rules.count terms → is_done (reply_to rules terms now seat call) ≡ true
       → (task : ℕ) → task < rules.count terms → IsGone rules terms task now.marks
-  gone_where now seat Draw each done task below =
-      let n : ℕ = length now.marks in
-      let low : task < n = subst (λ k. task < k) (sym each) below in
-      record {
-        each = each;
-        gone =
-            none_is (is_left rules terms now.marks) 0 n (none_drawn (first_left rules terms now.marks) done) task (let goal : 0 ≤ task = omega arith in goal)
-            (let goal : task < 0 + n = omega arith in goal);
-      }
+  gone_where now seat Draw each done task below = record {
+    each = each;
+    gone =
+        none_is (is_left rules terms now.marks) 0 (length now.marks) (none_drawn (first_left rules terms now.marks) done) task (omega arith)
+        (omega (arith, each, below));
+  }
   gone_where now seat (Post other answer) each done task below = absurd (false≢true done)
 
   -- and none is left after it
@@ -122,27 +110,22 @@ module _ {B A : Type 0} (rules : Rules B A) (lasting : IsLasting rules) (board :
   first = all 0 some
 
   -- what holds of all seats holds of one of them
-  at_seat : (P : SeatOf B A → Type 0) → All P seats → (k : ℕ) (who : SeatOf B A) → k < length seats → slice_index_or seats k who ≡ who → P who
-  at_seat P each k who low same = subst P same (each k who low)
+  at_seat : {n : ℕ} (P : SeatOf B A → Type 0) → All P seats → (its : Any (λ (s : SeatOf B A). s.number ≡ n) seats) → P its.1
+  at_seat P each its = subst P its.3 (each its.0 its.1 its.2)
 
-  pub opening : IsOpening rules board.base board.opening
-  opening = (at_seat (λ s. IsFinished rules board s) finished first.0 first.1 first.2 first.3).is_seat.opening
-
-  pub each_marked : length (marks_after rules board history) ≡ rules.count board.base
-  each_marked = count_after rules board.base board.opening history opening
+  opening : IsOpening rules board.base board.opening
+  opening = (at_seat (IsFinished rules board) finished first).is_seat.opening
 
   none_left : (task : ℕ) → task < rules.count board.base → is_left rules board.base (marks_after rules board history) task ≡ false
   none_left =
-      let end = at_seat (λ s. IsFinished rules board s) finished first.0 first.1 first.2 first.3 in
-      let mine = at_seat (λ s. calls_by s.number history ≡ s.own) own first.0 first.1 first.2 first.3 in
-      let n : ℕ = dones first.1.own in
-      let one : n ≡ 1 = end.done in
+      let mine = at_seat (λ s. calls_by s.number history ≡ s.own) own first in
+      let one : dones first.1.own ≡ 1 = (at_seat (IsFinished rules board) finished first).done in
       gone_after rules board.base lasting board.opening history legal (count_after rules board.base board.opening [] opening)
-      (done_of_seat first.1.number history (subst (λ l. 1 ≤ dones l) (sym mine) (let goal : 1 ≤ n = omega arith in goal)))
+      (done_of_seat first.1.number history (subst (λ l. 1 ≤ dones l) (sym mine) (omega (arith, one))))
 
   spent_over : SpentAreOver rules board.base (marks_after rules board history)
   spent_over =
-      keeps_all rules board.base (λ _. ⊤) (SpentAreOver rules board.base) (keeps_spent_ones rules board.base lasting) board.opening history (anyone history)
+      keeps_all rules board.base (λ _. ⊤) (SpentAreOver rules board.base) (keeps_spent rules board.base lasting) board.opening history (anyone history)
       (record {
         each = count_after rules board.base board.opening [] opening;
         over =
@@ -156,23 +139,19 @@ module _ {B A : Type 0} (rules : Rules B A) (lasting : IsLasting rules) (board :
   nobody_holds : (task seat : ℕ) → ¬ (mark_at (marks_after rules board history) task ≡ Held seat)
   nobody_holds task seat held =
       let drawn : calls_on task history ≡ drew seat task ∷ [] = subst (λ m. AreCallsTo task m (calls_on task history)) held (calls task) in
-      let each =
-      subst (λ l. Each (λ (step : StepOf (Call A) Reply). Any (λ (s : SeatOf B A). s.number ≡ step.seat) seats) l) drawn
-      (each_of (λ (step : StepOf (Call A) Reply). Any (λ (s : SeatOf B A). s.number ≡ step.seat) seats)
-      (λ (step : StepOf (Call A) Reply). is_on_call task step.request step.reply) history known) in
-      let its : Any (λ (s : SeatOf B A). s.number ≡ seat) seats = each.0 in
-      let who = its.1 in
-      let end = at_seat (λ s. IsFinished rules board s) finished its.0 who its.2 its.3 in
-      let begins = at_seat (λ s. BeginsWith history s.seen) seen its.0 who its.2 its.3 in
-      let none =
-      at_seat (λ s. (rest : HistoryOf A) → history ≡ s.seen ++ rest → calls_by s.number rest ≡ []) apart its.0 who its.2 its.3 begins.0 begins.1 in
-      let split : state_after (progress_after rules) board.base board.opening history
-      ≡ state_after (progress_after rules) board.base (state_after (progress_after rules) board.base board.opening who.seen) begins.0 =
-      ap (state_after (progress_after rules) board.base board.opening) begins.1
-      ∙ state_after-append (progress_after rules) board.base board.opening who.seen begins.0 in
-      end.holds_nothing task
-      ((holder_stays rules board.base (state_after (progress_after rules) board.base board.opening who.seen) begins.0 who.number task none).1
-      (sym (ap (λ (p : Progress A). mark_at p.marks task) split) ∙ held ∙ ap Held (sym its.4)))
+      let by_seats =
+      each_of (λ (step : StepOf (Call A) Reply). Any (λ (s : SeatOf B A). s.number ≡ step.seat) seats)
+      (λ (step : StepOf (Call A) Reply). is_on_call task step.request step.reply) history (recursion_from_All _ history known) in
+      let its : Any (λ (s : SeatOf B A). s.number ≡ seat) seats =
+      (subst (λ l. Each (λ (step : StepOf (Call A) Reply). Any (λ (s : SeatOf B A). s.number ≡ step.seat) seats) l) drawn by_seats).0 in
+      let begins = at_seat (λ s. BeginsWith history s.seen) seen its in
+      let was : Progress A = state_after (progress_after rules) board.base board.opening its.1.seen in
+      let split =
+      ap (marks_after rules board) begins.1
+      ∙ ap (λ (p : Progress A). p.marks) (state_after-append (progress_after rules) board.base board.opening its.1.seen begins.0) in
+      let none = at_seat (λ s. (rest : HistoryOf A) → history ≡ s.seen ++ rest → calls_by s.number rest ≡ []) apart its begins.0 begins.1 in
+      (at_seat (IsFinished rules board) finished its).holds_nothing task
+      ((holder_stays rules board.base was begins.0 its.1.number task none).1 (sym (ap (λ m. mark_at m task) split) ∙ held ∙ ap Held (sym its.4)))
 
   settled_at : (task : ℕ) (mark : Mark A) → task < rules.count board.base → mark_at (marks_after rules board history) task ≡ mark
       → IsSome (answer_in mark) ⊎ (is_over rules board.base (marks_after rules board history) task ≡ true)
@@ -181,7 +160,7 @@ module _ {B A : Type 0} (rules : Rules B A) (lasting : IsLasting rules) (board :
   settled_at task (Filled seat answer) below is = inl refl
   settled_at task (Spent seat) below is = inr (spent_over.over task seat is)
 
-  pub all_settled : AreSettled rules board.base (marks_after rules board history)
+  all_settled : AreSettled rules board.base (marks_after rules board history)
   all_settled task below = settled_at task (mark_at (marks_after rules board history) task) below refl
 
   task_at : (task : ℕ) (mark : Mark A) → AreCallsTo task mark (calls_on task history) → ((seat : ℕ) → ¬ (mark ≡ Held seat))
@@ -194,7 +173,7 @@ module _ {B A : Type 0} (rules : Rules B A) (lasting : IsLasting rules) (board :
       inr
       (seat, are.0, Late are.1, are.2, right_in rules board.base board.opening history task seat are.0 (Late are.1) legal are.2, inr (are.1, refl))
 
-  pub all_tasks : (task : ℕ) → (calls_on task history ≡ []) ⊎ IsWorked rules IsTakenOrLate board.base history task
+  all_tasks : (task : ℕ) → (calls_on task history ≡ []) ⊎ IsWorked rules IsTakenOrLate board.base history task
   all_tasks task = task_at task (mark_at (marks_after rules board history) task) (calls task) (nobody_holds task)
 
   taken_at : (task : ℕ) (mark : Mark A) → AreCallsTo task mark (calls_on task history) → IsSome (answer_in mark)
@@ -205,5 +184,23 @@ module _ {B A : Type 0} (rules : Rules B A) (lasting : IsLasting rules) (board :
       (seat, answer, Taken, are, right_in rules board.base board.opening history task seat answer Taken legal are, refl)
   taken_at task (Spent seat) are some_one = absurd (false≢true some_one)
 
-  pub all_taken : (task : ℕ) → IsSome (answer_in (mark_at (marks_after rules board history) task)) → IsWorked rules IsTaken board.base history task
+  all_taken : (task : ℕ) → IsSome (answer_in (mark_at (marks_after rules board history) task)) → IsWorked rules IsTaken board.base history task
   all_taken task some_one = taken_at task (mark_at (marks_after rules board history) task) (calls task) some_one
+
+  -- the board at its end
+  pub ended : (terms : B) (marks : List (Mark A)) → terms ≡ board.base
+      → progress marks ≡ state_after (progress_after rules) board.base board.opening history
+      → IsEndOf rules board seats (record { marker = record {}; terms = terms; marks = marks; history = history })
+  ended terms marks same last =
+      let stand : marks ≡ marks_after rules board history = ap (λ (p : Progress A). p.marks) last in
+      record {
+        terms = same;
+        each = ap length stand ∙ count_after rules board.base board.opening history opening;
+        legal = legal;
+        last = sym last;
+        settled = subst (λ t. AreSettled rules t marks) (sym same) (subst (λ m. AreSettled rules board.base m) (sym stand) all_settled);
+        by_seats = known;
+        own = own;
+        tasks = all_tasks;
+        taken = subst (λ m. (task : ℕ) → IsSome (answer_in (mark_at m task)) → IsWorked rules IsTaken board.base history task) (sym stand) all_taken;
+      }

@@ -1,12 +1,12 @@
 -- What a legal history of a board says of each task.
-use Rattle.std.proofs.Common.{ℕ, ◌≡◌, ◌<◌, ◌==◌, ◌++◌, ◌∙◌, true, false, List, [], ◌∷◌, length, refl, ap, sym, subst, arith, append-nil, append_assoc, slice_set, inl, inr}
-use Rattle.std.proofs.lemmas.Bool.{cases_Bool}
-use Rattle.std.proofs.lemmas.Bool.Decides.{nat_tests}
+use Rattle.std.proofs.Common.{ℕ, ◌≡◌, ◌<◌, ◌==◌, ◌++◌, ◌∙◌, List, [], ◌∷◌, length, refl, ap, sym, subst, append-nil, append_assoc, slice_set, cond, inl, inr}
+use Rattle.std.proofs.lemmas.Bool.{eq-eqb, ne_eqb}
 use Rattle.std.proofs.lemmas.List.Elements.{filter-append}
 use Rattle.chronicle.specs.declared.journal.StepOf.{StepOf}
 use Rattle.chronicle.specs.History.{step_of, IsLegal, state_after}
 use Rattle.task_board.specs.declared.calls.Call.{Call}
 use Rattle.task_board.specs.declared.calls.Call.TheVariants.{Draw, Post}
+use Rattle.task_board.specs.declared.calls.Posted.{Posted}
 use Rattle.task_board.specs.declared.calls.Posted.TheVariants.{Late, Taken}
 use Rattle.task_board.specs.declared.calls.Reply.{Reply}
 use Rattle.task_board.specs.declared.calls.Reply.TheVariants.{Draw as Drew}
@@ -20,7 +20,7 @@ use Rattle.task_board.specs.Rules.{Rules}
 use Rattle.task_board.specs.Seats.{HistoryOf}
 use Rattle.task_board.specs.Shared.{is_sound, reply_to, progress_after}
 use Rattle.task_board.proofs.Keeping.{open_at}
-use Rattle.task_board.proofs.Marking.{mark-same, mark-other, closed_below}
+use Rattle.task_board.proofs.Marking.{mark-set, closed_below}
 use Rattle.task_board.proofs.Stepping.{draw_by, post_by, left_open}
 
 module _ {A : Type 0} where
@@ -39,74 +39,58 @@ module _ {A : Type 0} where
 
   -- a call that changes the mark of one task: of that task it is what led to the new mark, and of any other it is no call
   changed : (marks : List (Mark A)) (task other : ℕ) (mark : Mark A) (past : HistoryOf A) (step : StepOf (Call A) Reply) → task < length marks
-      → calls_on task (step ∷ []) ≡ step ∷ [] → ((task == other) ≡ false → calls_on other (step ∷ []) ≡ [])
+      → ((t : ℕ) → calls_on t (step ∷ []) ≡ cond (task == t) (step ∷ []) [])
       → (AreCallsTo task (mark_at marks task) past → AreCallsTo task mark (past ++ step ∷ []))
       → AreCallsTo other (mark_at marks other) past → AreCallsTo other (mark_at (slice_set marks task mark) other) (past ++ calls_on other (step ∷ []))
-  changed marks task other mark past step below on off into are = elim (cases_Bool (task == other)) [
-    | inl same ↦
-        let e : task ≡ other = grind (arith, nat_tests) in
-        subst
-        (λ t. AreCallsTo t (mark_at marks t) past → AreCallsTo t (mark_at (slice_set marks task mark) t) (past ++ calls_on t (step ∷ []))) e
-        (λ mine. subst (λ m. AreCallsTo task m (past ++ calls_on task (step ∷ []))) (sym (mark-same marks task mark below))
-        (subst (λ l. AreCallsTo task mark (past ++ l)) (sym on) (into mine)))
+  changed marks task other mark past step below on into are = elim (mark-set marks task other mark below) [
+    | inl at ↦
+        subst (λ t. AreCallsTo t (mark_at marks t) past → AreCallsTo t (mark_at (slice_set marks task mark) other) (past ++ calls_on t (step ∷ []))) (sym at.0)
+        (λ mine. subst (λ m. AreCallsTo task m (past ++ calls_on task (step ∷ []))) (sym at.1)
+        (subst (λ l. AreCallsTo task mark (past ++ l)) (sym (on task ∙ ap (λ t. cond t (step ∷ []) []) (eq-eqb task task refl))) (into mine)))
         are
-    | inr apart ↦
-        still other (mark_at marks other) (mark_at (slice_set marks task mark) other) past (calls_on other (step ∷ []))
-        (mark-other marks task other mark (λ same. let test : (task == other) ≡ true = grind (arith, nat_tests) in let h : true ≡ false = sym test ∙ apart in cc))
-        (off apart) are
+    | inr at ↦
+        still other (mark_at marks other) (mark_at (slice_set marks task mark) other) past (calls_on other (step ∷ [])) at.1
+        (on other ∙ ap (λ t. cond t (step ∷ []) []) (ne_eqb task other (λ same. at.0 (sym same)))) are
   ]
 
 module _ {B A : Type 0} (rules : Rules B A) (terms : B) where
-  draw_tells : (now : Progress A) (seat w : ℕ) (past : HistoryOf A) → AreCallsTo w (mark_at now.marks w) past
-      → AreCallsTo w (mark_at (progress_after rules terms now seat Draw).marks w)
-      (past ++ calls_on w (step_of seat Draw (reply_to rules terms now seat Draw) ∷ []))
-  draw_tells now seat w past are =
+  -- the call, with the reply that is due
+  replied_tells : (now : Progress A) (seat w : ℕ) (call : Call A) (past : HistoryOf A) → AreCallsTo w (mark_at now.marks w) past
+      → AreCallsTo w (mark_at (progress_after rules terms now seat call).marks w)
+      (past ++ calls_on w (step_of seat call (reply_to rules terms now seat call) ∷ []))
+  replied_tells now seat w Draw past are =
       draw_by rules terms now.marks seat (λ found marks. AreCallsTo w (mark_at marks w) (past ++ calls_on w (step_of seat Draw (Drew found) ∷ [])))
       (λ none. still w (mark_at now.marks w) (mark_at now.marks w) past [] refl refl are)
       (λ task next.
-      let mine : (task == task) ≡ true = grind (arith, nat_tests) in
-      changed now.marks task w (Held seat) past (drew seat task) next.below (rw mine refl) (λ off. rw off refl)
+      changed now.marks task w (Held seat) past (drew seat task) next.below (λ t. refl)
       (λ were. ap (λ l. l ++ drew seat task ∷ []) (subst (λ m. AreCallsTo task m past) (left_open rules terms now.marks task next.left) were)) are)
-
-  post_tells : (now : Progress A) (seat task w : ℕ) (answer : A) (past : HistoryOf A) → AreCallsTo w (mark_at now.marks w) past
-      → AreCallsTo w (mark_at (progress_after rules terms now seat (Post task answer)).marks w)
-      (past ++ calls_on w (step_of seat (Post task answer) (reply_to rules terms now seat (Post task answer)) ∷ []))
-  post_tells now seat task w answer past are =
-      let mine : (task == task) ≡ true = grind (arith, nat_tests) in
+  replied_tells now seat w (Post task answer) past are =
+      let late : Posted = Late (rules.tally terms (answers_in now.marks) task) in
       post_by rules terms now.marks seat task answer (λ said marks. AreCallsTo w (mark_at marks w) (past ++ calls_on w (posted seat task answer said ∷ [])))
       (λ stray. still w (mark_at now.marks w) (mark_at now.marks w) past [] refl refl are)
       (λ held over.
-      changed now.marks task w (Spent seat) past (posted seat task answer (Late (rules.tally terms (answers_in now.marks) task)))
-      (closed_below now.marks task (ap is_open held)) (rw mine refl) (λ off. rw off refl)
+      changed now.marks task w (Spent seat) past (posted seat task answer late) (closed_below now.marks task (ap is_open held)) (λ t. refl)
       (λ were. (
         answer,
         rules.tally terms (answers_in now.marks) task,
-        ap (λ l. l ++ posted seat task answer (Late (rules.tally terms (answers_in now.marks) task)) ∷ []) (subst (λ m. AreCallsTo task m past) held were),
+        ap (λ l. l ++ posted seat task answer late ∷ []) (subst (λ m. AreCallsTo task m past) held were),
       ))
       are)
       (λ held asked.
-      changed now.marks task w (Filled seat answer) past (posted seat task answer Taken) (closed_below now.marks task (ap is_open held)) (rw mine refl)
-      (λ off. rw off refl) (λ were. ap (λ l. l ++ posted seat task answer Taken ∷ []) (subst (λ m. AreCallsTo task m past) held were)) are)
+      changed now.marks task w (Filled seat answer) past (posted seat task answer Taken) (closed_below now.marks task (ap is_open held)) (λ t. refl)
+      (λ were. ap (λ l. l ++ posted seat task answer Taken ∷ []) (subst (λ m. AreCallsTo task m past) held were)) are)
 
-  call_tells : (now : Progress A) (seat w : ℕ) (call : Call A) (reply : Reply) (past : HistoryOf A) → reply ≡ reply_to rules terms now seat call
-      → AreCallsTo w (mark_at now.marks w) past
-      → AreCallsTo w (mark_at (progress_after rules terms now seat call).marks w) (past ++ calls_on w (step_of seat call reply ∷ []))
-  call_tells now seat w Draw reply past is are =
-      subst (λ r. AreCallsTo w (mark_at (progress_after rules terms now seat Draw).marks w) (past ++ calls_on w (step_of seat Draw r ∷ []))) (sym is)
-      (draw_tells now seat w past are)
-  call_tells now seat w (Post task answer) reply past is are =
-      subst
-      (λ r. AreCallsTo w (mark_at (progress_after rules terms now seat (Post task answer)).marks w) (past ++ calls_on w (step_of seat (Post task answer) r ∷ [])))
-      (sym is) (post_tells now seat task w answer past are)
-
-  pub all_tell : (now : Progress A) (history past : HistoryOf A) (w : ℕ) → IsLegal (is_sound rules) (progress_after rules) (reply_to rules) terms now history
+  all_tell : (now : Progress A) (history past : HistoryOf A) (w : ℕ) → IsLegal (is_sound rules) (progress_after rules) (reply_to rules) terms now history
       → AreCallsTo w (mark_at now.marks w) past
       → AreCallsTo w (mark_at (state_after (progress_after rules) terms now history).marks w) (past ++ calls_on w history)
   all_tell now [] past w legal are = subst (λ l. AreCallsTo w (mark_at now.marks w) l) (sym (append-nil past)) are
   all_tell now (step ∷ more) past w legal are =
       let next = progress_after rules terms now step.seat step.request in
       let one = calls_on w (step ∷ []) in
-      let rest = all_tell next more (past ++ one) w legal.2 (call_tells now step.seat w step.request step.reply past legal.1 are) in
+      let here : AreCallsTo w (mark_at next.marks w) (past ++ one) =
+      subst (λ r. AreCallsTo w (mark_at next.marks w) (past ++ calls_on w (step_of step.seat step.request r ∷ []))) (sym legal.1)
+      (replied_tells now step.seat w step.request past are) in
+      let rest = all_tell next more (past ++ one) w legal.2 here in
       let split : calls_on w (step ∷ more) ≡ one ++ calls_on w more =
       filter-append (λ (s : StepOf (Call A) Reply). is_on_call w s.request s.reply) (step ∷ []) more in
       subst (λ l. AreCallsTo w (mark_at (state_after (progress_after rules) terms next more).marks w) l)

@@ -123,6 +123,64 @@ fn counts_of_many(rt: HostRuntime) -> Result<(), Fail> {
     Ok(())
 }
 
+// A vector of one price for each price from one on, and below another.
+fn at_each(alloc: Global, from: u32, below: u32) -> Result<Vec<Vec<Tokens>>, NoMemory> {
+    let mut vectors = Vec::new(alloc);
+    for price in from..below {
+        vectors.push(at(alloc, price)?)?;
+    }
+    Ok(vectors)
+}
+
+// The prices from 84 to 103 are told before counts at them are asked for. All four students are
+// asked at the first, and then who cannot pay one of the others: one at 101, two at 102, three at
+// 103. So counts at sixteen of the prices, and then at four, ask nobody.
+#[test]
+fn counts_that_were_foreseen(rt: HostRuntime) -> Result<(), Fail> {
+    let alloc = rt.alloc();
+    let crowd = shared_rivals(&rt, alloc, 4)?;
+    let all = at_each(alloc, 84, 104)?;
+    let first = at_each(alloc, 84, 100)?;
+    let second = at_each(alloc, 100, 104)?;
+    assert_eq!(rt; first.len(), 16);
+    assert_eq!(rt; second.len(), 4);
+    assert!(rt; all_have_prices(&crowd, &all));
+    assert!(rt; all_have_prices(&crowd, &first));
+    assert!(rt; all_have_prices(&crowd, &second));
+    let gate = CountingGate::new();
+    let mut demands = PooledDemands::make(Pool::reserve(alloc, 2)?, crowd, &gate);
+    demands.foresee(&rt, alloc, &all)?;
+    assert_eq!(rt; gate.take().1, 10);
+    let found = demands.counts(&rt, alloc, &first)?;
+    for counts in &found {
+        assert_eq!(rt; counts.as_slice(), [4].as_slice());
+    }
+    let found = demands.counts(&rt, alloc, &second)?;
+    assert_eq!(rt; gate.take().1, 0);
+    assert_eq!(rt; found.len(), 4);
+    for more in 0..4 {
+        let able = 4 - more as u32;
+        assert_eq!(rt; found[more].as_slice(), [able].as_slice());
+    }
+    Ok(())
+}
+
+// Prices from 84 on are told, and then a count is asked for at 103, which one student can pay.
+#[test]
+fn a_count_that_was_not_told_next(rt: HostRuntime) -> Result<(), Fail> {
+    let alloc = rt.alloc();
+    let crowd = shared_rivals(&rt, alloc, 4)?;
+    let all = at_each(alloc, 84, 104)?;
+    let last = [at(alloc, 103)?];
+    assert!(rt; all_have_prices(&crowd, &all));
+    assert!(rt; all_have_prices(&crowd, &last));
+    let mut demands = PooledDemands::make(Pool::reserve(alloc, 2)?, crowd, &OpenGate);
+    demands.foresee(&rt, alloc, &all)?;
+    let found = demands.counts(&rt, alloc, &last)?;
+    assert_eq!(rt; only(&rt, &found), 1);
+    Ok(())
+}
+
 #[test]
 fn counts_of_four_students(rt: HostRuntime) -> Result<(), Fail> {
     for workers in [1, 2, 16] {

@@ -1,4 +1,4 @@
-use Rattle.std.proofs.Common.{◌≡◌, ◌∙◌, refl, ap, subst}
+use Rattle.std.proofs.Common.{◌∙◌, refl, ap, subst}
 use Rattle.std.specs.Arc.{arc_value}
 use Rattle.std.specs.FinSet as set
 use Rattle.market_units.specs.Totals.{total}
@@ -28,19 +28,17 @@ demand_beside-requires-clause-first c =
     let crowd = arc_value question.remembered.now.crowd in
     let menu = c.menu.result.now in
     let before = question.remembered.now.prices.items in
-    let within : AreWithin c.between-cheaper.result.first c.between-cheaper.result.past before question.prices.now =
+    let within =
     subst (λ ps. AreWithin c.between-cheaper.result.first c.between-cheaper.result.past ps question.prices.now) c.deref.ensures.value
     c.between-cheaper.ensures in
     let below = places_low crowd crowd.sections question.student.0 menu refl question.listed (c.menu.ensures menu) in
-    let cost : c.price_of.result ≡ total (price_in question.prices.now) (sections_of c.earlier-first.result.now) =
-    c.price_of.ensures.value ∙ ap (total (price_in question.prices.now)) c.sections.ensures.value in
-    let paid = c.if-price_of-budget.false in
+    let cost = c.price_of.ensures.value ∙ ap (total (price_in question.prices.now)) c.sections.ensures.value in
     leads_demand crowd (price_in before) (price_in question.prices.now) question.student.0 menu c.budget-budget.result
     (set.contains question.remembered.now.allowed) c.in-Some.section.0 (sections_of c.earlier-first.result.now) question.listed (c.menu.ensures menu)
     (c.budget-budget.ensures c.budget-budget.result) question.remembered.now.every
-    (dearer_but menu crowd.sections c.between-cheaper.result.first c.between-cheaper.result.past c.in-Some.section.0 before question.prices.now below
-    question.remembered.now.priced.same question.priced.same within c.in-Some.ensures.0 c.in-Some.ensures.1)
-    (rw (← cost) paid) c.earlier-first.ensures
+    (dearer_but menu crowd.sections _ _ c.in-Some.section.0 before question.prices.now below question.remembered.now.priced.same question.priced.same within
+    c.in-Some.ensures.0 c.in-Some.ensures.1)
+    (rw (← cost) c.if-price_of-budget.false) c.earlier-first.ensures
 
 pub returns : goal.returns
 returns c =

@@ -26,7 +26,7 @@ start-requires-clause-round g c =
     (one_is_round crowd c.args.prices.now c.args.ask c.requires.prices c.requires.section)))
 
 pub invariant_of-self-2 : goal.invariant_of-self-2
-invariant_of-self-2 g c = record { same = c.args.self.now.same; noted = c.args.self.now.noted }
+invariant_of-self-2 g c = record { same = c.args.self.now.same; surveyed = c.args.self.now.surveyed; noted = c.args.self.now.noted }
 
 -- each student of the crowd is counted
 students_are : (crowd lent : Crowd) (n : ℕ) → n ≡ lent.menus.len → lent ≡ crowd → n ≡ length (data_of crowd).students

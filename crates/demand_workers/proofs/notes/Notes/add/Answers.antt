@@ -14,6 +14,6 @@ invariant_of-self-2 c =
     record {
       noted = subst (AreKept (crowd_of remembered)) (sym {A = List Kept} c.in_ok-push.ensures.items)
           (All-push (λ (k : Kept). IsNoted (crowd_of remembered) k.note) c.make_room.new.self.list.items _ c.make_room.new.self.noted
-          (right_noted (arc_value remembered.crowd) c.args.note
+          (right_noted (crowd_of remembered) c.args.note
           (subst (λ r. is_right_note (crowd_of (arc_value r)) c.args.note ≡ true) (sym c.make_room.ensures) c.requires)));
     }

@@ -9,6 +9,7 @@ use Rattle.demand_api.proofs.Parts.{top_high}
 use Rattle.demand_workers.specs.Allowances.{HasSpent}
 use Rattle.demand_workers.specs.Views.{crowd_of, price_before}
 use Rattle.demand_workers.proofs.Allowing.{spent_more, spent_on_some, spent_share, spent_whole}
+use Rattle.demand_workers.proofs.HoldersLeave.{listed_at}
 use Rattle.demand_workers.proofs.walks.PooledDemands+AnyGate.least_for_each.Goals as goal
 
 -- one walk more, in the same crowd, which gives back what is left of its share
@@ -35,6 +36,13 @@ pub least_price-requires-clause-crowd : goal.least_price-requires-clause-crowd
 least_price-requires-clause-crowd g c κs within =
     ap (λ r. crowd_of (arc_value r)) c.loop-place.invariant.same ∙ c.requires.crowd
     ∙ sym (ap (λ a. data_of (arc_value a)) c.loop-place.invariant.kept.0)
+
+pub least_price-requires-clause-list : goal.least_price-requires-clause-list
+least_price-requires-clause-list g c κs within =
+    listed_at c.deref.result.now (arc_value c.loop-place.notes.remembered) c.args.pairs.now c.in_ok-lists.lists.items c.loop-place.place c.from.result
+    (record { 0 = 0 }, 0) c.index-list.result.now c.deref-in-loop-place.result.now c.in_ok-lists.ensures.left
+    (c.deref.ensures ∙ ap (λ r. arc_value r) (sym c.loop-place.invariant.same)) (search rules) c.from.ensures c.index-list.ensures
+    c.deref-in-loop-place.ensures.value
 
 -- what is given back was taken before
 pub overflow_add-left : goal.overflow_add-left

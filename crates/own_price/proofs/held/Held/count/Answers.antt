@@ -1,5 +1,5 @@
 use Rattle.std.proofs.Common.{◌<◌, length, subst, sym}
-use Rattle.own_price.proofs.Tallies.{count_few}
+use Rattle.demand_api.proofs.Tallies.{count_few}
 use Rattle.own_price.proofs.held.Held.count.Goals as goal
 
 pub returns-clause-few : goal.returns-clause-few

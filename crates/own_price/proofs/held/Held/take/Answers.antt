@@ -2,9 +2,8 @@ use Rattle.std.proofs.Common.{◌≡◌, length, map, arith, subst, sym, rules}
 use Rattle.bundle_rules.specs.Bundles.{sections_of}
 use Rattle.bundle_rules.specs.Demand.{price_in}
 use Rattle.demand_api.specs.Crowds.{demand_of}
-use Rattle.demand_api.specs.Counting.{AreCounts}
+use Rattle.demand_api.specs.Counting.{AreCounts, IsTally}
 use Rattle.own_price.specs.Holding.{Holds}
-use Rattle.own_price.specs.Kept.{IsTally}
 use Rattle.own_price.proofs.Raising.{all_asked, all_count, all_few, all_range, others_within}
 use Rattle.own_price.proofs.held.Held.take.Goals as goal
 

@@ -1,4 +1,4 @@
-use Rattle.std.proofs.Common.{ℕ, ◌≡◌, ◌<◌, ◌+◌, ◌*◌, ◌∙◌, Option, arith, ap, sym, subst}
+use Rattle.std.proofs.Common.{◌≡◌, ◌<◌, ◌+◌, ◌*◌, ◌∙◌, Option, arith, ap, sym, subst}
 use Rattle.std.specs.Prelude.{IsSome, IfSome}
 use Rattle.bundle_rules.specs.declared.bundle.Bundle.{Bundle}
 use Rattle.bundle_rules.specs.Bundles.{sections_of}
@@ -6,18 +6,11 @@ use Rattle.task_board.specs.declared.data.AnswersData.{AnswersData}
 use Rattle.task_board.specs.Marks.{answer_in, mark_at}
 use Rattle.price_board.specs.declared.round.Ask.TheVariants.{Counts}
 use Rattle.price_board.specs.declared.terms.Terms.{Terms}
-use Rattle.price_board.specs.Rows.{number_of}
 use Rattle.price_board.specs.Settling.{ask_of}
 use Rattle.price_board.specs.Terms.{version_count, student_count, demand_of}
 use Rattle.price_board.proofs.Deciding.{counts_filled}
-use Rattle.price_board.proofs.Numbering.{right_posted}
+use Rattle.price_board.proofs.Numbering.{numbered, right_posted}
 use Rattle.price_board.proofs.answers.Answers.bundle.Goals as goal
-
--- the number of the task, of which the arguments were cast
-numbered : (terms : Terms) (v s students version student : ℕ) → v ≡ version → s ≡ student → students ≡ student_count terms
-    → v * students + s ≡ number_of terms version student
-numbered terms v s students version student is same all =
-    ap (λ w. w * students + s) is ∙ ap (λ n. version * n + s) all ∙ ap (λ t. version * student_count terms + t) same
 
 pub returns-clause-some : goal.returns-clause-some
 returns-clause-some c =

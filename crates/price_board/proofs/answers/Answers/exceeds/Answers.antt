@@ -17,7 +17,8 @@ returns c =
     let terms : Terms = terms_of (arc_value tasks.crowd) tasks.round in
     let marks = c.self.inside.answers.marks in
     let is : terms ≡ c.self.inside.answers.terms = c.tasks.ensures.terms in
-    exceeds_right terms marks (c.self.invariant.each ∙ ap task_count (sym is)) (subst (λ (t : Terms). AreRight round_rules t marks) (sym is) c.tasks.ensures.right)
+    exceeds_right terms marks (c.self.invariant.each ∙ ap task_count (sym is))
+    (subst (λ (t : Terms). AreRight round_rules t marks) (sym is) c.tasks.ensures.right)
     (subst (λ (t : Terms). AreSettled t marks) (sym is) c.self.invariant.settled) tasks.tallies.items c.from.result c.exceeds.result c.tasks.ensures.noted
     tasks.asked c.exceeds.ensures.none c.exceeds.ensures.some
     ∙ ap (λ (t : Terms). exceeds_of t c.from.result) is ∙ ap (λ (a : AnswersData Terms Bundle). exceeds_of a.terms c.from.result) c.self.view_is

@@ -1,4 +1,4 @@
-use Rattle.std.proofs.Common.{ℕ, ◌≡◌, ◌≤◌, ◌∙◌, length, replicate, arith, ap, sym, vec_len, Fits, w32}
+use Rattle.std.proofs.Common.{ℕ, ◌≡◌, ◌∙◌, length, replicate, arith, ap, sym, vec_len}
 use Rattle.std.specs.Arc.{arc_value}
 use Rattle.std.proofs.lemmas.List.{length-map, length-replicate}
 use Rattle.demand_api.specs.declared.crowd.Crowd.{Crowd}
@@ -16,20 +16,15 @@ counted n crowd seen is same = is ∙ ap (λ (x : Crowd). vec_len x.menus) same 
 
 pub overflow_cast-students : goal.overflow_cast-students
 overflow_cast-students c =
-    let n : ℕ = c.len-students.result in
-    let few : length (data_of (arc_value c.args.crowd)).students ≤ 2000 = students_few (arc_value c.args.crowd) in
-    let is : n ≡ length (data_of (arc_value c.args.crowd)).students =
-    counted c.len-students.result (arc_value c.args.crowd) c.deref.result.now c.len-students.ensures c.deref.ensures in
-    let goal : Fits w32 n = omega arith in goal
+    let is = counted c.len-students.result (arc_value c.args.crowd) c.deref.result.now c.len-students.ensures c.deref.ensures in
+    omega (arith, is, students_few (arc_value c.args.crowd))
 
 pub invariant_of-result : goal.invariant_of-result
 invariant_of-result c =
-    let few : length (data_of (arc_value c.args.crowd)).students ≤ 2000 = students_few (arc_value c.args.crowd) in
-    let is : c.len-students.result ≡ length (data_of (arc_value c.args.crowd)).students =
-    counted c.len-students.result (arc_value c.args.crowd) c.deref.result.now c.len-students.ensures c.deref.ensures in
+    let is = counted c.len-students.result (arc_value c.args.crowd) c.deref.result.now c.len-students.ensures c.deref.ensures in
     record {
       students_are = is;
-      few_students = (let goal : c.len-students.result ≤ 2000 = omega arith in goal);
+      few_students = omega (arith, is, students_few (arc_value c.args.crowd));
       few_versions = c.requires.round.few;
       asked = c.requires.round.asks;
       tallied =

@@ -1,8 +1,7 @@
-use Rattle.std.proofs.Common.{◌≤◌, ◌<◌, arith, subst}
+use Rattle.std.proofs.Common.{◌<◌, arith, subst}
 use Rattle.std.specs.Arc.{arc_value}
 use Rattle.task_board.specs.Marks.{answers_in}
 use Rattle.price_board.specs.Openings.{terms_of}
-use Rattle.price_board.specs.Terms.{student_count}
 use Rattle.price_board.proofs.Tallying.{may_note, noted_there, tally_small, unanswered_there}
 use Rattle.price_board.proofs.tasks.RoundTasksTasks.note.Goals as goal
 
@@ -12,14 +11,12 @@ with_bundle-requires c =
     let terms = terms_of (arc_value tasks.crowd) tasks.round in
     let small =
     tally_small terms tasks.tallies.items (answers_in c.args._marks.now) c.requires.noted c.version_of-version.result c.index-tally.result.now
-    (subst (λ n. c.version_of-version.result < n) tasks.tallied c.version_of-version.ensures.below) c.index-tally.ensures in
-    let few : student_count terms ≤ 2000 = subst (λ n. n ≤ 2000) tasks.students_are tasks.few_students in
-    let count : c.index-tally.result.now.count ≤ student_count terms = small.1 in (
+    (subst (λ n. c.version_of-version.result < n) tasks.tallied c.version_of-version.ensures.below) c.index-tally.ensures in (
       may_note terms tasks.tallies.items (answers_in c.args._marks.now) c.requires.noted tasks.asked c.args.task c.version_of-version.result
           c.index-tally.result.now c.index.result.now c.version_of-version.ensures.version c.version_of-version.ensures.below c.index-tally.ensures
           c.index.ensures c.args.bundle c.requires.task
           (unanswered_there terms c.args._marks.now c.args.task c.args.bundle c.requires.each c.requires.task c.requires.unanswered),
-      (let goal : c.index-tally.result.now.count ≤ 2000 = omega arith in goal),
+      omega (arith, small.1, tasks.students_are, tasks.few_students),
     )
 
 pub returns-clause-noted : goal.returns-clause-noted

@@ -1,4 +1,4 @@
-use Rattle.std.proofs.Common.{◌≡◌, ◌≤◌, ◌<◌, ◌+◌, ◌*◌, ◌∙◌, ℕ, ap, sym, subst, arith, length, slice_index}
+use Rattle.std.proofs.Common.{◌≡◌, ◌<◌, ◌+◌, ◌*◌, ◌∙◌, ap, sym, subst, arith, length, slice_index}
 use Rattle.std.proofs.lemmas.List.{get_or-replicate}
 use Rattle.chronicle.specs.Views.{sum_of}
 use Rattle.task_board.specs.Openings.{opening_of}
@@ -8,14 +8,12 @@ use Rattle.task_board.proofs.board.Board.start.Goals as goal
 
 pub start-requires-clause-room : goal.start-requires-clause-room
 start-requires-clause-room g c =
-    let a : ℕ = sum_of c.in_ok-allotments.allotments.items in
-    let b : ℕ = c.in_ok-state.state.room in
-    let same : a ≡ b =
+    let same : sum_of c.in_ok-allotments.allotments.items ≡ c.in_ok-state.state.room =
     ap sum_of (c.in_ok-allotments.ensures.items_if_clones_equal (λ y is. is)) ∙ sum_of-replicate c.from-2.result (2 * c.from.result + 1)
     ∙ ap (λ w. w * (2 * c.from.result + 1)) c.from-2.ensures
     ∙ ap (λ n. c.args.workers * (2 * n + 1)) (c.from.ensures ∙ c.count.ensures ∙ ap g.T.Tasks.rules.count c.in_ok-state.ensures.terms)
     ∙ sym c.in_ok-state.ensures.room in
-    let goal : a ≤ b = omega arith in goal
+    omega arith
 
 pub returns-clause-begun : goal.returns-clause-begun
 returns-clause-begun g c =
@@ -33,14 +31,12 @@ returns-clause-begun g c =
       numbers = λ n d low. ap (λ s. s.number) (c.in_ok-chronicle.ensures.seats n d (omega (arith, low, many)));
       free =
           λ k d below. let low : k < c.args.workers = subst (λ n. k < n) count below in
-          let inside : k < c.from-2.result = subst (λ n. k < n) (sym c.from-2.ensures) low in
           new_free g.T.Tasks.rules board k (slice_index c.in_ok-allotments.allotments.items k) _
           (c.in_ok-chronicle.ensures.seats k d (omega (arith, low, many))) opening
           (ap (λ l. slice_index l k) (c.in_ok-allotments.ensures.items_if_clones_equal (λ y is. is))
-          ∙ get_or-replicate c.from-2.result k (2 * c.from.result + 1) 0 inside
+          ∙ get_or-replicate c.from-2.result k (2 * c.from.result + 1) 0 (omega (arith, low, c.from-2.ensures))
           ∙ ap (λ n. 2 * n + 1) (c.from.ensures ∙ c.count.ensures ∙ ap g.T.Tasks.rules.count (sym c.in_ok-chronicle.ensures.chronicle.0)));
       fresh =
-          λ k d below. let low : k < c.args.workers = subst (λ n. k < n) count below in
-          let is = c.in_ok-chronicle.ensures.seats k d (omega (arith, low, many)) in
+          λ k d below. let is = c.in_ok-chronicle.ensures.seats k d (omega (arith, below, count, many)) in
           (ap (λ s. s.seen) is, ap (λ s. s.own) is);
     }

@@ -11,11 +11,10 @@ use Rattle.bundle_rules.specs.Bundles.{sections_of}
 use Rattle.market_units.specs.Members.{has}
 use Rattle.bundle_rules.specs.Ordinals.{ordinals, IsBundle}
 use Rattle.demand_api.specs.Crowds.{holders}
-use Rattle.demand_api.specs.Counting.{HasCounted}
+use Rattle.demand_api.specs.Counting.{HasCounted, IsTally}
 use Rattle.demand_api.proofs.Holders.{holders_set}
 use Rattle.demand_api.proofs.Takers.{holders_few, listed_in, sections_few, index_same}
 use Rattle.demand_api.proofs.Within.{read_at, within_at}
-use Rattle.own_price.specs.Kept.{IsTally}
 
 -- 1 for true, 0 for false
 abbrev one_if : Bool → ℕ
@@ -41,6 +40,17 @@ sections_some n bundles counts i bundle sections tally low is listed k d below =
     let count : slice_index counts s ≡ holders s (map sections_of bundles) = tally.each s in_range in
     omega arith
 
+-- no count passes the number of bundles
+pub count_few : (n : ℕ) (bundles : List Bundle) (counts : List ℕ) (s d : ℕ) → IsTally n bundles counts → s < n → slice_index_or counts s d ≤ 2000
+count_few n bundles counts s d tally in_range =
+    let at_most : holders s (map sections_of bundles) ≤ length (map sections_of bundles) = holders_few s (map sections_of bundles) in
+    let few : length bundles ≤ 2000 = tally.few in
+    let mapped : length (map sections_of bundles) ≡ length bundles = length-map bundles sections_of in
+    let here : slice_index counts s ≡ holders s (map sections_of bundles) = tally.each s in_range in
+    let long : length counts ≡ n = tally.len in
+    let read : slice_index_or counts s d ≡ slice_index counts s = index_same counts s d (omega arith) in
+    omega arith
+
 -- a count has room for one more
 pub tally_room : (n : ℕ) (bundles : List Bundle) (counts mid : List ℕ) (old : List ℕ) (sections : List SectionNo) (bundle : List ℕ) → IsTally n bundles counts
     → length mid ≡ length counts → ((s : ℕ) → s < length counts → HasCounted mid counts old s)
@@ -48,10 +58,7 @@ pub tally_room : (n : ℕ) (bundles : List Bundle) (counts mid : List ℕ) (old 
 tally_room n bundles counts mid old sections bundle tally same uncounted listed is k d low =
     let short : length sections ≤ 8 = sections_few sections bundle listed is in
     let long : length counts ≡ n = tally.len in
-    let at_most : holders k (map sections_of bundles) ≤ length (map sections_of bundles) = holders_few k (map sections_of bundles) in
-    let few : length bundles ≤ 2000 = tally.few in
-    let mapped : length (map sections_of bundles) ≡ length bundles = length-map bundles sections_of in
-    let here : slice_index counts k ≡ holders k (map sections_of bundles) = tally.each k (omega arith) in
+    let few : slice_index counts k ≤ 2000 = count_few n bundles counts k 0 tally (omega arith) in
     let less : slice_index counts k ≡ slice_index mid k + (if has old k then 1 else 0) = uncounted k (omega arith) in
     let read : slice_index_or mid k d ≡ slice_index mid k = index_same mid k d low in
     omega arith
@@ -98,14 +105,3 @@ tally_exchanged n bundles counts mid after i bundle other old new tally low is h
           let apart : j ≢ i = λ e. grind (arith, nat_tests) in
           tally.within j s (ap (λ b. has b s) (sym (get_or-set_other (map sections_of bundles) i j (sections_of other) [] apart)) ∙ has_it)
     ]
-
--- no count passes the number of bundles
-pub count_few : (n : ℕ) (bundles : List Bundle) (counts : List ℕ) (s d : ℕ) → IsTally n bundles counts → s < n → slice_index_or counts s d ≤ 2000
-count_few n bundles counts s d tally in_range =
-    let at_most : holders s (map sections_of bundles) ≤ length (map sections_of bundles) = holders_few s (map sections_of bundles) in
-    let few : length bundles ≤ 2000 = tally.few in
-    let mapped : length (map sections_of bundles) ≡ length bundles = length-map bundles sections_of in
-    let here : slice_index counts s ≡ holders s (map sections_of bundles) = tally.each s in_range in
-    let long : length counts ≡ n = tally.len in
-    let read : slice_index_or counts s d ≡ slice_index counts s = index_same counts s d (omega arith) in
-    omega arith
