@@ -1,0 +1,4 @@
+P=$1; cd /work/h/market
+for w in 1 4 1 4 1 4; do perf record -a -F 10000 -e cpu-clock -o /tmp/d.data $P demand $w CAT STU SET PRICES S1 S2 >/dev/null 2>&1; perf script -i /tmp/d.data -F comm,time,ip,sym 2>/dev/null | grep -E 'demand_oracle|bundle_bounds' | grep -oE "[0-9]+\.[0-9]{6}" | sort -n | awk -v w=$w 'NR==1{a=$1} {b=$1} END{print "demands of demand " w ": " (b-a)*1000 " ms"}'; done
+for d in m1000 m100 m250; do cd /work/h/$d; for k in 1 2; do for w in 1 4; do /usr/bin/time -f "%e %U %S" -o /tmp/fm $P run $w CAT STU SET S1 S2 >/tmp/fo; echo "$d $w $(tail -1 /tmp/fm)"; done; done; done
+cd /work/h/market; for k in 1 2; do for w in 1 4; do /usr/bin/time -f "%e %U %S" -o /tmp/fm $P make $w 7 2000 20 0 >/dev/null; echo "make20 $w $(tail -1 /tmp/fm)"; /usr/bin/time -f "%e %U %S" -o /tmp/fm $P make $w 7 2000 15 1000000000000 >/dev/null; echo "make15 $w $(tail -1 /tmp/fm)"; done; done
