@@ -3,7 +3,8 @@ use Rattle.std.specs.Prelude.{ℕ, ◌<◌, ◌≤◌, ◌≡◌, ◌+◌, List,
 use Rattle.market_units.specs.declared.units.Tokens.{Tokens}
 
 -- behind the first so many versions come those of the batch
-pub record AreNext (versions : List (List Tokens)) (done : ℕ) (batch : List (List Tokens)) : Type 0 where
+pub record AreNext (versions : List (List Tokens)) (done : ℕ) (batch : List (List Tokens))
+    : Type 0 where
   pub within : done + length batch ≤ length versions
   pub same : (v : ℕ) → v < length batch
       → slice_index_or versions (done + v) [] ≡ slice_index_or batch v []

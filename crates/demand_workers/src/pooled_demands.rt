@@ -37,17 +37,17 @@ use std::thread::Threads;
 const MOST_AHEAD: usize = 2 * MAX_VERSIONS * MAX_STUDENTS as usize;
 
 /// A crowd that is asked by the workers of a pool, each with a workspace of its own. What each
-/// student takes at some prices is remembered. Whom that does not settle at the versions of a call
-/// is asked in one round: an inquiry for each student and version, which workers draw from a board,
-/// each in a thread of its own where one can be started, or the first worker alone, in the caller's
-/// thread, where the inquiries are few. Where nothing is remembered, and in `exceeds`, each student
-/// is a task of a price board. Workers pass the gate before their first draw and after each post.
-/// Where holders have to be asked on walks to least prices, several workers rehearse in one round
-/// what comes: these walks, or, where seats were told and an elimination begins with the one pair,
-/// that elimination. A task is whoever is next to leave. What is found is noted, and serves
-/// wherever no section of the student's menu costs less. Where a call asked as many as it may, the
-/// rest of a walk is found by halving. The one form of this type is `PooledDemands<AnyGate>`, which
-/// `make` gives.
+/// student takes at some prices is remembered. Whom that does not settle at the versions of a call,
+/// or at all that several workers are told of before, is asked in one round: an inquiry for each
+/// student and version, which workers draw from a board, each in a thread of its own where one can
+/// be started, or the first worker alone, in the caller's thread, where the inquiries are few.
+/// Where nothing is remembered, and in `exceeds`, each student is a task of a price board. Workers
+/// pass the gate before their first draw and after each post. Where holders have to be asked on
+/// walks to least prices, several workers rehearse in one round what comes: these walks, or, where
+/// seats were told and an elimination begins with the one pair, that elimination. A task is whoever
+/// is next to leave. What is found is noted, and serves wherever no section of the student's menu
+/// costs less. Where a call asked as many as it may, the rest of a walk is found by halving. The
+/// one form of this type is `PooledDemands<AnyGate>`, which `make` gives.
 #[derive(Drop)]
 pub struct PooledDemands<G> {
     pub(crate) crowd: Arc<Crowd>,
