@@ -23,6 +23,7 @@ pub(crate) struct CountingGate {
 }
 
 impl CountingGate {
+    /// A gate that has counted nothing.
     pub(crate) fn new() -> Self {
         CountingGate {
             starts: AtomicU64::new(0),
@@ -101,8 +102,9 @@ fn counts_by<R: Abort + Threads + Wait + Sync>(
     Ok(counts)
 }
 
-// Of 600 students with budgets from 100 on so many can pay 100, 140 and so on to 700. That is enough
-// for two threads to look for those whom what is remembered does not settle.
+// 600 students have budgets from 100 to 699, and each wants the one section: at 100 all of them take
+// it, at 140 all but 40. So many students, at so many prices, are enough for two threads to look for
+// those who must be asked.
 #[test]
 fn counts_of_many(rt: HostRuntime) -> Result<(), Fail> {
     let alloc = rt.alloc();
