@@ -37,7 +37,7 @@ sections_some n bundles counts i bundle sections tally low is listed k d below =
     let low_map : i < length (map sections_of bundles) = rw (length-map bundles sections_of) low in
     let some : 1 ≤ holders s (map sections_of bundles) =
     holders_some s i (map sections_of bundles) low_map (ap (λ b. has b s) (read_at bundles i bundle low is) ∙ has_it) in
-    let count : slice_index counts s ≡ holders s (map sections_of bundles) = tally.each s in_range in
+    let count : slice_index counts s ≡ holders s (map sections_of bundles) = tally.counted.each s in_range in
     omega arith
 
 -- no count passes the number of bundles
@@ -46,8 +46,8 @@ count_few n bundles counts s d tally in_range =
     let at_most : holders s (map sections_of bundles) ≤ length (map sections_of bundles) = holders_few s (map sections_of bundles) in
     let few : length bundles ≤ 2000 = tally.few in
     let mapped : length (map sections_of bundles) ≡ length bundles = length-map bundles sections_of in
-    let here : slice_index counts s ≡ holders s (map sections_of bundles) = tally.each s in_range in
-    let long : length counts ≡ n = tally.len in
+    let here : slice_index counts s ≡ holders s (map sections_of bundles) = tally.counted.each s in_range in
+    let long : length counts ≡ n = tally.counted.len in
     let read : slice_index_or counts s d ≡ slice_index counts s = index_same counts s d (omega arith) in
     omega arith
 
@@ -57,7 +57,7 @@ pub tally_room : (n : ℕ) (bundles : List Bundle) (counts mid : List ℕ) (old 
     → ordinals sections ≡ bundle → IsBundle bundle → All (λ m. m + length sections < 4294967296) mid
 tally_room n bundles counts mid old sections bundle tally same uncounted listed is k d low =
     let short : length sections ≤ 8 = sections_few sections bundle listed is in
-    let long : length counts ≡ n = tally.len in
+    let long : length counts ≡ n = tally.counted.len in
     let few : slice_index counts k ≤ 2000 = count_few n bundles counts k 0 tally (omega arith) in
     let less : slice_index counts k ≡ slice_index mid k + (if has old k then 1 else 0) = uncounted k (omega arith) in
     let read : slice_index_or mid k d ≡ slice_index mid k = index_same mid k d low in
@@ -73,22 +73,24 @@ pub tally_exchanged : (n : ℕ) (bundles : List Bundle) (counts mid after : List
 tally_exchanged n bundles counts mid after i bundle other old new tally low is held others within same_mid same_after uncounted counted = record {
   few = rw (length-set bundles i other) tally.few;
   within = λ j s has_it. within_set j s (ap (λ bs. has (slice_index_or bs j []) s) (sym (map-set sections_of bundles i other)) ∙ has_it);
-  len = same_after ∙ same_mid ∙ tally.len;
-  each = λ s in_range.
-      let long : length counts ≡ n = tally.len in
-      let before : slice_index counts s ≡ holders s (map sections_of bundles) = tally.each s in_range in
-      let less : slice_index counts s ≡ slice_index mid s + (if has old s then 1 else 0) = uncounted s (omega arith) in
-      let more : slice_index after s ≡ slice_index mid s + (if has new s then 1 else 0) = counted s (omega arith) in
-      let set : holders s (slice_set (map sections_of bundles) i (sections_of other)) + (if has (slice_index_or (map sections_of bundles) i []) s then 1 else 0)
-      ≡ holders s (map sections_of bundles) + (if has (sections_of other) s then 1 else 0) =
-      holders_set s (map sections_of bundles) i (slice_index_or (map sections_of bundles) i []) (sections_of other)
-      (slice_get-get_or (map sections_of bundles) i [] low_map) in
-      let old_is : one_if (has (slice_index_or (map sections_of bundles) i []) s) ≡ one_if (has old s) =
-      ap (λ b. one_if (has b s)) (read_at bundles i bundle low is ∙ sym held) in
-      let new_is : one_if (has new s) ≡ one_if (has (sections_of other) s) = ap (λ b. one_if (has b s)) others in
-      let mapped : holders s (map sections_of (slice_set bundles i other)) ≡ holders s (slice_set (map sections_of bundles) i (sections_of other)) =
-      ap (holders s) (map-set sections_of bundles i other) in
-      omega (arith, before, less, more, set, old_is, new_is, mapped);
+  counted = record {
+    len = same_after ∙ same_mid ∙ tally.counted.len;
+    each = λ s in_range.
+        let long : length counts ≡ n = tally.counted.len in
+        let before : slice_index counts s ≡ holders s (map sections_of bundles) = tally.counted.each s in_range in
+        let less : slice_index counts s ≡ slice_index mid s + (if has old s then 1 else 0) = uncounted s (omega arith) in
+        let more : slice_index after s ≡ slice_index mid s + (if has new s then 1 else 0) = counted s (omega arith) in
+        let set : holders s (slice_set (map sections_of bundles) i (sections_of other)) + (if has (slice_index_or (map sections_of bundles) i []) s then 1 else 0)
+        ≡ holders s (map sections_of bundles) + (if has (sections_of other) s then 1 else 0) =
+        holders_set s (map sections_of bundles) i (slice_index_or (map sections_of bundles) i []) (sections_of other)
+        (slice_get-get_or (map sections_of bundles) i [] low_map) in
+        let old_is : one_if (has (slice_index_or (map sections_of bundles) i []) s) ≡ one_if (has old s) =
+        ap (λ b. one_if (has b s)) (read_at bundles i bundle low is ∙ sym held) in
+        let new_is : one_if (has new s) ≡ one_if (has (sections_of other) s) = ap (λ b. one_if (has b s)) others in
+        let mapped : holders s (map sections_of (slice_set bundles i other)) ≡ holders s (slice_set (map sections_of bundles) i (sections_of other)) =
+        ap (holders s) (map-set sections_of bundles i other) in
+        omega (arith, before, less, more, set, old_is, new_is, mapped);
+  };
 }
   where
     low_map : i < length (map sections_of bundles)

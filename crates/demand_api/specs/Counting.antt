@@ -15,15 +15,13 @@ HasCounted before after bundle s =
 abbrev pub AreWithin : ℕ → List (List ℕ) → Type 0
 AreWithin sections bundles = (i s : ℕ) → has (slice_index_or bundles i []) s ≡ true → s < sections
 
--- each section's count so far
+-- for each section how many of these bundles have it
 pub record AreCounts (sections : ℕ) (bundles : List (List ℕ)) (counts : List ℕ) : Type 0 where
   pub len : length counts ≡ sections
   pub each : (s : ℕ) → s < sections → slice_index counts s ≡ holders s bundles
 
--- at most 2,000 bundles of sections below this number, and for each section how many of them have
--- it
+-- at most 2,000 bundles of sections below this number, and their counts
 pub record IsTally (sections : ℕ) (bundles : List Bundle) (counts : List ℕ) : Type 0 where
   pub few : length bundles ≤ MAX_STUDENTS
   pub within : AreWithin sections (map sections_of bundles)
-  pub len : length counts ≡ sections
-  pub each : (s : ℕ) → s < sections → slice_index counts s ≡ holders s (map sections_of bundles)
+  pub counted : AreCounts sections (map sections_of bundles) counts

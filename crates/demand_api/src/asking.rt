@@ -61,10 +61,10 @@ pub trait Demands {
             (inquiries self.new) }
         ensures value { IfOk result (λ found. map (λ counts. counts.items) found.items ≡ map (λ prices. counts (crowd self.old) (price_in prices.items)) batch.now) };
 
-    /// Tells at which vectors counts will be asked for next, in their order. Who asks its students
-    /// at all of them in one round can answer those calls from what it found. Nothing is promised
-    /// but what stays: each count is as it would be without. Each student is asked at most once at
-    /// each, and once more. The provided body does nothing.
+    /// Tells at which vectors counts will be asked for next, in their order. Neither the crowd nor
+    /// the number of calls changes, and each student is asked at most once at each vector, and once
+    /// more. Who asks at all of them in one round can answer those calls from what it found. The
+    /// provided body does nothing.
     fn foresee<R: Threads + Wait + Sync>(
         &mut self,
         _rt: &R,

@@ -66,12 +66,12 @@ pub fn uncount_bundle(counts: &mut [u32], sections: &[SectionNo])
     }
 }
 
-/// Puts another bundle at this place, and keeps the counts of the sections in step.
+/// Puts another bundle at this place, and keeps the counts of the sections in step. The counts are
+/// those of the bundles, of which there are at most 2,000, and each section of the other has one.
 pub fn exchange_bundle(counts: &mut [u32], bundles: &mut [Bundle], place: usize, other: Bundle)
     requires tally { IsTally (length counts.old) bundles.old counts.old }
     requires place { place < length bundles.old }
     requires within { (s : ℕ) → has (sections_of other) s ≡ true → s < length counts.old }
-    ensures len { length counts.new ≡ length counts.old }
     ensures bundles { bundles.new ≡ slice_set bundles.old place other }
     ensures tally { IsTally (length counts.old) bundles.new counts.new }
 {

@@ -58,7 +58,7 @@ counts_taken remembered prices bundles found all taken tally =
     counts_done (crowd_of remembered) (price_in prices) (length whole) found past
     (subst (λ (bs : List (List ℕ)). AreCounts (crowd_of remembered).sections bs found)
     (taken_demands remembered prices bundles all taken ∙ sym (take_all (length whole) whole past))
-    (record { len = tally.len; each = tally.each }))
+    tally.counted)
 
 module _ (crowd : CrowdData) (prices : List Tokens) (v n : ℕ) (inquiries : List Inquiry) where
   -- before the part of the version nobody is asked there
@@ -149,7 +149,7 @@ module _ (inquiries : Inquiries) (v : ℕ) (surveyed : AreSurveyed inquiries) wh
         written =
             written_begin (crowd_of remembered) (prices_then inquiries v) v (length remembered.bundles.items) inquiries.list.items remembered.bundles.items
             (length inquiries.list.items) part (surveyed.others v low) refl refl stands;
-        tally = record { few = remembered_few remembered; within = remembered_within remembered; len = are.len; each = are.each };
+        tally = record { few = remembered_few remembered; within = remembered_within remembered; counted = are };
       }))
 
   -- one exchange more

@@ -16,7 +16,7 @@ use Rattle.demand_api.specs.Views.{data_of}
 use Rattle.demand_api.proofs.Keeping.{total_has_le}
 use Rattle.demand_api.proofs.Takers.{demand_at}
 use Rattle.demand_oracle.specs.Beside.{LeadsThoseWithout}
-use Rattle.demand_workers.specs.Remembered.{AreWithin}
+use Rattle.demand_workers.specs.Remembered.{FellWithin}
 use Rattle.demand_workers.proofs.Recalling.{rated_no_cheaper}
 
 -- the best bundle before a section alone became cheaper is preferred to all without it, where it is still affordable
@@ -34,7 +34,7 @@ leads_where_cheaper wishes before after budget fewer allowed section bundle same
 
 -- no rated section but that one became cheaper
 pub dearer_but : (menu : MenuData) (sections first past section : ℕ) (before after : List Tokens)
-    → All (λ (rated : Rated). rated.section.0 < sections) menu.places → length before ≡ sections → length after ≡ sections → AreWithin first past before after
+    → All (λ (rated : Rated). rated.section.0 < sections) menu.places → length before ≡ sections → length after ≡ sections → FellWithin first past before after
     → section ≡ first → past ≡ first + 1 → (s : ℕ) → 0 < (wishes_of menu).rating s → s ≢ section → price_in before s ≤ price_in after s
 unfolding wishes_of
 dearer_but menu sections first past section before after below same same' within its one s rated other =

@@ -1,5 +1,5 @@
 -- A round and the seats of its board.
-use Rattle.std.proofs.Common.{ℕ, zero, suc, ◌≡◌, ◌<◌, ◌≤◌, ◌∙◌, List, [], ◌∷◌, Vec, Global, All, length, slice_index_or, refl, ap, sym, subst, arith}
+use Rattle.std.proofs.Common.{ℕ, zero, suc, ◌≡◌, ◌<◌, ◌≤◌, ◌∙◌, ◌↔◌, List, [], ◌∷◌, Vec, Global, All, length, slice_index_or, refl, ap, sym, subst, arith}
 use Rattle.std.proofs.lemmas.List.{get_or-map, length-map}
 use Rattle.market_units.specs.declared.units.Tokens.{Tokens}
 use Rattle.demand_api.specs.declared.crowd.Crowd.{Crowd}
@@ -39,6 +39,15 @@ pub version_prices : (versions : List (Vec Tokens Global)) (v : ℕ) (version : 
     → version ≡ slice_index_or versions v version → prices ≡ version.items → slice_index_or (prices_of versions) v [] ≡ prices
 version_prices versions v version prices low at are =
     get_or-map (λ (w : Vec Tokens Global). w.items) versions v version [] low ∙ ap (λ (w : Vec Tokens Global). w.items) (sym at) ∙ sym are
+
+-- two versions are the same where their prices are
+pub versions_same : (versions batch : List (Vec Tokens Global)) (i j : ℕ) (one other : Vec Tokens Global) (p q : List Tokens) → i < length versions
+    → one ≡ slice_index_or versions i one → p ≡ one.items → j < length batch → other ≡ slice_index_or batch j other → q ≡ other.items
+    → (p ≡ q) ↔ (slice_index_or (prices_of versions) i [] ≡ slice_index_or (prices_of batch) j [])
+versions_same versions batch i j one other p q low at are low' at' are' =
+    let first = version_prices versions i one p low at are in
+    let second = version_prices batch j other q low' at' are' in
+    ((λ same. first ∙ same ∙ sym second), (λ same. sym first ∙ same ∙ second))
 
 -- copies of versions are versions
 pub copies_priced : (crowd : CrowdData) (versions copies : List (Vec Tokens Global)) → prices_of copies ≡ prices_of versions → AreVersionsFor crowd versions

@@ -12,11 +12,11 @@ use Rattle.demand_api.specs.Crowds.{CrowdData, top}
 use Rattle.demand_workers.specs.declared.inquiry.Inquiry.{Inquiry}
 use Rattle.demand_workers.specs.Asked.{no_inquiry}
 use Rattle.demand_workers.specs.Inquiring.{CanBeRaised, IsInquiry}
-use Rattle.demand_workers.specs.Remembered.{AreWithin, IsKept, NoneIsCheaper}
+use Rattle.demand_workers.specs.Remembered.{FellWithin, IsKept, NoneIsCheaper}
 use Rattle.demand_workers.specs.Surveys.{IsLeftOut, AreOthersKept, IsSurvey}
 
 -- where nothing stands between, no section became cheaper
-pub none_between : (places : List Rated) (before after : List Tokens) (first past : ℕ) → AreWithin first past before after → past ≤ first
+pub none_between : (places : List Rated) (before after : List Tokens) (first past : ℕ) → FellWithin first past before after → past ≤ first
     → All (λ (rated : Rated). rated.section.0 < length before) places → All (λ (rated : Rated). rated.section.0 < length after) places
     → NoneIsCheaper places before after
 none_between places before after first past within empty listed priced i d low =

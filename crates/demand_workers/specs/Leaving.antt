@@ -12,8 +12,8 @@ use Rattle.demand_api.specs.Prices.{with_price}
 abbrev pub takes : CrowdData → (ℕ → ℕ) → ℕ → ℕ → ℕ → Bool
 takes crowd price s p student = has (demand_of crowd (with_price price s p) student) s
 
--- the price from which a listed holder does not keep what it holds; the list has 1,000,001 less
--- that price, and the holder's number
+-- the price below which a listed holder takes the section, of which nothing is said from there on;
+-- the list has 1,000,001 less that price, and the holder's number
 abbrev pub leaves : ℕ × ℕ → ℕ
 leaves holder = MAX_PRICE - holder.0
 
@@ -21,8 +21,8 @@ leaves holder = MAX_PRICE - holder.0
 abbrev pub listed : ℕ → List (ℕ × ℕ) → ℕ
 listed student holders = sum_by (λ holder. if holder.1 == student then 1 else 0) holders
 
--- the holder does not leave below this price, and takes the section up to the price at which it
--- leaves, which is at most the top
+-- the holder does not leave below this price, and still takes the section a token below the price
+-- at which it leaves, which is at most the top
 pub record Keeps (crowd : CrowdData) (price : ℕ → ℕ) (s level : ℕ) (holder : ℕ × ℕ) : Type 0 where
   pub room : holder.0 ≤ MAX_PRICE
   pub some : 1 ≤ leaves holder
@@ -39,7 +39,8 @@ pub record AreLeft (crowd : CrowdData) (price : ℕ → ℕ) (s level : ℕ)
   pub keep : All (Keeps crowd price s level) holders
   pub others : (student : ℕ) → takes crowd price s level student ≡ true → 1 ≤ listed student holders
 
--- at its place is a list of all who hold the section, for the section of each of these pairs
+-- at its place is a list for the section of each of these pairs: of all who take the section, and
+-- perhaps of some who would take it for a token less
 abbrev pub AreListed : CrowdData → (ℕ → ℕ) → List (SectionNo × ℕ)
     → List (Vec (ℕ × ℕ) Global) → Type 0
 AreListed crowd price pairs lists =

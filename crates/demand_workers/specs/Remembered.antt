@@ -18,8 +18,9 @@ abbrev pub NoneIsCheaper : List Rated → List Tokens → List Tokens → Type 0
 NoneIsCheaper places before after =
     All (λ rated. price_in before rated.section.0 ≤ price_in after rated.section.0) places
 
--- a section that is below the first number, or not below the second, did not become cheaper
-pub record AreWithin (first past : ℕ) (before after : List Tokens) : Type 0 where
+-- a section that has both prices and is below the first number, or not below the second, did not
+-- become cheaper
+pub record FellWithin (first past : ℕ) (before after : List Tokens) : Type 0 where
   pub below : (s : ℕ) → s < length before → s < length after → s < first
       → price_in before s ≤ price_in after s
   pub above : (s : ℕ) → s < length before → s < length after → past ≤ s

@@ -9,13 +9,13 @@ use Rattle.demand_workers.specs.declared.cheaper.Cheaper.{Cheaper}
 use Rattle.demand_workers.specs.declared.inquiry.Inquiry.{Inquiry}
 use Rattle.demand_workers.specs.Asked.{no_inquiry}
 use Rattle.demand_workers.specs.Inquiring.{IsInquiry}
-use Rattle.demand_workers.specs.Remembered.{AreWithin, IsKept}
+use Rattle.demand_workers.specs.Remembered.{FellWithin, IsKept}
 
 -- each says, of the version of its place, where the sections stand that became cheaper
 abbrev pub AreEachWithin : List Tokens → List (List Tokens) → List Cheaper → Type 0
 AreEachWithin before versions cheaper =
     (v : ℕ) (d : Cheaper) → v < length cheaper
-    → AreWithin (slice_index_or cheaper v d).first (slice_index_or cheaper v d).past before
+    → FellWithin (slice_index_or cheaper v d).first (slice_index_or cheaper v d).past before
     (slice_index_or versions v [])
 
 -- each version whose place in the student's row says true is one at whose prices the student takes

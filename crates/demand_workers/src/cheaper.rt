@@ -1,7 +1,7 @@
 // Where the sections stand that became cheaper.
 ghost use Rattle.std.specs.Prelude.{◌≡◌, ◌<◌, ◌≤◌, ◌↔◌, ◌+◌, All, IfSome, IsTrue, length};
 ghost use Rattle.bundle_rules.specs.Demand.{price_in};
-ghost use Rattle.demand_workers.specs.Remembered.{AreWithin, NoneIsCheaper};
+ghost use Rattle.demand_workers.specs.Remembered.{FellWithin, NoneIsCheaper};
 
 use bundle_rules::Rated;
 use market_units::{SectionNo, Tokens};
@@ -16,7 +16,7 @@ pub(crate) struct Cheaper {
 impl Cheaper {
     /// Any section may have become cheaper.
     pub(crate) fn anywhere(before: &[Tokens], _after: &[Tokens]) -> Cheaper
-        ensures { AreWithin result.first result.past before.now _after.now }
+        ensures { FellWithin result.first result.past before.now _after.now }
     {
         Cheaper {
             first: 0,
@@ -27,7 +27,7 @@ impl Cheaper {
     /// From the first section that became cheaper to the last. Where none did, there is none
     /// between the two.
     pub(crate) fn between(before: &[Tokens], after: &[Tokens]) -> Cheaper
-        ensures { AreWithin result.first result.past before.now after.now }
+        ensures { FellWithin result.first result.past before.now after.now }
     {
         let sections = before.len().min(after.len());
         let mut first = sections;
@@ -66,7 +66,7 @@ pub(crate) fn spares(
 ) -> bool
     requires before { All (λ rated. rated.section.0 < length before.now) places.now }
     requires after { All (λ rated. rated.section.0 < length after.now) places.now }
-    requires within { AreWithin cheaper.first cheaper.past before.now after.now }
+    requires within { FellWithin cheaper.first cheaper.past before.now after.now }
     ensures { IsTrue result → NoneIsCheaper places.now before.now after.now }
 {
     if cheaper.past <= cheaper.first {
@@ -84,7 +84,7 @@ pub(crate) fn spares(
 fn is_spared(cheaper: Cheaper, section: SectionNo, before: &[Tokens], after: &[Tokens]) -> bool
     requires before { section.0 < length before.now }
     requires after { section.0 < length after.now }
-    requires within { AreWithin cheaper.first cheaper.past before.now after.now }
+    requires within { FellWithin cheaper.first cheaper.past before.now after.now }
     ensures { IsTrue result → price_in before.now section.0 ≤ price_in after.now section.0 }
 {
     let place = usize::from(section.0);

@@ -1,5 +1,5 @@
 // What is surveyed before counts are asked for.
-ghost use Rattle.std.specs.Prelude.{◌≡◌, ◌<◌, IsTrue, length};
+ghost use Rattle.std.specs.Prelude.{◌≡◌, ◌<◌, ◌↔◌, IsTrue, length};
 ghost use Rattle.std.specs.Arc.{arc_value};
 ghost use Rattle.demand_workers.specs.{Foreseen.AreNext, Rounds.prices_of};
 
@@ -18,7 +18,7 @@ impl Foreseen {
     /// Whether the versions that come next are these.
     pub(crate) fn goes_on_with(&self, batch: &[Vec<Tokens>]) -> bool
         ensures { IsTrue result
-            → AreNext (prices_of (arc_value self.now.survey.found.inquiries).versions.items)
+            ↔ AreNext (prices_of (arc_value self.now.survey.found.inquiries).versions.items)
             self.now.done (prices_of batch.now) }
     {
         let versions: &[Vec<Tokens>] = &self.survey.found.inquiries.versions;

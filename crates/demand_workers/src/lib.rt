@@ -3,8 +3,8 @@
 // Neither: that workers run beside one another, beyond a test of the whole program; which students
 // are asked, and by which thread; that nobody is asked outside the rounds of `counted.rt`, of which
 // each counts its students; anything of a rehearsal but the notes that it gives; that all memory of
-// a call is taken before its first thread starts (between two rounds of threads memory may be
-// wanted, when none runs); how long it takes.
+// a call is taken before its first thread starts (between two rounds of threads, and behind the
+// last, memory may be wanted, when none runs); how long it takes.
 #![tactic(auto)]
 
 mod allowance;

@@ -1,5 +1,5 @@
 // What is noted of students who were asked at raised prices, and what of it serves at others.
-ghost use Rattle.std.specs.Prelude.{◌≡◌, ◌<◌, ◌≤◌, ℕ, [], ◌∷◌, All, IfOk, IfSome, IsTrue, None, length, true};
+ghost use Rattle.std.specs.Prelude.{◌≡◌, ◌<◌, ◌≤◌, ◌↔◌, ℕ, [], ◌∷◌, All, IfOk, IfSome, IsTrue, None, length, true};
 ghost use Rattle.std.specs.Arc.{arc_value};
 ghost use Rattle.bundle_rules.specs.{Bundles.sections_of, Demand.price_in};
 ghost use Rattle.demand_workers.specs.Answering.{answer_to};
@@ -185,7 +185,7 @@ fn raised_note(remembered: &Remembered, inquiry: Inquiry, bundle: &Bundle) -> Op
     requires inquiry { IsInquiry (crowd_of remembered.now) 1 inquiry }
     requires taken { sections_of bundle.now
         ≡ taken_at (crowd_of remembered.now) (remembered.now.prices.items ∷ []) inquiry }
-    ensures none { result ≡ None → inquiry.raised ≡ None }
+    ensures none { (result ≡ None) ↔ (inquiry.raised ≡ None) }
     ensures right { IfSome result
         (λ note. is_right_note (crowd_of remembered.now) note ≡ true) }
 {

@@ -32,8 +32,8 @@ use std::alloc::Global;
 use std::sync::{Arc, Wait};
 use std::thread::Threads;
 
-// At most so many inquiries are made before counts are asked for: as many as two calls of `counts`
-// can make, so that not much more memory is wanted.
+// At most so many inquiries are asked before counts are asked for: as many as two calls of `counts`
+// can ask. The list of those that would have to be asked is made before, however long it is.
 const MOST_AHEAD: usize = 2 * MAX_VERSIONS * MAX_STUDENTS as usize;
 
 /// A crowd that is asked by the workers of a pool, each with a workspace of its own. What each

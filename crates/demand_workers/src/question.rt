@@ -24,7 +24,7 @@ impl Question<'_> {
     ghost use Rattle.std.specs.Prelude.{◌≡◌, IfSome, IsTrue, slice_index_or, true};
     ghost use Rattle.bundle_rules.specs.Bundles.{sections_of};
     ghost use Rattle.demand_workers.specs.Answering.{answer_to, taken_before};
-    ghost use Rattle.demand_workers.specs.Remembered.{AreWithin};
+    ghost use Rattle.demand_workers.specs.Remembered.{FellWithin};
     ghost use Rattle.demand_workers.specs.Walks.{is_right_note};
 
     /// The student's menu.
@@ -86,7 +86,7 @@ impl Question<'_> {
     /// Whether the student surely takes what is remembered of it at these prices too: the bundle is
     /// still affordable, and no section of the menu became cheaper.
     pub(crate) fn stays(&self, cheaper: Cheaper) -> bool
-        requires { AreWithin cheaper.first cheaper.past self.now.remembered.now.prices.items
+        requires { FellWithin cheaper.first cheaper.past self.now.remembered.now.prices.items
             self.now.prices.now }
         ensures { IsTrue result → taken_before self.now ≡ answer_to self.now }
     {

@@ -1,5 +1,5 @@
 // What is remembered of a crowd.
-ghost use Rattle.std.specs.Prelude.{◌≡◌, ℕ, IsTrue, length, nat_lt};
+ghost use Rattle.std.specs.Prelude.{◌≡◌, ◌↔◌, ℕ, IsTrue, length, nat_lt};
 ghost use Rattle.std.specs.Arc.{arc_value};
 ghost use Rattle.std.specs.FinSet as set;
 ghost use Rattle.demand_api.specs.{Asking.ArePricesFor, Views.data_of};
@@ -26,7 +26,7 @@ pub struct Remembered {
 
 /// Whether these are the same prices.
 pub(crate) fn are_same(one: &[Tokens], other: &[Tokens]) -> bool
-    ensures { IsTrue result → one.now ≡ other.now }
+    ensures { IsTrue result ↔ one.now ≡ other.now }
 {
     one == other
 }

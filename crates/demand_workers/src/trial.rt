@@ -1,5 +1,5 @@
 // Prices of which one is tried.
-ghost use Rattle.std.specs.Prelude.{◌≡◌, ◌<◌, ◌≤◌, [], ◌∷◌, IfSome, None, length, slice_set};
+ghost use Rattle.std.specs.Prelude.{◌≡◌, ◌<◌, ◌≤◌, ◌↔◌, [], ◌∷◌, IfSome, None, length, slice_set};
 ghost use Rattle.demand_workers.specs.Answering.{answer_to};
 ghost use Rattle.demand_workers.specs.Inquiring.{IsInquiry, taken_at};
 ghost use Rattle.demand_workers.specs.Views.{crowd_of};
@@ -38,7 +38,7 @@ pub(crate) fn raised_question<'r>(
     requires { IsInquiry (crowd_of remembered.now) 1 inquiry }
     ensures remembered { IfSome result (λ question. question.remembered.now ≡ remembered.now) }
     ensures student { IfSome result (λ question. question.student ≡ inquiry.student) }
-    ensures none { result ≡ None → inquiry.raised ≡ None }
+    ensures none { (result ≡ None) ↔ (inquiry.raised ≡ None) }
     ensures asks { IfSome result
         (λ question. answer_to question
         ≡ taken_at (crowd_of remembered.now) (remembered.now.prices.items ∷ []) inquiry) }

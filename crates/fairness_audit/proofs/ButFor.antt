@@ -2,7 +2,7 @@
 use Rattle.std.proofs.Common.{◌≡◌, ◌<◌, ◌≤◌, ◌+◌, ◌++◌, ◌==◌, ◌∙◌, ℕ, suc, Bool, true, false, not, List, [], ◌∷◌, length, get_or, take, refl, ap, sym, subst, arith, inl, inr}
 use Rattle.std.specs.List.{filter}
 use Rattle.std.proofs.lemmas.Bool.{cases_Bool}
-use Rattle.std.proofs.lemmas.List.{append-nil, length-map, length-take-le, take_more, map-append}
+use Rattle.std.proofs.lemmas.List.{length-map, length-take-le, take_more, map-append}
 use Rattle.std.proofs.lemmas.List.Elements.{filter-append}
 use Rattle.market_units.specs.declared.units.SectionNo.{SectionNo}
 use Rattle.bundle_rules.specs.Ordinals.{ordinals}
@@ -48,13 +48,6 @@ module _ (s : ℕ) (items : List SectionNo) (k : ℕ) (d : SectionNo) (low : k <
       one_more
       ∙ ap (λ l. without_section s (ordinals (take k items)) ++ l)
       (let goal : without_section s ((get_or items k d).0 ∷ []) ≡ (get_or items k d).0 ∷ [] = rw other refl in goal)
-
-  -- and one that does not
-  pub one_goes : ((get_or items k d).0 == s) ≡ true → without_section s (ordinals (take (k + 1) items)) ≡ without_section s (ordinals (take k items))
-  one_goes same =
-      one_more
-      ∙ ap (λ l. without_section s (ordinals (take k items)) ++ l) (let goal : without_section s ((get_or items k d).0 ∷ []) ≡ [] = rw same refl in goal)
-      ∙ append-nil (without_section s (ordinals (take k items)))
 
   -- the one that stays is above those before it
   pub stays_above : ((get_or items k d).0 == s) ≡ false → IsAscending (ordinals items)

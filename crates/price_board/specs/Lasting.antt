@@ -80,9 +80,11 @@ none_asked Counts = refl
 none_asked (Exceeds section limit) = refl
 
 module _ (row : List (Option Bundle)) (s : ℕ) (bundle : Bundle) (none : slice_index_or row s (Some bundle) ≡ None) where
+  -- who has no bundle yet has a place in the row
   pub within_row : s < length row
   within_row = under row s (Some bundle) (λ same. let e : None ≡ Some bundle = sym none ∙ same in cc)
 
+  -- one less has no bundle
   pub unfilled-posted : unfilled_in (slice_set row s (Some bundle)) + 1 ≡ unfilled_in row
   unfilled-posted =
       let a : ℕ = unfilled_in (slice_set row s (Some bundle)) in
@@ -92,6 +94,7 @@ module _ (row : List (Option Bundle)) (s : ℕ) (bundle : Bundle) (none : slice_
       let was : x ≡ 1 = ap (λ (o : Option Bundle). cond (is_none o) 1 0) none in
       let goal : a + 1 ≡ b = omega arith in goal
 
+  -- the count rises by one where the bundle is one of those that are counted
   pub count-posted : (ask : Ask) → count_for ask (slice_set row s (Some bundle)) ≡ count_for ask row + cond (is_asked ask (Some bundle)) 1 0
   count-posted ask =
       let a : ℕ = count_for ask (slice_set row s (Some bundle)) in
@@ -102,6 +105,7 @@ module _ (row : List (Option Bundle)) (s : ℕ) (bundle : Bundle) (none : slice_
       let was : x ≡ 0 = ap (λ (o : Option Bundle). cond (is_asked ask o) 1 0) none ∙ ap (λ b. cond b 1 0) (none_asked ask) in
       let goal : a ≡ b + y = omega arith in goal
 
+  -- a version that is settled stays so
   stays_settled : (ask : Ask) → is_settled ask row ≡ true → is_settled ask (slice_set row s (Some bundle)) ≡ true
   stays_settled Counts settled =
       let u : ℕ = unfilled_in row in
@@ -147,6 +151,7 @@ number-is terms task below =
     ] in
     (mod_below task n some, div-add-mod' task n)
 
+-- a task of a version that is settled stays over when another task is answered
 pub settled_last : IsLasting round_rules
 settled_last terms answers task other bundle each below none over =
     let low : other < task_count terms = subst (λ n. other < n) each below in

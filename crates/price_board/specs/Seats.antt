@@ -2,13 +2,12 @@
 use Rattle.std.specs.Prelude.{ℕ, ◌<◌, ⊤, List}
 use Rattle.bundle_rules.specs.declared.bundle.Bundle.{Bundle}
 use Rattle.task_board.specs.Seats.{BoardOf, SeatOf}
-use Rattle.task_board.specs.Seats.{IsSeatOf as IsBoardSeat, HoldsNothing as HoldsNoTask, IsFree as IsFreeSeat, IsHolding as HoldsTask, IsFinished as IsFinishedSeat}
+use Rattle.task_board.specs.Seats.{IsSeatOf as IsBoardSeat, HoldsNothing as HoldsNoTask, IsFree as IsFreeSeat, IsFinished as IsFinishedSeat}
 use Rattle.task_board.specs.Seats.{HasBegun as HasBoardBegun, AreBack as AreBoardBack}
 use Rattle.price_board.specs.declared.calls.Draw.{Draw}
 use Rattle.price_board.specs.declared.calls.Draw.TheVariants.{Task as Drawn, Done}
 use Rattle.price_board.specs.declared.terms.Terms.{Terms}
 use Rattle.price_board.specs.Asked.{round_rules}
-use Rattle.price_board.specs.Rows.{number_of}
 use Rattle.price_board.specs.Terms.{version_count, student_count}
 
 -- a board of a round, and a seat of it
@@ -28,11 +27,6 @@ HoldsNothing board seat = HoldsNoTask round_rules board seat
 -- a worker that may draw
 abbrev pub IsFree : RoundBoard → RoundSeat → Type 0
 IsFree board seat = IsFreeSeat round_rules board seat
-
--- a worker that drew the task of this version and student, and may post it
-abbrev pub IsHolding : RoundBoard → ℕ → ℕ → RoundSeat → Type 0
-IsHolding board version student seat =
-    HoldsTask round_rules board (number_of board.base version student) seat
 
 -- a worker that was answered that there is no task
 abbrev pub IsFinished : RoundBoard → RoundSeat → Type 0

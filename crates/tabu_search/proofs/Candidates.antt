@@ -14,9 +14,12 @@ use Rattle.demand_api.specs.Asking.{ArePricesFor}
 use Rattle.price_neighbours.proofs.Distinctness.{vectors_of, list_any-map}
 use Rattle.price_neighbours.proofs.Moves.{length_counts, counts_few}
 use Rattle.tabu_search.specs.Visits.{counts_at, error_at, first_of_least}
-use Rattle.tabu_search.specs.Walks.{is_allowed}
 use Rattle.tabu_search.proofs.Batches.{counted_at}
 use Rattle.tabu_search.proofs.LeastFirst.{IsFirstOfLeast, first_alone, first_then, first_still, first_found}
+
+-- the counts at the vector are none of these
+abbrev pub is_allowed : CrowdData → List (List ℕ) → List Tokens → Bool
+is_allowed crowd window prices = not (list_any (pointwise nat_eq (counts_at crowd prices)) window)
 
 -- the test of the window, on the counts
 pub tabu_by_counts : (crowd : CrowdData) (window : List (Vec ℕ Global)) (prices : List Tokens) (counts : List ℕ) (found : Bool)

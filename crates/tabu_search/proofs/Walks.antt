@@ -15,8 +15,9 @@ use Rattle.tabu_search.specs.declared.visiting.Visit.{Visit}
 use Rattle.tabu_search.specs.declared.walking.Walk.{Walk}
 use Rattle.tabu_search.specs.Visits.{counts_at, error_at, first_of_least, drawn, Visits, last_of, is_better, candidates, chosen, moved, restarted, after_turn, zero_prices, after_turns}
 use Rattle.tabu_search.specs.Search.{IsEnd, IsBest}
-use Rattle.tabu_search.specs.Walks.{IsVisit, is_allowed, counts_in, IsWalk, IsEntered}
+use Rattle.tabu_search.specs.Walks.{IsVisit, counts_in, IsWalk, IsEntered}
 use Rattle.tabu_search.proofs.LeastFirst.{IsFirstOfLeast, first_alone, first_then, first_still, first_found, found_first}
+use Rattle.tabu_search.proofs.Candidates.{is_allowed}
 use Rattle.tabu_search.proofs.Courses.{turned_some, turned_none, turns_zero, turns_more, course}
 use Rattle.tabu_search.proofs.Windows.{last_more, lower_than_best}
 
@@ -41,8 +42,7 @@ module _ (crowd : CrowdData) (seats : List ℕ) (settings : Settings) where
       let at : after_turns crowd seats settings walk.turns ≡ record { visited = zero_prices crowd ∷ []; current = zero_prices crowd; stale = 0; restarts = 0 } =
       ap (after_turns crowd seats settings) turns ∙ turns_zero crowd seats settings in
       record {
-        known = known;
-        seated = seated;
+        seated = record { known = known; each = seated };
         visit = visit;
         current = zero ∙ sym (ap (λ (v : Visits). v.current) at);
         best =
@@ -96,7 +96,6 @@ module _ (crowd : CrowdData) (seats : List ℕ) (settings : Settings) where
         let at : after_turns crowd seats settings after.turns ≡ next =
         ap (after_turns crowd seats settings) entered.turns ∙ turns_more crowd seats settings before.turns ∙ turn in
         record {
-          known = is.known;
           seated = is.seated;
           visit = subst (IsVisit crowd seats) (sym entered.current) is_visit;
           current = ap (λ (v : Visit). v.prices.items) entered.current ∙ sym current ∙ sym (ap (λ (v : Visits). v.current) at);

@@ -1,7 +1,5 @@
 -- What a search keeps after its turns.
-use Rattle.std.specs.Prelude.{ℕ, ◌<◌, ◌≤◌, ◌≡◌, ◌+◌, Bool, not, nat_eq, List, [], ◌∷◌, ◌++◌, length, map, Option, Some, None}
-use Rattle.std.specs.List.{list_any}
-use Rattle.std.specs.Cmp.Lexicographic.{pointwise}
+use Rattle.std.specs.Prelude.{ℕ, ◌<◌, ◌≤◌, ◌≡◌, ◌+◌, List, [], ◌∷◌, ◌++◌, length, map, Option, Some, None}
 use Rattle.market_units.specs.declared.units.Tokens.{Tokens}
 use Rattle.demand_api.specs.Crowds.{CrowdData, IsCrowd, top}
 use Rattle.demand_api.specs.Asking.{ArePricesFor}
@@ -21,17 +19,11 @@ pub record IsSeated (crowd : CrowdData) (seats : List ℕ) : Type 0 where
   pub known : IsCrowd crowd
   pub each : length seats ≡ crowd.sections
 
--- the visit with which a search of this crowd starts, that to the price 0 for each section; there is
--- one seat number for each section
+-- the visit with which a search of this crowd starts, that to the price 0 for each section
 pub record IsStart (crowd : CrowdData) (seats : List ℕ) (visit : Visit) : Type 0 where
-  pub known : IsCrowd crowd
-  pub seated : length seats ≡ crowd.sections
+  pub seated : IsSeated crowd seats
   pub is : IsVisit crowd seats visit
   pub zero : visit.prices.items ≡ zero_prices crowd
-
--- the counts at the vector are none of these
-abbrev pub is_allowed : CrowdData → List (List ℕ) → List Tokens → Bool
-is_allowed crowd window prices = not (list_any (pointwise nat_eq (counts_at crowd prices)) window)
 
 -- the counts in a window
 abbrev pub counts_in : Walk → List (List ℕ)
@@ -43,12 +35,10 @@ IsNext crowd seats meant None = meant ≡ None
 IsNext crowd seats meant (Some visit) =
     (meant ≡ Some visit.prices.items) × IsVisit crowd seats visit
 
--- the walk is where the search is after its number of turns; there is one seat number for each
--- section
+-- the walk is where the search is after its number of turns
 pub record IsWalk (crowd : CrowdData) (seats : List ℕ) (settings : Settings)
     (walk : Walk) : Type 0 where
-  pub known : IsCrowd crowd
-  pub seated : length seats ≡ crowd.sections
+  pub seated : IsSeated crowd seats
   pub visit : IsVisit crowd seats walk.current
   pub current : walk.current.prices.items ≡ (after_turns crowd seats settings walk.turns).current
   pub best : first_of_least crowd seats (after_turns crowd seats settings walk.turns).visited

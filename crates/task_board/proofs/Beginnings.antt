@@ -32,6 +32,7 @@ module _ {B A : Type 0} (rules : Rules B A) (board : BoardOf B A) where
           all_own = refl;
           one_done = omega arith;
           few_posts = omega arith;
+          calls = omega (arith, allotted);
           calls_left = omega (arith, all, allotted);
         };
         holds_nothing = λ task held. let e : Open ≡ Held number = sym (opened_at rules board.base board.opening opens task) ∙ held in cc;

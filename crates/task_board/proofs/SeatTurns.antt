@@ -144,6 +144,9 @@ module _ {B A : Type 0} (rules : Rules B A) (board : BoardOf B A) where
       all_own = subst (λ n. calls_by n new.seen ≡ new.own) (sym called.same.1) called.all_own;
       one_done = one;
       few_posts = few;
+      calls =
+          let longer = ap length called.own ∙ length-append old.own (step_of old.number call reply ∷ []) in
+          omega (arith, is_seat.calls, called.left, longer);
       calls_left = omega (arith, is_seat.calls_left, called.left, falls);
     }
 

@@ -1,5 +1,5 @@
 -- A seat of a board between its calls.
-use Rattle.std.specs.Prelude.{ℕ, ◌≡◌, ◌<◌, ◌≤◌, ◌+◌, ◌-◌, Bool, true, false, List, [], Some, None, All, Any, length, filter, slice_index_or, take}
+use Rattle.std.specs.Prelude.{ℕ, ◌≡◌, ◌<◌, ◌≤◌, ◌+◌, ◌-◌, ◌*◌, Bool, true, false, List, [], Some, None, All, Any, length, filter, slice_index_or, take}
 use Rattle.std.specs.List.{count_by}
 use Rattle.chronicle.specs.declared.journal.StepOf.{StepOf}
 use Rattle.chronicle.specs.declared.origin.Origin.{Origin}
@@ -67,9 +67,10 @@ module _ {B A : Type 0} (rules : Rules B A) where
   abbrev pub Holds : BoardOf B A → SeatOf B A → ℕ → Type 0
   Holds board seat task = mark_at (marks_after board seat.seen) task ≡ Held seat.number
 
-  -- A seat of the board's chronicle, of which nobody had drawn a task at first. At most one of its
-  -- calls was answered that there is no task, and at most as many are posts as there are tasks. It
-  -- has a call left for that answer, for each post that is left, and for each task that nobody drew
+  -- A seat of the board's chronicle, of which nobody had drawn a task at first. It has twice as many
+  -- calls as there are tasks, and one, those that it made and those that are left. At most one was
+  -- answered that there is no task, and at most as many are posts as there are tasks. It has a call
+  -- left for that answer, for each post that is left, and for each task that nobody drew
   pub record IsSeatOf (board : BoardOf B A) (seat : SeatOf B A) : Type 0 where
     pub of : seat.chronicle ≡ Some board
     pub opening : IsOpening rules board.base board.opening
@@ -78,6 +79,7 @@ module _ {B A : Type 0} (rules : Rules B A) where
     pub all_own : calls_by seat.number seat.seen ≡ seat.own
     pub one_done : dones seat.own ≤ 1
     pub few_posts : posts seat.own ≤ rules.count board.base
+    pub calls : seat.left + length seat.own ≡ 2 * rules.count board.base + 1
     pub calls_left : rules.count board.base + 1 + undrawn (marks_after board seat.seen)
         ≤ seat.left + posts seat.own + dones seat.own
 

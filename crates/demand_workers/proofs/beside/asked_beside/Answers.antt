@@ -5,7 +5,7 @@ use Rattle.market_units.specs.Totals.{total}
 use Rattle.bundle_rules.specs.Bundles.{sections_of}
 use Rattle.bundle_rules.specs.Demand.{price_in}
 use Rattle.demand_api.proofs.Takers.{priced_at, found_demand}
-use Rattle.demand_workers.specs.Remembered.{AreWithin}
+use Rattle.demand_workers.specs.Remembered.{FellWithin}
 use Rattle.demand_workers.proofs.LeadingOthers.{leads_demand, dearer_but}
 use Rattle.demand_workers.proofs.Recalling.{places_low, taken_priced}
 use Rattle.demand_workers.proofs.beside.asked_beside.Goals as goal
@@ -29,7 +29,7 @@ demand_beside-requires-clause-first c =
     let menu = c.menu.result.now in
     let before = question.remembered.now.prices.items in
     let within =
-    subst (λ ps. AreWithin c.between-cheaper.result.first c.between-cheaper.result.past ps question.prices.now) c.deref.ensures.value
+    subst (λ ps. FellWithin c.between-cheaper.result.first c.between-cheaper.result.past ps question.prices.now) c.deref.ensures.value
     c.between-cheaper.ensures in
     let below = places_low crowd crowd.sections question.student.0 menu refl question.listed (c.menu.ensures menu) in
     let cost = c.price_of.ensures.value ∙ ap (total (price_in question.prices.now)) c.sections.ensures.value in

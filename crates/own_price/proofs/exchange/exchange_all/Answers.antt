@@ -9,7 +9,7 @@ use Rattle.own_price.proofs.exchange.exchange_all.Goals as goal
 pub exchange_bundle-requires-clause-within : goal.exchange_bundle-requires-clause-within
 exchange_bundle-requires-clause-within c = λ s has_it.
     let low : c.loop-place.place < length c.args.students.now = search rules in
-    rw c.loop-place.invariant.1.len
+    rw c.loop-place.invariant.1.counted.len
     (within_at (length c.args.counts.now) c.args.others.now c.loop-place.place c.index-others-place.result c.requires.within (rw c.requires.same low)
     c.index-others-place.is s has_it)
 
@@ -25,5 +25,5 @@ loop-place-preserved c =
           ∙ sym
           (exchanged_more c.args.bundles.now c.args.students.now c.args.others.now c.loop-place.place (record { 0 = 0 }) c.index-others-place.result low
           c.requires.same),
-      subst (λ n. IsTally n c.exchange_bundle.new.bundles c.exchange_bundle.new.counts) c.loop-place.invariant.1.len c.exchange_bundle.ensures.tally,
+      subst (λ n. IsTally n c.exchange_bundle.new.bundles c.exchange_bundle.new.counts) c.loop-place.invariant.1.counted.len c.exchange_bundle.ensures.tally,
     )

@@ -12,8 +12,7 @@ pub turns-init : goal.turns-init
 turns-init g c =
     let start : IsStart (g.D.Demands.crowd c.args.demands.now) c.args.seats.now c.in_ok-start.start =
     record {
-      known = c.top-top.ensures.crowd;
-      seated = c.requires;
+      seated = record { known = c.top-top.ensures.crowd; each = c.requires };
       is = c.in_ok-start.ensures.visit;
       zero = c.in_ok-start.ensures.prices ∙ c.in_ok-zero.ensures ∙ ap (λ n. replicate n (record { 0 = 0 })) c.requires;
     } in

@@ -84,7 +84,7 @@ exchange_bundle-requires-clause-place c =
 pub exchange_bundle-requires-clause-within : goal.exchange_bundle-requires-clause-within
 exchange_bundle-requires-clause-within c s is =
     let at = goal.at.exchange_bundle-requires-clause-within c in
-    rw (c.deref_mut.ensures.value, c.part.invariant.tally.len)
+    rw (c.deref_mut.ensures.value, c.part.invariant.tally.counted.len)
     (found_within (arc_value c.args.self.now.found.inquiries) c.args.version c.args.self.now.surveyed c.from-student.result c.index-in-part.result.now
     (is_asked at.After-index-in-part (stands at.After-index)).taken s is)
 
@@ -97,14 +97,14 @@ part-preserved c =
     exchange_more inquiries c.args.version c.args.self.now.surveyed c.part.place c.from-student.result (length c.deref_mut.result.now) c.part.bundles.items
     c.deref_mut-in-part.result.now c.exchange_bundle.new.bundles c.part.counted.items c.exchange_bundle.new.counts c.index-in-part.result.now
     (record { len = c.part.invariant.len; written = c.part.invariant.written; tally = c.part.invariant.tally }) c.deref_mut-in-part.ensures.value known.low
-    known.its known.taken c.exchange_bundle.ensures.bundles (ap length c.deref_mut.ensures.value ∙ c.part.invariant.tally.len)
+    known.its known.taken c.exchange_bundle.ensures.bundles (ap length c.deref_mut.ensures.value ∙ c.part.invariant.tally.counted.len)
     c.exchange_bundle.ensures.tally in
     let bundles_back =
     lent_back c.part.bundles.len c.exchange_bundle.new.bundles c.part.bundles.items
     (sym (ap length c.exchange_bundle.ensures.bundles
     ∙ length-set c.deref_mut-in-part.result.now c.from-student.result c.index-in-part.result.now ∙ c.deref_mut-in-part.ensures.len)) in
     let counted_back =
-    lent_back c.part.counted.len c.exchange_bundle.new.counts c.part.counted.items (sym (c.exchange_bundle.ensures.len ∙ c.deref_mut.ensures.len)) in
+    lent_back c.part.counted.len c.exchange_bundle.new.counts c.part.counted.items (sym (c.exchange_bundle.ensures.tally.counted.len ∙ c.deref_mut.ensures.len)) in
     let whole = exchanged_back inquiries c.args.version (c.part.place + 1) _ _ _ _ bundles_back counted_back more in
     record { len = whole.len; written = whole.written; tally = whole.tally }
 

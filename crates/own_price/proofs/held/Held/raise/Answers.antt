@@ -36,7 +36,7 @@ exchange_all-requires-clause-within g c =
     c.deref-2.ensures.value c.in-Ok.ensures.value in
     rw (c.deref-in-Ok-2.ensures.value, c.deref_mut-in-Ok.ensures.value)
     (others_within crowd (price_in c.deref.result.now) c.in_ok-students.students.items c.in-Ok.bundles.items (length c.self.inside.counts.items) told
-    (c.self.invariant.len ∙ held.prices.same))
+    (c.self.invariant.counted.len ∙ held.prices.same))
 
 pub returns-in-Ok-clause-bundles : goal.returns-in-Ok-clause-bundles
 returns-in-Ok-clause-bundles g c =

@@ -60,8 +60,7 @@ invariant_of-result g c =
       within =
           others_within (g.D.Demands.crowd c.args.demands.now) (price_in c.args.prices.now) c.in_ok-students.students.items c.in_ok-bundles.bundles.items
           (length c.args.prices.now) told c.requires.same;
-      len = are.len;
-      each = are.each;
+      counted = are;
     })
 
 pub returns-clause-bundles : goal.returns-clause-bundles

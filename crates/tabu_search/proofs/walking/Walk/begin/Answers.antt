@@ -10,4 +10,4 @@ returns-clause-walk c = λ crowd seats start high.
     let window =
     window_begins c.in_ok-window.window c.push_back.new.self c.in_ok-to_vec.field-0 c.args.current.counts.items c.args.settings.now.tabu
     c.in_ok-window.ensures c.push_back.ensures.items counts in
-    walk_begins crowd seats c.args.settings.now _ start.known start.seated start.is start.zero best refl refl refl refl window.0 window.1 high
+    walk_begins crowd seats c.args.settings.now _ start.seated.known start.seated.each start.is start.zero best refl refl refl refl window.0 window.1 high

@@ -24,7 +24,7 @@ read g c =
     c.neighbours.ensures.crowd (rw c.deref-3.ensures.value at c.in_ok-counted.ensures.value) in
     let low : c.loop-place.place < length c.in_ok-vectors.vectors.items = search rules in
     are_at (g.D.Demands.crowd c.args.demands.now) c.args.seats.now c.in_ok-vectors.vectors.items c.in_ok-counted.counted.items c.loop-place.place
-    c.index-in-loop-place-2.result.now c.index-in-loop-place.result.now c.requires.walk.known c.requires.walk.seated c.in_ok-vectors.ensures.prices all low
+    c.index-in-loop-place-2.result.now c.index-in-loop-place.result.now c.requires.walk.seated.known c.requires.walk.seated.each c.in_ok-vectors.ensures.prices all low
     c.index-in-loop-place-2.ensures c.index-in-loop-place.ensures
 
 pub loop-place-preserved-then-is_tabu : goal.loop-place-preserved-then-is_tabu
@@ -37,8 +37,8 @@ loop-place-preserved-then-is_tabu g c =
     c.neighbours.ensures.crowd (rw c.deref-3.ensures.value at c.in_ok-counted.ensures.value) in
     let low : c.loop-place.place < length c.in_ok-vectors.vectors.items = search rules in
     let at =
-    some_at crowd c.args.seats.now c.in_ok-vectors.vectors.items c.in_ok-counted.counted.items c.loop-place.place c.index.result.now c.requires.walk.known
-    c.requires.walk.seated
+    some_at crowd c.args.seats.now c.in_ok-vectors.vectors.items c.in_ok-counted.counted.items c.loop-place.place c.index.result.now c.requires.walk.seated.known
+    c.requires.walk.seated.each
     c.in_ok-vectors.ensures.prices all low c.index.ensures in
     best_tabu crowd c.args.seats.now (map (λ counts. counts.items) c.args.self.now.window.items) (vectors_of c.in_ok-vectors.vectors.items) c.loop-place.place
     c.loop-place.best (rw (length-map c.in_ok-vectors.vectors.items (λ (v : Vec Tokens Global). v.items)) low)
@@ -77,7 +77,7 @@ loop-place-preserved-then-not-is_lower g c =
     (length-map c.in_ok-vectors.vectors.items (λ (v : Vec Tokens Global). v.items)) low in
     let seen =
     are_at (g.D.Demands.crowd c.args.demands.now) c.args.seats.now c.in_ok-vectors.vectors.items c.in_ok-counted.counted.items c.loop-place.place
-    c.index-in-loop-place-2.result.now c.index.result.now c.requires.walk.known c.requires.walk.seated c.in_ok-vectors.ensures.prices all low
+    c.index-in-loop-place-2.result.now c.index.result.now c.requires.walk.seated.known c.requires.walk.seated.each c.in_ok-vectors.ensures.prices all low
     c.index-in-loop-place-2.ensures
     c.index.ensures in
     let at = read g (goal.at.loop-place-preserved-then-not-is_lower g c).After-deref-in-loop-place-3 in
@@ -108,7 +108,7 @@ loop-place-preserved g c =
     (length-map c.in_ok-vectors.vectors.items (λ (v : Vec Tokens Global). v.items)) low in
     let seen =
     are_at (g.D.Demands.crowd c.args.demands.now) c.args.seats.now c.in_ok-vectors.vectors.items c.in_ok-counted.counted.items c.loop-place.place
-    c.index-in-loop-place-2.result.now c.index.result.now c.requires.walk.known c.requires.walk.seated c.in_ok-vectors.ensures.prices all low
+    c.index-in-loop-place-2.result.now c.index.result.now c.requires.walk.seated.known c.requires.walk.seated.each c.in_ok-vectors.ensures.prices all low
     c.index-in-loop-place-2.ensures
     c.index.ensures in
     let at = read g (goal.at.loop-place-preserved g c).After-deref-in-loop-place-3 in
@@ -174,7 +174,7 @@ returns-clause-next g c =
     c.in-Some.is c.loop-place.invariant in
     let at = are_at crowd c.args.seats.now c.in_ok-vectors.vectors.items c.in_ok-counted.counted.items c.in-Some.place c.swap_remove.result
     c.swap_remove-2.result
-    c.requires.walk.known c.requires.walk.seated c.in_ok-vectors.ensures.prices all (rw long at best.0) c.swap_remove.ensures.value
+    c.requires.walk.seated.known c.requires.walk.seated.each c.in_ok-vectors.ensures.prices all (rw long at best.0) c.swap_remove.ensures.value
     c.swap_remove-2.ensures.value in (
       sym meant
           ∙ some_found crowd c.args.seats.now (map (λ counts. counts.items) c.args.self.now.window.items)

@@ -26,14 +26,14 @@ drawn_prices-requires g c =
 
 pub visit_at-requires-clause-seated : goal.visit_at-requires-clause-seated
 visit_at-requires-clause-seated g c κs within =
-    subst (λ k. IsSeated k c.args.seats.now) (sym c.chosen.ensures.crowd) (record { known = c.requires.walk.known; each = c.requires.walk.seated })
+    subst (λ k. IsSeated k c.args.seats.now) (sym c.chosen.ensures.crowd) c.requires.walk.seated
 
 pub visit_at-requires-clause-prices : goal.visit_at-requires-clause-prices
 visit_at-requires-clause-prices g c κs within =
     let crowd = g.D.Demands.crowd c.args.demands.now in
     let is =
     drawn_is crowd c.args.settings.now.seed (c.args.self.restarts + 1) (length c.args.seats.now) c.args.self.top.0 c.in_ok-prices-in-None.prices.items
-    c.requires.walk.seated c.requires.walk.top c.in_ok-prices-in-None.ensures in
+    c.requires.walk.seated.each c.requires.walk.top c.in_ok-prices-in-None.ensures in
     subst (λ k. ArePricesFor k c.in_ok-prices-in-None.prices.items) (sym c.chosen.ensures.crowd)
     (subst (ArePricesFor (g.D.Demands.crowd c.args.demands.now)) (sym is) (drawn_are crowd c.args.settings.now.seed (c.args.self.restarts + 1)))
 
@@ -62,7 +62,7 @@ returns-in_ok-visit-in-None-clause-walk g c =
     c.in-None.is c.in_ok-visit.ensures.next in
     let is =
     drawn_is crowd c.args.settings.now.seed (c.args.self.restarts + 1) (length c.args.seats.now) c.args.self.top.0 c.in_ok-prices-in-None.prices.items
-    c.requires.walk.seated c.requires.walk.top c.in_ok-prices-in-None.ensures in
+    c.requires.walk.seated.each c.requires.walk.top c.in_ok-prices-in-None.ensures in
     let visit = subst (λ k. IsVisit k c.args.seats.now c.in_ok-visit-in-None.visit) c.chosen.ensures.crowd c.in_ok-visit-in-None.ensures.visit in
     walk_answer crowd c.args.seats.now c.args.settings.now c.args.self c.in_ok-visit-in-None.visit 0 (c.args.self.restarts + 1) c.entered-in-None.result
     (λ after entered. walk_restarts crowd c.args.seats.now c.args.settings.now c.args.self after c.in_ok-visit-in-None.visit 0 (c.args.self.restarts + 1)
