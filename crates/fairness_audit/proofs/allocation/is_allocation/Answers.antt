@@ -12,9 +12,7 @@ pub returns-then-bundles-len : goal.returns-then-bundles-len
 returns-then-bundles-len c = (
   (λ yes_so. absurd (false≢true yes_so)),
   (λ are. absurd
-      (c.if-bundles-len.true
-      (as_many c.args.crowd.now c.args.bundles.now are
-      ∙ sym c.args.crowd.now.menus.ok.0 ∙ sym c.len.ensures))),
+      (c.if-bundles-len.true (as_many c.args.crowd.now c.args.bundles.now are ∙ sym c.args.crowd.now.menus.ok.0 ∙ sym c.len.ensures))),
 )
 
 pub returns-then-not-feasible : goal.returns-then-not-feasible
@@ -40,13 +38,9 @@ students-preserved c = λ i below.
     let a = allocation_of c.args.crowd.now c.args.bundles.now in
     let here : IsFeasible (wishes_of (menu_at a k)) (bundle_at a k) =
     subst (λ menu. IsFeasible (wishes_of menu) (bundle_at a k))
-    (sym
-    (menu_is c.args.crowd.now c.args.bundles.now k
-    c.index.result.now inside c.index.ensures))
+    (sym (menu_is c.args.crowd.now c.args.bundles.now k c.index.result.now inside c.index.ensures))
     (subst (IsFeasible (wishes_of c.index.result.now))
-    (sym
-    (bundle_is c.args.crowd.now c.args.bundles.now k
-    c.index-bundles-place.result low c.index-bundles-place.is))
+    (sym (bundle_is c.args.crowd.now c.args.bundles.now k c.index-bundles-place.result low c.index-bundles-place.is))
     (c.feasible.ensures.0 c.if-not-feasible.false)) in
     elim (cases_eq i k) [
       | inl same ↦ subst (λ j. IsFeasible (wishes_of (menu_at a j)) (bundle_at a j)) (sym same) here

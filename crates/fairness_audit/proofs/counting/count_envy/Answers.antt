@@ -30,8 +30,7 @@ at_student xs x place student same is = subst (λ p. x ≡ slice_index_or xs p x
 
 pub others-preserved-then-other-place : goal.others-preserved-then-other-place
 others-preserved-then-other-place c =
-    past_itself c.args.crowd.now c.args.bundles.now
-    c.requires.bundles c.args.student.0 c.index-menu.result.now c.index-bundles-place.result c.requires.student
+    past_itself c.args.crowd.now c.args.bundles.now c.requires.bundles c.args.student.0 c.index-menu.result.now c.index-bundles-place.result c.requires.student
     (at_student c.args.crowd.now.menus.items c.index-menu.result.now c.from-place.result c.args.student.0 c.from-place.ensures c.index-menu.ensures)
     (at_student c.args.bundles.now c.index-bundles-place.result c.from-place.result c.args.student.0 c.from-place.ensures c.index-bundles-place.is)
     c.utility-own.result c.utility-own.ensures c.others.other (row_of c.others.row) c.others.invariant c.others-test.true
@@ -41,9 +40,7 @@ pub overflow_cast-student : goal.overflow_cast-student
 overflow_cast-student c =
     let m : ℕ = length c.args.crowd.now.menus.items in
     let n : ℕ = length c.args.bundles.now in
-    let many : n ≡ m =
-    as_many c.args.crowd.now c.args.bundles.now
-    c.requires.bundles in
+    let many : n ≡ m = as_many c.args.crowd.now c.args.bundles.now c.requires.bundles in
     let few : m ≤ 2000 = menus_few c.args.crowd.now in
     let k : ℕ = c.others.other in
     let low : k < n = c.others-test.true in
@@ -52,13 +49,11 @@ overflow_cast-student c =
 pub others-preserved-in_default : goal.others-preserved-in_default
 others-preserved-in_default c =
     let back : to_z w32 (of_z w32 c.utility-own.result) ≡ c.utility-own.result = omega (arith, ints) in
-    past_content c.args.crowd.now c.args.bundles.now
-    c.requires.bundles c.args.student.0 c.index-menu.result.now c.index-bundles-place.result c.requires.student
+    past_content c.args.crowd.now c.args.bundles.now c.requires.bundles c.args.student.0 c.index-menu.result.now c.index-bundles-place.result c.requires.student
     (at_student c.args.crowd.now.menus.items c.index-menu.result.now c.from-place.result c.args.student.0 c.from-place.ensures c.index-menu.ensures)
     (at_student c.args.bundles.now c.index-bundles-place.result c.from-place.result c.args.student.0 c.from-place.ensures c.index-bundles-place.is)
     c.utility-own.result c.utility-own.ensures c.others.other (row_of c.others.row) c.others.invariant c.others-test.true c.index-bundles-other.result
-    c.index-bundles-other.is
-    (sym (rw (back, c.weights_of-weights.ensures) at c.sight.ensures) ∙ ap (option_map seen_of) c.in_default.is)
+    c.index-bundles-other.is (sym (rw (back, c.weights_of-weights.ensures) at c.sight.ensures) ∙ ap (option_map seen_of) c.in_default.is)
 
 pub index-requires : goal.index-requires
 index-requires c =
@@ -66,9 +61,7 @@ index-requires c =
     let n : ℕ = length c.args.bundles.now in
     let b : ℕ = length c.args.crowd.now.budgets.items in
     let v : ℕ = c.args.crowd.now.budgets.len in
-    let many : n ≡ m =
-    as_many c.args.crowd.now c.args.bundles.now
-    c.requires.bundles in
+    let many : n ≡ m = as_many c.args.crowd.now c.args.bundles.now c.requires.bundles in
     let same : b ≡ m = c.args.crowd.now.same in
     let whole : v ≡ b = c.args.crowd.now.budgets.ok.0 in
     let k : ℕ = c.others.other in
@@ -78,9 +71,7 @@ index-requires c =
 pub with-row-requires : goal.with-row-requires
 with-row-requires c = record {
   few =
-      few_so_far c.args.crowd.now c.args.bundles.now
-      c.requires.bundles
-      c.args.student.0 c.index-menu.result.now c.index-bundles-place.result c.requires.student
+      few_so_far c.args.crowd.now c.args.bundles.now c.requires.bundles c.args.student.0 c.index-menu.result.now c.index-bundles-place.result c.requires.student
       (at_student c.args.crowd.now.menus.items c.index-menu.result.now c.from-place.result c.args.student.0 c.from-place.ensures c.index-menu.ensures)
       (at_student c.args.bundles.now c.index-bundles-place.result c.from-place.result c.args.student.0 c.from-place.ensures c.index-bundles-place.is)
       c.utility-own.result c.utility-own.ensures c.others.other (row_of c.others.row) c.others.invariant c.others-test.true;
@@ -90,21 +81,18 @@ pub others-preserved : goal.others-preserved
 others-preserved c =
     let back : to_z w32 (of_z w32 c.utility-own.result) ≡ c.utility-own.result = omega (arith, ints) in
     c.with-row.ensures
-    ∙ past_envied c.args.crowd.now c.args.bundles.now
-    c.requires.bundles c.args.student.0 c.index-menu.result.now c.index-bundles-place.result c.requires.student
+    ∙ past_envied c.args.crowd.now c.args.bundles.now c.requires.bundles c.args.student.0 c.index-menu.result.now c.index-bundles-place.result c.requires.student
     (at_student c.args.crowd.now.menus.items c.index-menu.result.now c.from-place.result c.args.student.0 c.from-place.ensures c.index-menu.ensures)
     (at_student c.args.bundles.now c.index-bundles-place.result c.from-place.result c.args.student.0 c.from-place.ensures c.index-bundles-place.is)
     c.utility-own.result c.utility-own.ensures c.others.other (row_of c.others.row) c.others.invariant c.others-test.true c.index-bundles-other.result
-    c.index-bundles-other.is
-    (seen_of c.in-Some.seen) c.index-budget.result.now c.index.result.now (λ here. c.if-other-place.false (here ∙ sym c.from-place.ensures))
+    c.index-bundles-other.is (seen_of c.in-Some.seen) c.index-budget.result.now c.index.result.now (λ here. c.if-other-place.false (here ∙ sym c.from-place.ensures))
     (sym (rw (back, c.weights_of-weights.ensures) at c.sight.ensures) ∙ ap (option_map seen_of) c.in-Some.is)
     (at_student c.args.crowd.now.budgets.items c.index-budget.result.now c.from-place.result c.args.student.0 c.from-place.ensures c.index-budget.ensures)
     c.index.ensures
 
 pub returns : goal.returns
 returns c =
-    row_whole c.args.crowd.now c.args.bundles.now c.requires.bundles
-    c.args.student.0 c.index-menu.result.now c.index-bundles-place.result c.requires.student
+    row_whole c.args.crowd.now c.args.bundles.now c.requires.bundles c.args.student.0 c.index-menu.result.now c.index-bundles-place.result c.requires.student
     (at_student c.args.crowd.now.menus.items c.index-menu.result.now c.from-place.result c.args.student.0 c.from-place.ensures c.index-menu.ensures)
     (at_student c.args.bundles.now c.index-bundles-place.result c.from-place.result c.args.student.0 c.from-place.ensures c.index-bundles-place.is)
     c.utility-own.result c.utility-own.ensures c.others.other (row_of c.others.row) c.others.invariant (search rules)

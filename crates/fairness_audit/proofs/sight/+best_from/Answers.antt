@@ -41,9 +41,7 @@ returns-then-prefers t c =
     (best_with (wishes_of c.args.menu.now) (λ s. 0) 0 (λ s. true) front (get_or c.args.later.now 0 none).0 rest (sections_of c.best_from-with_it.result) (sections_of c.best_from-without.result)
     (first_later front c.args.later.now some c.requires.later)
     (subst (λ wider. IsBestOfThese (wishes_of c.args.menu.now) wider rest (sections_of c.best_from-with_it.result)) c.with-wider.ensures
-    c.best_from-with_it.ensures)
-    c.best_from-without.ensures
-    (c.prefers.ensures.0 c.if-prefers.true))
+    c.best_from-with_it.ensures) c.best_from-without.ensures (c.prefers.ensures.0 c.if-prefers.true))
 
 pub returns-else-prefers : goal.returns-else-prefers
 returns-else-prefers t c =
@@ -55,9 +53,7 @@ returns-else-prefers t c =
     (best_not_with (wishes_of c.args.menu.now) (λ s. 0) 0 (λ s. true) front (get_or c.args.later.now 0 none).0 rest (sections_of c.best_from-with_it.result) (sections_of c.best_from-without.result)
     (first_later front c.args.later.now some c.requires.later)
     (subst (λ wider. IsBestOfThese (wishes_of c.args.menu.now) wider rest (sections_of c.best_from-with_it.result)) c.with-wider.ensures
-    c.best_from-with_it.ensures)
-    c.best_from-without.ensures
-    (λ more. true≢false (sym (c.prefers.ensures.1 more) ∙ c.if-prefers.false)))
+    c.best_from-with_it.ensures) c.best_from-without.ensures (λ more. true≢false (sym (c.prefers.ensures.1 more) ∙ c.if-prefers.false)))
 
 pub returns-then-not-feasible : goal.returns-then-not-feasible
 returns-then-not-feasible t c =
