@@ -1,7 +1,7 @@
 //! What a crowd of students demands at given prices, and who can be asked for it.
 // Neither: that `asked` and `inquiries` are what was asked (each is what the implementor says it
 // is; by how much `counts`, `bundles` and `exceeds` of `PlainDemands` raise them is proved, and of
-// its `least_price` and `least_prices` a bound); how long it takes.
+// its `foresee` and `least_prices` a bound); how long it takes.
 #![tactic(auto)]
 
 mod asking;

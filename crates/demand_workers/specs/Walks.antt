@@ -19,13 +19,13 @@ is_right_note crowd note =
     && same_sections (sections_of note.bundle)
     (demand_of crowd (price_noted crowd note) note.student.0)
 
--- what may be told of a student on a walk: a right note; or that nobody is left to ask, or nobody
--- was found for so long, of which nothing is claimed
+-- what may be told of a student on a walk: a right note; or that the walks are gone (none is left,
+-- or nobody to ask was found), of which nothing is claimed
 abbrev pub may_be_told : CrowdData → Told → Bool
 may_be_told crowd Gone = true
 may_be_told crowd (Noted note) = is_right_note crowd note
 
--- whether an answer was posted that says that nobody is left to ask, or was found for so long
+-- whether an answer was posted that says that the walks are gone
 abbrev pub says_gone : Option Told → Bool
 says_gone None = false
 says_gone (Some Gone) = true
@@ -37,7 +37,7 @@ are_gone [] = false
 are_gone (answer ∷ answers) = says_gone answer || are_gone answers
 
 -- So many tasks, to each of which whoever is next on the walks is asked. All are over once it was
--- posted that nobody is left to ask, or was found for so long
+-- posted that the walks are gone
 abbrev pub walk_rules : Rules WalkTerms Told
 walk_rules =
     record {

@@ -25,8 +25,8 @@ pub(crate) struct Ground<'a> {
 
 impl Ground<'_> {
     /// Who is asked next, and into the room the prices at which. Where there is nobody as long as
-    /// others are asked, it is looked again. `None` where nobody is left to ask, or nobody was
-    /// found for so long.
+    /// others are asked, it is looked again. `None` where the walks are gone: none is left, or
+    /// `TRIES` looks found nobody.
     pub(crate) fn next<R: Wait>(&self, rt: &R, room: &mut [Tokens; ROOM]) -> Option<Next> {
         for _ in 0..TRIES {
             let mut rehearsal = self.rehearsal.lock(rt);

@@ -27,8 +27,8 @@ pub(crate) struct Walk {
     pub ghost high: { least.0 ≤ top (crowd_of (arc_value remembered)) },
 }
 
-// A holder of a section: how far below the greatest price it does not keep what it holds any more,
-// and its number. So the greatest is the first to leave.
+// A holder of a section: `MAX_PRICE` less the price at which it leaves, and its number. The
+// greatest pair leaves first.
 pub(crate) type Holder = (u32, u16);
 
 /// Lists of holders at the remembered prices, by the ordinal of the section. All who hold a section

@@ -1,10 +1,10 @@
 //! The demands of a crowd, found by workers that draw their tasks from a board, each in a thread of
 //! its own.
-// Neither: that workers run beside one another, beyond a test of the whole program; which students
-// are asked, and by which thread; that nobody is asked outside the rounds of `counted.rt`, of which
-// each counts its students; anything of a rehearsal but the notes that it gives; that all memory of
-// a call is taken before its first thread starts (between two rounds of threads, and behind the
-// last, memory may be wanted, when none runs); how long it takes.
+// Neither: that workers run beside one another, which students are asked, and by which thread, all
+// beyond the tests; that nobody is asked outside the rounds of `counted.rt`, of which each counts
+// its students; anything of a rehearsal but the notes that it gives; that all memory of a call is
+// taken before its first thread starts (between two rounds of threads, and behind the last, memory
+// may be wanted, when none runs); how long it takes.
 #![tactic(auto)]
 
 mod allowance;

@@ -15,13 +15,12 @@ pub struct Note {
     pub ghost whole: { length prices ≡ MAX_RATINGS },
 }
 
-/// What is told of walks: a note of whoever was asked on them, or that nobody is left to ask, or
-/// was found for so long.
+/// What is told of walks: a note of whoever was asked on them, or that the walks are gone.
 #[derive(Clone, Copy)]
 pub enum Told {
     /// What the student that was asked takes.
     Noted(Note),
-    /// Nobody is left to ask, or nobody was found for so long.
+    /// No walk is left, or a worker looked `TRIES` times (`ground.rt`) and found nobody to ask.
     Gone,
 }
 

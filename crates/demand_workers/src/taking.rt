@@ -1,4 +1,4 @@
-// What students take, found in one thread: remembered where that serves, else asked.
+// What students take: asked, from a bundle to begin with; and read from what is remembered.
 ghost use Rattle.std.specs.Prelude.{◌≡◌, ◌<◌, All, length, map};
 ghost use Rattle.std.specs.Arc.{arc_value};
 ghost use Rattle.bundle_rules.specs.{Bundles.sections_of, Demand.price_in};

@@ -10,8 +10,8 @@ use std::sync::Arc;
 use task_board::{Mark, Tasks};
 
 /// So many tasks on walks to least prices. To each of them whoever is next on the walks is asked;
-/// the answer is a note of what the student takes, or that nobody is left to ask, or was found for
-/// so long: then all tasks are over.
+/// the answer is a note of what the student takes, or that the walks are gone: then all tasks are
+/// over.
 #[derive(Drop)]
 pub struct WalkTasks {
     remembered: Arc<Remembered>,

@@ -21,14 +21,13 @@ pub(crate) trait Asks {
     /// The crowd whose students are asked.
     ghost crowd: { Self → CrowdData };
 
-    /// Asks who is next: a note of what it takes, or that nobody is left to ask, or was found for
-    /// so long.
+    /// Asks who is next: a note of what it takes, or that the walks are gone.
     fn tell_next<R: Wait>(&self, rt: &R, workspace: &mut Workspace) -> Told
         ensures { may_be_told (crowd self.now) result ≡ true };
 }
 
-/// Draws one task after another, and asks whoever is next, until nobody is left or was found. The
-/// worker passes the gate before its first draw and after each of its posts.
+/// Draws one task after another, and asks whoever is next, until no task is left or the walks are
+/// gone. The worker passes the gate before its first draw and after each of its posts.
 pub(crate) fn walk_drawn<R: Wait, A: Asks>(
     rt: &R,
     board: &Board<WalkTasks>,

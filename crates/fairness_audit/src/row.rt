@@ -13,12 +13,12 @@ pub struct Seen {
     pub student: StudentNo,
     /// The best bundle out of that student's one, where no section costs anything.
     pub bundle: Bundle,
-    /// The lowest section of that student's bundle but for which the envy ends, if it ends but for
-    /// one.
+    /// The lowest section of that student's bundle that ends the envy if it is taken out; `None`
+    /// where no single one does.
     pub without: Option<SectionNo>,
 }
 
-/// Whom a student envies. All counts are of different students, so at most 1,999.
+/// Whom a student envies. Each count counts a student once: at most 1,999.
 #[derive(Clone, Copy, Debug, PartialEq, Eq)]
 pub struct EnvyRow {
     /// How many students it envies whose unraised budget is at most its own.

@@ -1,8 +1,8 @@
 //! The outside of the market: shelves that texts are read from, sinks that texts are written to,
 //! and gates that sessions and workers pass. Whatever the outside does, a text is had whole or a
 //! counted fault says why not.
-// Neither: what a real file or pipe holds; what `MeetingGate` counts, and for whom it waits, since
-// a `Gate` promises nothing of a pass.
+// Neither: what a real file or pipe holds, what `MeetingGate` counts, and for whom it waits, beyond
+// the tests. A `Gate` promises nothing of a pass.
 #![tactic(auto)]
 
 mod begun_list;

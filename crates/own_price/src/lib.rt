@@ -1,7 +1,7 @@
 //! What a section's own price does: the least price at which few enough take it, and what is taken
 //! while it rises.
-// Neither: that `raise` asks only those who hold the section, as it does in the code; how long it
-// takes.
+// Neither: that `raise` asks only those who hold the section, as it does in the code, beyond the
+// test; how long it takes.
 #![tactic(auto)]
 
 mod exchange;

@@ -1,7 +1,7 @@
 //! The price board: the tasks of a round of price vectors, which workers draw and post.
-// Neither: that threads run beside each other on it, beyond a test of the whole program; that a
-// draw and a post take constant time, as they do in the code; progress and waiting times of the
-// threads.
+// Neither: that threads run beside each other on it, beyond the tests; that a post takes constant
+// time, and all draws together look at each task once, as in the code; progress and waiting times
+// of the threads.
 #![tactic(auto)]
 
 mod answers;

@@ -10,7 +10,7 @@ pub enum Ask {
     Exceeds {
         /// A section of the crowd's market.
         section: SectionNo,
-        /// The number of students that is not exceeded by as many.
+        /// The answer is yes where more students than this take it.
         limit: u32,
     },
 }

@@ -1,7 +1,7 @@
 //! The task board: tasks in a fixed order, which workers draw and answer, each from its seat, with
 //! the one legal history of their calls.
-// Neither: that threads run beside each other on it; that a draw and a post take constant time, as
-// they do in the code; progress and waiting times of the threads.
+// Neither: that threads run beside each other on it, beyond the tests; that a post takes constant
+// time, and all draws together look at each task once, as in the code; progress and waiting times.
 #![tactic(auto)]
 
 mod answers;

@@ -8,8 +8,8 @@ use std::marker::{Send, Sync};
 use std::thread::{Threads, join_mut};
 
 // `std::thread::for_each_mut` promises the same, but starts its threads as a tree, two at one
-// moment. With it, only three of four workers ran for a third of the time of a search; where the
-// caller starts one after another, for a tenth.
+// moment. With it, only three of four workers ran for two fifths of the time of a search; where
+// the caller starts one after another, for at most a tenth.
 
 /// Calls `f(i, &mut s[i])` at each place, in at most `threads` threads, the caller's among them.
 /// Where a thread cannot be started, the caller does its work. The caller's stack grows with

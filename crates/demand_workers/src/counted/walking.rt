@@ -19,9 +19,9 @@ use std::thread::Threads;
 use task_board::{Answers, Board, BoardSeat};
 use worker_threads::for_each_mut;
 
-/// Asks whoever is next until nobody is left, or nobody was found for so long, or so many were
-/// asked: by eight workers of a pool, or by all where they are fewer.
-/// All memory is taken before the first worker starts, and the only error is that it was not given.
+/// Asks whoever is next until the walks are gone, or so many were asked: by eight workers of a
+/// pool, or by all where they are fewer. All memory is taken before the first worker starts, and
+/// the only error is that it was not given.
 pub(super) fn rehearse_by_all<R: Threads + Wait + Sync>(
     rt: &R,
     alloc: Global,
