@@ -136,7 +136,8 @@ fn at_each(alloc: Global, from: u32, below: u32) -> Result<Vec<Vec<Tokens>>, NoM
 
 // The prices from 84 to 103 are told before counts at them are asked for. All four students are
 // asked at the first, and then who cannot pay one of the others: one at 101, two at 102, three at
-// 103. So counts at sixteen of the prices, and then at four, ask nobody.
+// 103. These are two rounds of two workers. So counts at sixteen of the prices, and then at four,
+// ask nobody.
 #[test]
 fn counts_that_were_foreseen(rt: HostRuntime) -> Result<(), Fail> {
     let alloc = rt.alloc();
@@ -152,13 +153,13 @@ fn counts_that_were_foreseen(rt: HostRuntime) -> Result<(), Fail> {
     let gate = CountingGate::new();
     let mut demands = PooledDemands::make(Pool::reserve(alloc, 2)?, crowd, &gate);
     demands.foresee(&rt, alloc, &all)?;
-    assert_eq!(rt; gate.take().1, 10);
+    assert_eq!(rt; gate.take(), (4, 10));
     let found = demands.counts(&rt, alloc, &first)?;
     for counts in &found {
         assert_eq!(rt; counts.as_slice(), [4].as_slice());
     }
     let found = demands.counts(&rt, alloc, &second)?;
-    assert_eq!(rt; gate.take().1, 0);
+    assert_eq!(rt; gate.take(), (0, 0));
     assert_eq!(rt; found.len(), 4);
     for more in 0..4 {
         let able = 4 - more as u32;
@@ -209,12 +210,12 @@ pub(crate) fn only<R: Abort>(rt: &R, found: &[Vec<u32>]) -> u32 {
     found[0][0]
 }
 
-// How many take the section at 102, then at 103, then for nothing, and how many bundles the workers
-// posted for each.
+// How many take the section at 102, then at 103, then for nothing, and how often two workers
+// started and posted for each.
 fn counts_in_turn<R: Abort + Threads + Wait + Sync>(
     rt: &R,
     alloc: Global,
-) -> Result<[(u32, u64); 3], Fail> {
+) -> Result<[(u32, (u64, u64)); 3], Fail> {
     let crowd = shared_rivals(rt, alloc, 4)?;
     let first = [at(alloc, 102)?];
     let second = [at(alloc, 103)?];
@@ -225,20 +226,21 @@ fn counts_in_turn<R: Abort + Threads + Wait + Sync>(
     let gate = CountingGate::new();
     let mut demands = PooledDemands::make(Pool::reserve(alloc, 2)?, crowd, &gate);
     let found = demands.counts(rt, alloc, &first)?;
-    let at_first = (only(rt, &found), gate.take().1);
+    let at_first = (only(rt, &found), gate.take());
     let found = demands.counts(rt, alloc, &second)?;
-    let at_second = (only(rt, &found), gate.take().1);
+    let at_second = (only(rt, &found), gate.take());
     let found = demands.counts(rt, alloc, &third)?;
-    let at_third = (only(rt, &found), gate.take().1);
+    let at_third = (only(rt, &found), gate.take());
     Ok([at_first, at_second, at_third])
 }
 
-// At the second prices three students keep what is remembered, so that the fourth alone is asked;
-// at the third nothing is kept.
+// At the second prices three students keep what is remembered, so that the fourth alone is asked,
+// and by one worker; at the third nothing is kept. Two workers ask all four, and the first time one
+// has a round of nobody behind that.
 #[test]
 fn who_keeps_its_bundle_is_not_asked(rt: HostRuntime) -> Result<(), Fail> {
     let found = counts_in_turn(&rt, rt.alloc())?;
-    assert_eq!(rt; found, [(2, 4), (1, 1), (4, 4)]);
+    assert_eq!(rt; found, [(2, (3, 4)), (1, (1, 1)), (4, (2, 4))]);
     Ok(())
 }
 
