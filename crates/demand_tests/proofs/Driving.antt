@@ -19,9 +19,9 @@ use Rattle.task_board.specs.declared.calls.Reply.{Reply}
 use Rattle.task_board.specs.declared.calls.Reply.TheVariants.{Draw as Drew, Post as Answered}
 use Rattle.task_board.specs.Seats.{HistoryOf, dones, posts, is_done, is_post}
 use Rattle.task_board.specs.Turns.{HasDrawn, HasPosted}
-use Rattle.price_board.specs.declared.calls.Draw.{Draw}
-use Rattle.price_board.specs.declared.calls.Draw.TheVariants.{Task as Drawn, Done}
-use Rattle.price_board.specs.declared.calls.Task.{Task}
+use Rattle.price_board.specs.declared.drawn.Draw.{Draw}
+use Rattle.price_board.specs.declared.drawn.Draw.TheVariants.{Task as Drawn, Done}
+use Rattle.price_board.specs.declared.drawn.Task.{Task}
 use Rattle.price_board.specs.Asked.{round_rules}
 use Rattle.price_board.specs.Rows.{number_drawn, number_of}
 use Rattle.price_board.specs.Seats.{RoundBoard, RoundSeat, HoldsNothing, IsFinished, IsFree}

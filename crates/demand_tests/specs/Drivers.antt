@@ -5,7 +5,7 @@ use Rattle.market_units.specs.declared.units.Tokens.{Tokens}
 use Rattle.demand_api.specs.declared.crowd.Crowd.{Crowd}
 use Rattle.demand_api.specs.Views.{data_of}
 use Rattle.demand_workers.specs.Rounds.{prices_of, AreVersionsFor}
-use Rattle.price_board.specs.declared.calls.Draw.{Draw}
+use Rattle.price_board.specs.declared.drawn.Draw.{Draw}
 use Rattle.price_board.specs.Asked.{round_rules}
 use Rattle.price_board.specs.Rows.{number_drawn}
 use Rattle.price_board.specs.Seats.{RoundBoard, RoundSeat, HoldsNothing, IsSeatOf}

@@ -15,10 +15,10 @@ use market_units::{MAX_PRICE, NoMemory, SectionNo, StudentNo, Tokens};
 use std::alloc::Global;
 use std::sync::Arc;
 
-// A price of a section from its remembered one up, at most the top, the others as remembered.
-// `least_price` makes it with the least price.
+// Where a walk ended: a price of its section from the remembered one up, at most the top, the others
+// as remembered. `least_price` makes it with the least price.
 #[derive(Drop)]
-pub(crate) struct Walk {
+pub(crate) struct WalkEnd {
     pub remembered: Arc<Remembered>,
     pub section: SectionNo,
     pub least: Tokens,

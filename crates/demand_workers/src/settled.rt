@@ -5,7 +5,7 @@ ghost use Rattle.bundle_rules.specs.{Bundles.sections_of, Demand.price_in};
 ghost use Rattle.demand_api.specs.Crowds.{demand_of};
 ghost use Rattle.demand_workers.specs.Views.{crowd_of};
 
-use crate::leaving::Walk;
+use crate::leaving::WalkEnd;
 use crate::notes::Notes;
 use crate::question::Question;
 use crate::remembered::Remembered;
@@ -17,7 +17,7 @@ use market_units::{StudentNo, Tokens};
 /// noted or kept; `None` where neither is known.
 pub(crate) fn settled(
     notes: &Notes,
-    walk: &Walk,
+    walk: &WalkEnd,
     prices: &[Tokens],
     student: StudentNo,
 ) -> Option<Bundle>

@@ -14,7 +14,7 @@ use crate::PooledDemands;
 use crate::allowance::tasks_for;
 use crate::ground::Ground;
 use crate::inquiry::{Inquiries, Inquiry};
-use crate::leaving::{Holder, Walk, holder_of, holders_of};
+use crate::leaving::{Holder, WalkEnd, holder_of, holders_of};
 use crate::notes::Notes;
 use crate::question::Question;
 use crate::rehearsal::Rehearsal;
@@ -163,7 +163,7 @@ impl PooledDemands<AnyGate<'_>> {
         pair: (SectionNo, u32),
         list: &[Holder],
         left: &mut u64,
-    ) -> Result<Walk, NoMemory>
+    ) -> Result<WalkEnd, NoMemory>
         requires crowd { crowd_of (arc_value notes.old.remembered)
             ≡ data_of (arc_value self.old.crowd) }
         requires section { pair.0.0
@@ -217,7 +217,7 @@ impl PooledDemands<AnyGate<'_>> {
             let holder = holder_of(&question, section, &bundle);
             holders.push(holder)?;
         }
-        Ok(Walk {
+        Ok(WalkEnd {
             remembered,
             section,
             least,
@@ -234,7 +234,7 @@ impl PooledDemands<AnyGate<'_>> {
         section: SectionNo,
         limit: u32,
         from: Tokens,
-    ) -> Result<Walk, NoMemory>
+    ) -> Result<WalkEnd, NoMemory>
         requires crowd { crowd_of (arc_value remembered) ≡ data_of (arc_value self.old.crowd) }
         requires section { section.0 < (arc_value (arc_value remembered).crowd).sections }
         requires low { price_before (arc_value remembered) section.0 ≤ from.0 }
@@ -266,7 +266,7 @@ impl PooledDemands<AnyGate<'_>> {
                 high = middle;
             }
         }
-        Ok(Walk {
+        Ok(WalkEnd {
             remembered,
             section,
             least: Tokens(low),
@@ -367,7 +367,7 @@ impl PooledDemands<AnyGate<'_>> {
         rt: &R,
         alloc: Global,
         notes: &Notes,
-        walk: &Walk,
+        walk: &WalkEnd,
     ) -> Result<Remembered, NoMemory>
         requires { arc_value notes.now.remembered ≡ arc_value walk.now.remembered }
         ensures kept { (self.new.crowd ≡ self.old.crowd) × (self.new.asked ≡ self.old.asked) }

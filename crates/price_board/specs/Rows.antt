@@ -3,8 +3,8 @@ use Rattle.std.specs.Prelude.{ℕ, ◌+◌, ◌*◌, Option, None, Some, List, s
 use Rattle.bundle_rules.specs.declared.bundle.Bundle.{Bundle}
 use Rattle.task_board.specs.declared.mark.Mark.{Mark}
 use Rattle.task_board.specs.declared.mark.Mark.TheVariants.{Open}
-use Rattle.price_board.specs.declared.calls.Draw.{Draw}
-use Rattle.price_board.specs.declared.calls.Draw.TheVariants.{Task as Drawn, Done}
+use Rattle.price_board.specs.declared.drawn.Draw.{Draw}
+use Rattle.price_board.specs.declared.drawn.Draw.TheVariants.{Task as Drawn, Done}
 use Rattle.price_board.specs.declared.terms.Terms.{Terms}
 use Rattle.price_board.specs.Terms.{student_count}
 

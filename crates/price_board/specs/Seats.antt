@@ -4,8 +4,8 @@ use Rattle.bundle_rules.specs.declared.bundle.Bundle.{Bundle}
 use Rattle.task_board.specs.Seats.{BoardOf, SeatOf}
 use Rattle.task_board.specs.Seats.{IsSeatOf as IsBoardSeat, HoldsNothing as HoldsNoTask, IsFree as IsFreeSeat, IsFinished as IsFinishedSeat}
 use Rattle.task_board.specs.Seats.{HasBegun as HasBoardBegun, AreBack as AreBoardBack}
-use Rattle.price_board.specs.declared.calls.Draw.{Draw}
-use Rattle.price_board.specs.declared.calls.Draw.TheVariants.{Task as Drawn, Done}
+use Rattle.price_board.specs.declared.drawn.Draw.{Draw}
+use Rattle.price_board.specs.declared.drawn.Draw.TheVariants.{Task as Drawn, Done}
 use Rattle.price_board.specs.declared.terms.Terms.{Terms}
 use Rattle.price_board.specs.Asked.{round_rules}
 use Rattle.price_board.specs.Terms.{version_count, student_count}

@@ -12,7 +12,7 @@ ghost use Rattle.price_board.specs.Settling.{ask_of};
 ghost use Rattle.price_board.specs.Terms.{demand_of, student_count, task_count, version_count};
 
 use crate::answers::Answers;
-use crate::calls::{Draw, Task};
+use crate::drawn::{Draw, Task};
 use crate::round::{Ask, Round};
 use crate::tasks::RoundTasks;
 use bundle_rules::Bundle;

@@ -6,7 +6,7 @@
 
 mod answers;
 mod board;
-mod calls;
+mod drawn;
 mod round;
 mod tally;
 mod tasks;
@@ -14,7 +14,7 @@ mod terms;
 
 pub use answers::Answers;
 pub use board::{Board, BoardSeat};
-pub use calls::{Draw, Task};
+pub use drawn::{Draw, Task};
 pub use round::{Ask, Round};
 pub use task_board::Posted;
 pub use tasks::RoundTasks;

@@ -5,7 +5,7 @@ ghost use Rattle.bundle_rules.specs.{Bundles.sections_of, Demand.price_in};
 ghost use Rattle.demand_api.specs.{Asking.ArePricesFor, Crowds.demand_of as crowd_demand};
 ghost use Rattle.demand_api.specs.Views.{data_of};
 ghost use Rattle.demand_workers.specs.Rounds.{prices_of};
-ghost use Rattle.price_board.specs.{Openings.IsAskOf, declared.calls.Draw.TheVariants.Done};
+ghost use Rattle.price_board.specs.{Openings.IsAskOf, declared.drawn.Draw.TheVariants.Done};
 
 use crate::tests::rivals::rivals;
 use crate::tests::workers::all_have_prices;

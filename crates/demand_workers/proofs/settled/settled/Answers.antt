@@ -6,7 +6,7 @@ use Rattle.bundle_rules.specs.Bundles.{sections_of}
 use Rattle.bundle_rules.specs.Demand.{price_in}
 use Rattle.demand_api.specs.Asking.{ArePricesFor}
 use Rattle.demand_api.specs.Crowds.{demand_of}
-use Rattle.demand_workers.specs.declared.leaving.Walk.{Walk}
+use Rattle.demand_workers.specs.declared.leaving.WalkEnd.{WalkEnd}
 use Rattle.demand_workers.specs.declared.remembered.Remembered.{Remembered}
 use Rattle.demand_workers.specs.Notes.{AreKept}
 use Rattle.demand_workers.specs.Views.{crowd_of, price_before}
@@ -15,11 +15,11 @@ use Rattle.demand_workers.proofs.Noting.{lacking_stays}
 use Rattle.demand_workers.proofs.settled.settled.Goals as goal
 
 -- the section of a walk has a remembered price
-there : (walk : Walk) → walk.section.0 < length (arc_value walk.remembered).prices.items
+there : (walk : WalkEnd) → walk.section.0 < length (arc_value walk.remembered).prices.items
 there walk = subst (λ n. walk.section.0 < n) (sym (arc_value walk.remembered).priced.same) walk.within
 
 -- the raised prices are prices for the crowd
-priced : (walk : Walk) (prices : List Tokens) → prices ≡ slice_set (arc_value walk.remembered).prices.items walk.section.0 walk.least
+priced : (walk : WalkEnd) (prices : List Tokens) → prices ≡ slice_set (arc_value walk.remembered).prices.items walk.section.0 walk.least
     → ArePricesFor (crowd_of (arc_value walk.remembered)) prices
 priced walk prices raised =
     subst (ArePricesFor (crowd_of (arc_value walk.remembered))) (sym raised)

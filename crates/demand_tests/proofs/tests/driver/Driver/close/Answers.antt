@@ -1,7 +1,7 @@
 use Rattle.std.proofs.Common.{rules, ◌≡◌, ◌<◌, ◌≤◌, ℕ, None, Some, length, sym, subst, arith, slice_index_or}
 use Rattle.std.specs.List.{All}
 use Rattle.chronicle.proofs.SeatLists.{all_at_their_numbers}
-use Rattle.price_board.specs.declared.calls.Draw.TheVariants.{Done}
+use Rattle.price_board.specs.declared.drawn.Draw.TheVariants.{Done}
 use Rattle.demand_tests.proofs.Driving.{Note, worker_ended}
 use Rattle.demand_tests.proofs.tests.driver.Driver.close.Goals as goal
 

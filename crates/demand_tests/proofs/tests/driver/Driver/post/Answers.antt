@@ -1,6 +1,6 @@
 use Rattle.std.proofs.Common.{rules, ◌≡◌, ◌<◌, ◌≤◌, ◌⊎◌, ℕ, None, Some, length, sym, subst, arith, inl, inr}
 use Rattle.std.specs.Arc.{arc_value}
-use Rattle.price_board.specs.declared.calls.Draw.TheVariants.{Task as Drawn}
+use Rattle.price_board.specs.declared.drawn.Draw.TheVariants.{Task as Drawn}
 use Rattle.price_board.specs.Terms.{task_count}
 use Rattle.task_board.specs.Seats.{posts}
 use Rattle.demand_tests.proofs.Driving.{students_there, worker_at, worker_posted, driven_again}
