@@ -6,7 +6,7 @@ import argparse
 from dataclasses import dataclass
 from typing import Dict, List, Sequence, Tuple
 
-from registrar import explain, manifest, program, run_market, tables, tell
+from registrar import check, explain, manifest, program, run_market, tables, tell
 
 NAME = "audit"
 HELP = "tell whom each student envies, by the manifest"
@@ -42,6 +42,7 @@ def run(arguments: argparse.Namespace) -> int:
         tell.say()
     for line in in_words(read_audit(answer.lines)):
         tell.say(line)
+    check.tell_changed(found)
     return 0
 
 

@@ -27,7 +27,9 @@ def run(arguments: argparse.Namespace) -> int:
     tell.say(answer.text.rstrip("\n"))
     if answer.status == 0:
         tell.say()
-        tell.say(reasons.in_words(market_of(found), reasons.read_reason(answer.lines)))
+        for line in reasons.in_all_words(market_of(found), reasons.read_reason(answer.lines)):
+            tell.say(line)
+        check.tell_changed(found)
     else:
         tell_refusal(found, answer)
     return answer.status

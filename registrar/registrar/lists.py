@@ -183,17 +183,15 @@ def own_lines(text: published.Published) -> Dict[str, List[int]]:
 
 def reason_lines(ask: Ask, room: alone.Room, name: str) -> List[str]:
     """For each section that the student would rather have had, why it has none."""
+    if not ask.market.ratings.get(name):
+        return ["", "No wish of yours was heard: at the end no section has a rating of yours above 0."]
     better = missed(ask.market, name)
     if not better:
         return ["", "You have all that you rated highest."]
     lines = ["", "Sections that you rated higher than one of yours, and have not:"]
-    settled = ask.market.text.bundles[name].sections
-    if settled != ask.market.text.finals[name].sections:
-        lines += [
-            "",
-            f"(These answers speak of the second stage, in which you had {reasons.and_joined(settled)}. What the aftermarket "
-            "changed, your turn lines tell.)",
-        ]
+    settled, final = reasons.held_by(ask.market, name)
+    if settled != final:
+        lines += ["", reasons.of_second_stage(settled)]
     alone.enter(room, name)
     for section in better:
         reason = reason_of(ask, room, name, section)

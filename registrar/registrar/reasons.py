@@ -55,8 +55,32 @@ def and_joined(names: Sequence[str]) -> str:
 
 
 def in_words(market: Market, reason: Reason) -> str:
-    """The answer in the guide's words, for the student."""
+    """The answer in the guide's words, for the student. It speaks of the second stage."""
     return " ".join([why_in_words(market, reason)] + best_in_words(reason))
+
+
+def in_all_words(market: Market, reason: Reason) -> List[str]:
+    """The answer, and before it what the aftermarket changed, for a student who reads this answer alone."""
+    settled, final = held_by(market, reason.student)
+    told = [in_words(market, reason)]
+    if settled != final and reason.words[0] not in ("held", "unrated"):
+        told.insert(0, of_second_stage(settled))
+    if reason.section in final and reason.section not in settled:
+        told.insert(0, f"You won {reason.section} in the aftermarket; this is why you did not have it before.")
+    return told
+
+
+def held_by(market: Market, student: str) -> Tuple[Tuple[str, ...], Tuple[str, ...]]:
+    """The student's bundles of the second stage and of the end."""
+    return market.text.bundles[student].sections, market.text.finals[student].sections
+
+
+def of_second_stage(settled: Sequence[str]) -> str:
+    """That answers speak of the second stage, in which the student had these sections."""
+    return (
+        f"(These answers speak of the second stage, in which you had {and_joined(settled)}. What the aftermarket changed, "
+        "your turn lines tell.)"
+    )
 
 
 def why_in_words(market: Market, reason: Reason) -> str:
@@ -71,30 +95,41 @@ def why_in_words(market: Market, reason: Reason) -> str:
     }
     first = reason.words[0]
     if first == "held":
-        return (
-            f"Your bundle of the second stage had {section}: you gave it up at one of your turns for a bundle that you like better. "
-            "Your turn lines show it."
-        )
+        return held_in_words(market, reason)
     if first == "unrated":
         return f"You gave {section} no rating above 0, so you did not ask for it."
     if first == "alone":
         return f"{costs} It alone passes {limits[reason.words[1]]}."
     if first == "beside":
-        return f"{costs} Beside what you have it passes {limits[reason.words[1]]}."
+        cost = f"cost more than your {market.text.budgets[reason.student]} tokens"
+        passes = cost if reason.words[1] == "price" else f"pass {limits[reason.words[1]]}"
+        return f"{costs} Together with what your budget bought in the second stage it would {passes}."
     if first == "clash":
         other = reason.words[1]
         same = market.sections[other].course == market.sections[section].course
-        return f"{costs} It is {'of the same course as' if same else 'at the same time as'} {other}, which you have."
+        is_like = "of the same course as" if same else "at the same time as"
+        return f"{costs} It is {is_like} {other}, which your budget bought in the second stage."
     return f"{costs} You could have had it besides all else: the adjustments that you gave make the bundle worth less with it."
+
+
+def held_in_words(market: Market, reason: Reason) -> str:
+    """The answer where the bundle of the second stage has the section: the student has it still, or gave it up."""
+    section = reason.section
+    if section in held_by(market, reason.student)[1]:
+        return f"You have {section}: your bundle of the second stage has it, and so has your final one."
+    return (
+        f"Your bundle of the second stage had {section}: you gave it up at one of your turns for a bundle that you like better. "
+        "Your turn lines show it."
+    )
 
 
 def best_in_words(reason: Reason) -> List[str]:
     """The best bundle with the section, and what it would have been worth."""
     if reason.lost is None:
         return []
-    have = reason.worth + reason.lost
+    bought = reason.worth + reason.lost
     more = f"{reason.lost} more" if reason.lost else "as much"
     return [
-        f"The best that you could have had with it is {and_joined(reason.best)}, worth {reason.worth} to you by your own ratings.",
-        f"What you have is worth {have}, {more}.",
+        f"The best that your budget could have bought with it is {and_joined(reason.best)}, worth {reason.worth} to you by your own "
+        f"ratings. What it bought is worth {bought}, {more}.",
     ]

@@ -5,10 +5,16 @@ import os
 import shutil
 import unittest
 
-from registrar import audit, findings, manifest, reasons, tell
+from registrar import audit, explain, findings, manifest, program, reasons, tell
 from tests.support import SCARCE_WORDS, TERM, InFolder, call, needs_program
 
 FILES = ["catalogue.csv", "roll.csv", "settings.json", "published.txt", "a.session", "b.session"]
+
+
+def term() -> manifest.Manifest:
+    """The files of examples/term."""
+    names = ["catalogue.csv", "roll.csv", "settings.json", "published.txt", "desk.session", "web.session"]
+    return manifest.of_files([os.path.join(TERM, name) for name in names])
 
 
 @needs_program
@@ -177,6 +183,15 @@ class Explain(InFolder):
         self.assertIn("final total 0 1 0", self.read("envy.txt"))
         self.assertIn("final total 0 1 0", call("audit").out)
 
+    def test_a_text_that_has_changed_and_holds(self) -> None:
+        """`explain` and `audit` speak of a text that is not the one of the run, and say so."""
+        self.run_scarce()
+        self.put("published.txt", self.read("published.txt").replace("error 0", "error 3"))
+        for words in (("explain", "u", "Y"), ("audit",)):
+            told = call(*words)
+            self.assertEqual(told.status, 0)
+            self.assertIn("warning: published.txt holds, but is not the text that the run of manifest.json wrote", told.err)
+
 
 class Reading(unittest.TestCase):
     """Reading answers that were printed, without the program."""
@@ -189,20 +204,36 @@ class Reading(unittest.TestCase):
 
     def test_the_guides_reason(self) -> None:
         """The reason of examples/term in the words of docs/GUIDE.md."""
-        found = manifest.of_files(
-            [os.path.join(TERM, name) for name in ("catalogue.csv", "roll.csv", "settings.json", "published.txt")]
-            + [os.path.join(TERM, name) for name in ("desk.session", "web.session")]
-        )
-        from registrar import explain
-
-        market = explain.market_of(found)
+        market = explain.market_of(term())
         with open(os.path.join(TERM, "reason.txt"), encoding="utf-8") as file:
             reason = reasons.read_reason(file.read().splitlines())
-        self.assertEqual(
-            reasons.in_words(market, reason),
-            "FNCE-717-A costs 3252. Beside what you have it passes your budget of 4542. The best that you could have had with it "
-            "is ACCT-611-B and FNCE-717-A, worth 188 to you by your own ratings. What you have is worth 260, 72 more.",
-        )
+        with open(os.path.join(program.TOP, "docs", "GUIDE.md"), encoding="utf-8") as file:
+            guide = file.read()
+        told = reasons.in_words(market, reason)
+        self.assertTrue(told.startswith("FNCE-717-A costs 3252. ") and told.endswith(" What it bought is worth 260, 72 more."))
+        self.assertIn(f'In words for the student: "{told}"', guide)
+
+    def test_what_the_aftermarket_changed(self) -> None:
+        """By the lines of y.chen and n.jones in the term: what was had and is had, was given up, was won; and a clash."""
+        market = explain.market_of(term())
+        for student, section, words, wanted in (
+            ("n.jones", "FNCE-601-A", ("held",), ["You have FNCE-601-A: your bundle of the second stage has it, and so has your final one."]),
+            ("n.jones", "HCMG-841-A", ("held",), ["Your bundle of the second stage had HCMG-841-A: you gave it up"]),
+            ("y.chen", "COMM-620-A", ("beside", "credits"), [
+                "You won COMM-620-A in the aftermarket; this is why you did not have it before.",
+                "(These answers speak of the second stage, in which you had FNCE-601-A, MGMT-691-B and HCMG-841-A. ",
+                "Together with what your budget bought in the second stage it would pass your cap of 10 credits.",
+            ]),
+            ("n.jones", "FNCE-601-B", ("clash", "FNCE-601-A"), [
+                "(These answers speak of the second stage, in which you had ACCT-611-B, FNCE-601-A and HCMG-841-A. ",
+                "It is of the same course as FNCE-601-A, which your budget bought in the second stage.",
+            ]),
+        ):  # fmt: skip
+            with self.subTest(student + section):
+                told = reasons.in_all_words(market, reasons.Reason(student, section, words))
+                self.assertEqual(len(told), len(wanted))
+                for line, part in zip(told, wanted):
+                    self.assertIn(part, line)
 
     def test_findings(self) -> None:
         """Findings on bundles and turns of the term, with the lines in which they stand."""

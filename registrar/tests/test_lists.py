@@ -69,6 +69,16 @@ class Lists(InFolder):
         self.assert_told(text, ("You have Y: 1 credits.", "It alone passes your budget of 100.", f"budget {self.loser} 100"))
         self.assertIn("You have all that you rated highest.", self.read(f"lists/students/{self.winner}.txt"))
 
+    def test_a_student_without_wishes(self) -> None:
+        """A student who rated nothing above 0 has not what it rated highest."""
+        self.put("b.session", "rate v X 0\nrate v Z 9\n")
+        self.assertEqual(call("run", *SCARCE_WORDS).status, 0)
+        self.assertEqual(call("lists").status, 0)
+        text = self.read("lists/students/v.txt")
+        self.assertIn("No wish of yours was heard: at the end no section has a rating of yours above 0.", text)
+        self.assertNotIn("You have all", text)
+        self.assertIn("You have all that you rated highest.", self.read("lists/students/u.txt"))
+
     def test_no_reasons(self) -> None:
         """`--no-reasons` leaves them out, and one student alone may be asked for."""
         self.assertEqual(call("lists", "--no-reasons", "--student", self.loser).status, 0)
