@@ -30,6 +30,8 @@ def add_arguments(parser: argparse.ArgumentParser) -> None:
 def run(arguments: argparse.Namespace) -> int:
     """Calls the program, and tells its lines and the sums."""
     found = manifest.read(arguments.manifest, text_too=False)
+    if arguments.out:
+        tables.refuse_over([arguments.out], manifest.files_read(found))
     answer = program.call(manifest.audit_words(found, str(arguments.workers)), tell.Life("auditing"))
     if answer.status:
         tell.say(answer.text.rstrip("\n"))

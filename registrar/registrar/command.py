@@ -75,6 +75,9 @@ def main(words: Optional[Sequence[str]] = None) -> int:
     except BrokenPipeError:
         os.dup2(os.open(os.devnull, os.O_WRONLY), sys.stdout.fileno())
         return 141
+    except OSError as error:
+        tell.warn(f"{error.filename or 'a file'} can not be read or written: {error.strerror}")
+        return tell.FAULTS
     except KeyboardInterrupt:
         tell.warn("stopped by the keyboard; what stood before still stands")
         return 130

@@ -15,7 +15,7 @@ from registrar.mapping import mapping_text
 from registrar.sheet import SheetFault, read_rows
 from registrar.spelling import spelt, tidy
 from registrar.surveys import rank_of
-from registrar.tables import write_whole
+from registrar.tables import make_folder, write_whole
 
 #: How columns are called, by what they say. The first word that a file has is taken.
 WORDS: dict[str, str] = {
@@ -327,7 +327,7 @@ def run(exports: list[str], mapping: str, encoding: str) -> int:
         raise tell.Trouble("\n".join(faults))
     guesser = Guesser(seen, os.path.dirname(mapping) or ".")
     text = guesser.guess()
-    os.makedirs(os.path.dirname(mapping) or ".", exist_ok=True)
+    make_folder(os.path.dirname(mapping) or ".")
     write_whole(mapping, text.encode("utf-8"))
     tell.say(f"{mapping} is written. What was guessed, and is to be looked at:")
     for line in guesser.told:

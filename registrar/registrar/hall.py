@@ -78,7 +78,9 @@ def run(arguments: argparse.Namespace) -> int:
         "hall.txt": answer.output,
         **tables_of(asked, answer.lines, own_names.beside(found.catalogue)),
     }
-    write_all(arguments.into or os.path.dirname(arguments.mapping) or ".", files, arguments.replace)
+    folder = arguments.into or os.path.dirname(arguments.mapping) or "."
+    tables.refuse_over([os.path.join(folder, name) for name in files], manifest.files_read(found))
+    write_all(folder, files, arguments.replace)
     tell_replies(asked, replies_of(answer.lines))
     return 0
 

@@ -58,6 +58,9 @@ def run(arguments: argparse.Namespace) -> int:
     faults = Faults()
     made = Importer(arguments.mapping, faults).made()
     made.limits(faults)
+    if arguments.faults:
+        exports = [("export", source.path) for source in made.mapping.sources]
+        tables.refuse_over([arguments.faults], [("mapping", arguments.mapping), *exports])
     if faults:
         return tell_faults(faults, arguments.faults, arguments.mapping)
     folder = arguments.into or os.path.dirname(arguments.mapping) or "."

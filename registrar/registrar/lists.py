@@ -17,6 +17,9 @@ HELP = (
     "the tables have the school's own spelling where names.csv stands beside the catalogue"
 )
 
+BOOK = "lists.xlsx"
+
+
 @dataclass(frozen=True)
 class Ask:
     """What the texts are made from: the manifest, the market, each student's lines, and where reasons are asked, if at all."""
@@ -46,7 +49,8 @@ def run(arguments: argparse.Namespace) -> int:
         return answer.status
     market = explain.market_of(found)
     names = chosen(arguments.student, market)
-    os.makedirs(os.path.join(arguments.out, "students"), exist_ok=True)
+    tables.refuse_over(targets(arguments.out, names), manifest.files_read(found))
+    tables.make_folder(os.path.join(arguments.out, "students"))
     own = own_names.beside(found.catalogue)
     books = {
         "students": student_rows(market, own),
@@ -55,7 +59,7 @@ def run(arguments: argparse.Namespace) -> int:
     }
     for name, rows in books.items():
         tables.write_csv(os.path.join(arguments.out, name + ".csv"), rows)
-    write_book(os.path.join(arguments.out, "lists.xlsx"), books)
+    write_book(os.path.join(arguments.out, BOOK), books)
     with tempfile.TemporaryDirectory() as folder:
         commands = streams.in_order(market.text.order, found.sessions)
         room = None if arguments.no_reasons else alone.room(folder, market, commands)
@@ -64,6 +68,12 @@ def run(arguments: argparse.Namespace) -> int:
     warn_of_others(os.path.join(arguments.out, "students"), list(market.students))
     tell.say(f"{arguments.out}: students.csv, rosters.csv, sections.csv, and {tell.count(len(names), 'text', 'texts')} in students/")
     return 0
+
+
+def targets(folder: str, names: Sequence[str]) -> List[str]:
+    """The files that are written."""
+    texts = [os.path.join("students", name + ".txt") for name in names]
+    return [os.path.join(folder, name) for name in ("students.csv", "rosters.csv", "sections.csv", BOOK, *texts)]
 
 
 def chosen(names: Sequence[str], market: reasons.Market) -> List[str]:

@@ -93,11 +93,11 @@ def read(path: str = NAME, verify: bool = True, text_too: bool = True) -> Manife
         raise Trouble(f"there is no manifest {path}: `registrar run` writes one beside the published text", NO_FILE)
     try:
         kept = json.loads(tables.read_text(path))
-        inputs = [(one["role"], one["file"], one["sha256"]) for one in kept["inputs"]]
-        text = (kept["text"]["file"], kept["text"]["sha256"])
+        inputs = [(one["role"], str(one["file"]), one["sha256"]) for one in kept["inputs"]]
+        text = (str(kept["text"]["file"]), kept["text"]["sha256"])
         words = tuple(str(word) for word in kept["words"])
         rest = (str(kept["program"]), float(kept["elapsed"]), str(kept["made"]))
-    except (ValueError, KeyError, TypeError) as error:
+    except (ValueError, KeyError, TypeError, OverflowError, RecursionError) as error:
         raise Trouble(f"{path} is no manifest of `registrar run` ({error})") from error
     folder = os.path.dirname(path)
     if verify:
@@ -140,6 +140,13 @@ def of_files(files: Sequence[str]) -> Manifest:
 def is_text_as_run(found: Manifest) -> bool:
     """Whether the published text is the one that the run wrote."""
     return program.sha256(found.text) == found.text_sum
+
+
+def files_read(found: Manifest) -> List[Tuple[str, str]]:
+    """What each file is that a command reads by a manifest, and its path."""
+    tables_and_settings = [("catalogue", found.catalogue), ("roll", found.roll), ("settings file", found.settings)]
+    rest = [("published text", found.text)] + [("manifest", found.path)] * bool(found.path)
+    return tables_and_settings + [("session", path) for path in found.sessions] + rest
 
 
 def inputs_words(found: Manifest) -> List[str]:

@@ -66,6 +66,8 @@ def run(arguments: argparse.Namespace) -> int:
     if not arguments.text:
         found = manifest.read(arguments.manifest)
         arguments.roll, arguments.text = found.roll, found.text
+        tables.refuse_over([arguments.into], manifest.files_read(found))
+    tables.refuse_over([arguments.into], [(what, path) for what, path in read_by(arguments) if path])
     faults = Faults()
     text = published.read_published(arguments.text)
     compare(arguments, text, faults)
@@ -87,6 +89,11 @@ def run(arguments: argparse.Namespace) -> int:
     for student in carried.gone:
         tell.say(f"not on the new roll: {student}")
     return 0
+
+
+def read_by(arguments: argparse.Namespace) -> list[tuple[str, str]]:
+    """What each file is that the words name, and its path."""
+    return [("roll", arguments.roll), ("published text", arguments.text), ("roll of the next term", arguments.students)]
 
 
 def compare(arguments: argparse.Namespace, text: published.Published, faults: Faults) -> None:

@@ -8,6 +8,7 @@ import os
 from typing import Dict
 
 from registrar import tables
+from registrar.tell import Trouble
 
 FILE = "names.csv"
 
@@ -24,9 +25,13 @@ def beside(catalogue: str) -> Own:
 def read(path: str) -> Own:
     """The names of a file whose columns are kind, original and name."""
     own: Own = {}
-    for row in csv.DictReader(io.StringIO(tables.read_text(path), newline="")):
-        if row.get("kind") and row.get("name") and row.get("original"):
-            own.setdefault(row["kind"], {})[row["name"]] = row["original"]
+    csv.field_size_limit(1 << 26)
+    try:
+        for row in csv.DictReader(io.StringIO(tables.read_text(path), newline="")):
+            if row.get("kind") and row.get("name") and row.get("original"):
+                own.setdefault(row["kind"], {})[row["name"]] = row["original"]
+    except csv.Error as error:
+        raise Trouble(f"{path} is no table of names: {error}") from error
     return own
 
 

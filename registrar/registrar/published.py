@@ -129,7 +129,19 @@ def read_published(path: str) -> Published:
     reader.take("end", 0)
     if not whole or reader.next != len(lines):
         raise reader.refuse("nothing more")
-    return Published(path, version, order, budgets, start, error, prices, bundles, tuple(turns), finals, used, tuple(lines))
+    text = Published(path, version, order, budgets, start, error, prices, bundles, tuple(turns), finals, used, tuple(lines))
+    refuse_unknown(text)
+    return text
+
+
+def refuse_unknown(text: Published) -> None:
+    """Refuses a bundle of a student without a budget, or with a section without a price."""
+    for bundle in (*text.bundles.values(), *text.turns, *text.finals.values()):
+        if bundle.student not in text.budgets:
+            raise Trouble(f"{text.path}, line {bundle.line}: no line 'budget' has the student {bundle.student}")
+        for section in bundle.sections:
+            if section not in text.prices:
+                raise Trouble(f"{text.path}, line {bundle.line}: no line 'price' has the section {section}")
 
 
 def take_order(reader: Reader) -> Tuple[int, ...]:

@@ -57,7 +57,7 @@ def run(arguments: argparse.Namespace) -> int:
 def to_file(words: Sequence[str], text: str) -> program.Answer:
     """Runs these words to a file. Where the status is not 0 the file is what it was, and the terminal says what to do."""
     program.find_program()
-    refuse_input(words, text)
+    tables.refuse_over((text, manifest.beside(text)), [(one.role, one.path) for one in program.inputs_of(words)])
     folder = os.path.dirname(text) or "."
     partial = text + ".part"
     size = size_of(words)
@@ -80,14 +80,6 @@ def to_file(words: Sequence[str], text: str) -> program.Answer:
     finally:
         if os.path.exists(partial):
             os.remove(partial)
-
-
-def refuse_input(words: Sequence[str], text: str) -> None:
-    """Refuses a text, or a manifest beside it, that would take the place of an input."""
-    for target in (text, manifest.beside(text)):
-        for one in program.inputs_of(words):
-            if os.path.exists(target) and os.path.exists(one.path) and os.path.samefile(target, one.path):
-                raise tell.Trouble(f"{target} is the {one.role} of this run: give the text another name", tell.USAGE)
 
 
 def sums(words: Sequence[str]) -> Dict[str, str]:

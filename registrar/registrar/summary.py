@@ -29,6 +29,7 @@ def add_arguments(parser: argparse.ArgumentParser) -> None:
 def run(arguments: argparse.Namespace) -> int:
     """Writes the page."""
     found = manifest.read(arguments.manifest)
+    tables.refuse_over([arguments.out], manifest.files_read(found))
     market = explain.market_of(found)
     envy: Optional[Dict[str, audit.Envy]] = None
     if not arguments.no_audit:

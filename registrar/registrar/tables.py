@@ -13,10 +13,11 @@ import re
 from dataclasses import dataclass
 from typing import Dict, Iterable, Iterator, List, Optional, Sequence, Tuple
 
-from registrar.tell import FAULTS, NO_FILE, Trouble
+from registrar.tell import FAULTS, NO_FILE, USAGE, Trouble
 
 NAME = re.compile(r"[A-Za-z0-9._-]{1,32}\Z")
-NUMBER = re.compile(r"(0|[1-9][0-9]*)\Z")
+# A number of more digits is above every range, and Python reads no text of thousands of digits as a number.
+NUMBER = re.compile(r"(0|[1-9][0-9]{0,19})\Z")
 MEETING = re.compile(r"([MTWRFSU])([01][0-9]|2[0-3])([0-5][0-9])-([01][0-9]|2[0-3])([0-5][0-9])\Z")
 POINTS = re.compile(r"(?!-0\Z)-?(0|[1-9][0-9]{0,5})\Z")
 
@@ -233,7 +234,7 @@ def read_settings(path: str) -> Dict[str, object]:
     """The settings, by name. Their ranges are the program's to judge."""
     try:
         found = json.loads(read_text(path))
-    except ValueError as error:
+    except (ValueError, RecursionError) as error:
         raise Trouble(f"{path} is no JSON: {error}", FAULTS) from error
     if not isinstance(found, dict):
         raise Trouble(f"{path} is no JSON object")
@@ -295,6 +296,34 @@ def write_csv(path: str, rows: Iterable[Sequence[object]]) -> None:
     """Writes a table whole or not at all. With letters beyond ASCII it has a mark, by which a spreadsheet knows them."""
     text = csv_text(rows)
     write_whole(path, text.encode("utf-8" if text.isascii() else "utf-8-sig"))
+
+
+def refuse_over(targets: Iterable[str], inputs: Iterable[Tuple[str, str]]) -> None:
+    """Refuses a file to be written that is a folder, or that the command reads: `inputs` has what each such file is, and its path."""
+    read = {file_at(path): what for what, path in inputs}
+    for target in targets:
+        found = file_at(target)
+        if os.path.isdir(target):
+            raise Trouble(f"{target} can not be written: it is a folder")
+        if found is not None and found in read:
+            raise Trouble(f"{target} is the {read[found]} that this command reads: give what is written another name", USAGE)
+
+
+def file_at(path: str) -> Optional[Tuple[int, int]]:
+    """What a file is known by under whatever name, or nothing where there is none."""
+    try:
+        found = os.stat(path)
+    except OSError:
+        return None
+    return found.st_dev, found.st_ino
+
+
+def make_folder(path: str) -> None:
+    """Makes a folder, with those above it, where it is not there."""
+    try:
+        os.makedirs(path, exist_ok=True)
+    except OSError as error:
+        raise Trouble(f"{path} can not be written: {error.strerror}") from error
 
 
 def write_whole(path: str, content: bytes) -> None:

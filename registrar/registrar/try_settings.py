@@ -57,6 +57,8 @@ def add_arguments(parser: argparse.ArgumentParser) -> None:
 def run(arguments: argparse.Namespace) -> int:
     """Tries, tells, and writes."""
     settings = tables.read_settings(arguments.settings)
+    if arguments.write:
+        tables.refuse_over([arguments.write], read_beside(arguments))
     if arguments.take:
         if not arguments.write:
             raise tell.Trouble("--take needs --write FILE", tell.USAGE)
@@ -70,6 +72,11 @@ def run(arguments: argparse.Namespace) -> int:
     for line in tell.table(HEADER, [row_of(number, trial) for number, trial in enumerate(trials, 1)]):
         tell.say(line)
     return choose(arguments, settings, trials)
+
+
+def read_beside(arguments: argparse.Namespace) -> List[Tuple[str, str]]:
+    """What is read besides the settings, which may be written anew."""
+    return [("catalogue", arguments.catalogue), ("roll", arguments.roll)] + [("session", path) for path in arguments.sessions]
 
 
 def try_turns(arguments: argparse.Namespace, settings: Dict[str, object], turns: int, trials: List[Trial]) -> int:

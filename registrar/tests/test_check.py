@@ -4,6 +4,7 @@ import json
 import os
 import shutil
 import unittest
+from unittest import mock
 
 from registrar import audit, explain, findings, manifest, program, reasons, tell
 from tests.support import SCARCE_WORDS, TERM, InFolder, call, needs_program
@@ -100,12 +101,20 @@ class Check(InFolder):
 
     def test_a_spoiled_manifest(self) -> None:
         """A manifest that is none is refused in words."""
-        for text in ("", "[]", '{"inputs": []}'):
+        good = self.read("manifest.json")
+        long = good.replace('"elapsed": ', f'"elapsed": 1{"0" * 400}, "was": ')
+        for text in ("", "[]", '{"inputs": []}', "[" * 100000, long, good.replace('"catalogue.csv"', "7")):
             with self.subTest(text):
                 self.put("manifest.json", text)
                 told = call("check")
                 self.assertEqual(told.status, tell.FAULTS)
-                self.assertIn("manifest", told.err)
+                self.assertRegex(told.err, r"is no manifest|7 \(catalogue\) is not there")
+
+    def test_a_file_that_fails(self) -> None:
+        """What no command tells of a file is told all the same."""
+        with mock.patch.object(program, "call", side_effect=OSError(28, "No space left on device", "x")):
+            told = call("check")
+        self.assertEqual((told.status, told.err), (tell.FAULTS, "x can not be read or written: No space left on device\n"))
 
     def test_error_over_accept(self) -> None:
         """`check` does not judge the error line; the tool warns where it passes `accept`, and `again` compares."""
@@ -182,6 +191,19 @@ class Explain(InFolder):
         self.assertIn("In the end 1 student envies somebody: 1 times somebody of a greater budget, 0 times", told.out)
         self.assertIn("final total 0 1 0", self.read("envy.txt"))
         self.assertIn("final total 0 1 0", call("audit").out)
+
+    def test_no_file_that_is_read_is_written_over(self) -> None:
+        """`audit` and `summary` refuse an output that is a file of the manifest, or the manifest, under whatever name."""
+        self.run_scarce()
+        os.link("b.session", "link")
+        before = {name: self.read(name) for name in [*FILES, "manifest.json"]}
+        for name, what in (("published.txt", "published text"), ("./roll.csv", "roll"), ("link", "session"), ("manifest.json", "manifest")):
+            for command in ("audit", "summary"):
+                with self.subTest(command + name):
+                    told = call(command, "--out", name)
+                    self.assertEqual(told.status, tell.USAGE)
+                    self.assertIn(f"{name} is the {what} that this command reads", told.err)
+        self.assertEqual(before, {name: self.read(name) for name in before})
 
     def test_a_text_that_has_changed_and_holds(self) -> None:
         """`explain` and `audit` speak of a text that is not the one of the run, and say so."""

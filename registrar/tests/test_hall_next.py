@@ -68,6 +68,13 @@ class Next(InFolder):
         self.assertEqual(self.read("roll.next.csv"), "by hand")
         self.assertEqual(self.next("--replace")[0], 0)
 
+    def test_no_file_that_is_read_is_written_over(self) -> None:
+        before = self.read("published.txt")
+        status, told = self.next("--into", "published.txt", "--replace")
+        self.assertEqual(status, tell.USAGE)
+        self.assertIn("published.txt is the published text that this command reads", told)
+        self.assertEqual(self.read("published.txt"), before)
+
     def test_words_that_go_together(self) -> None:
         self.assertEqual(say("next", "--roll", "roll.csv")[0], tell.USAGE)
 

@@ -212,6 +212,11 @@ class Imports(WithSchool):
         self.assertEqual(rows[0], ["file", "row", "column", "value", "expected"])
         self.assertEqual([row[0] for row in rows[1:]], ["register.csv"] * bad)
         self.assertEqual(rows[1][2:4], ["Tokens", "5,0OO"])
+        before = self.read("register.csv")
+        status, told = say("import", "--into", "out", "--faults", "register.csv")
+        self.assertEqual(status, tell.USAGE)
+        self.assertIn("register.csv is the export that this command reads", told)
+        self.assertEqual(self.read("register.csv"), before)
 
 
 class Examples(InFolder):
@@ -351,6 +356,9 @@ class Many(InFolder):
         self.assertEqual(say("import", "a.csv")[0], tell.FAULTS)
         self.assertEqual(say("import", "a.csv")[0], tell.FAULTS)
         self.assertIn("stands already", say("import", "a.csv")[1])
+        status, told = say("import", "--mapping", "a.csv/mapping.ini", "a.csv")
+        self.assertEqual(status, tell.FAULTS)
+        self.assertIn("a.csv can not be written: ", told)
 
 
 class Guesses(InFolder):

@@ -91,6 +91,23 @@ class Lists(InFolder):
         with mock.patch.object(alone, "MOST_BASE", 0):
             self.test_texts()
 
+    def test_no_file_that_is_read_is_written_over(self) -> None:
+        """A roll of the name `students.csv` stays where the lists would go into its folder."""
+        os.rename("roll.csv", "students.csv")
+        self.assertEqual(call("run", SCARCE_WORDS[0], "students.csv", *SCARCE_WORDS[2:]).status, 0)
+        told = call("lists", "--out", ".")
+        self.assertEqual(told.status, tell.USAGE)
+        self.assertIn("students.csv is the roll that this command reads", told.err)
+        self.assertEqual(self.read("students.csv"), SCARCE["roll.csv"])
+        self.assertFalse(os.path.exists("rosters.csv"))
+
+    def test_a_folder_that_can_not_be_made(self) -> None:
+        """A file stands in its place, or in that of a folder above it."""
+        for folder in ("roll.csv", "roll.csv/lists"):
+            told = call("lists", "--out", folder)
+            self.assertEqual(told.status, tell.FAULTS)
+            self.assertRegex(told.err, rf"^{folder}/students can not be written: ")
+
     def test_a_text_that_does_not_hold(self) -> None:
         """No lists come of it."""
         self.put("published.txt", self.read("published.txt").replace("used X 1 1", "used X 0 1"))
@@ -135,6 +152,16 @@ class Settings(InFolder):
         self.assertEqual(call("settings", *SCARCE_WORDS, "--take", "30", "2", "--write", "new.json").status, 0)
         self.assertEqual(json.loads(self.read("new.json")), {**before, "turns": 30, "accept": 2})
         self.assertEqual(call("settings", *SCARCE_WORDS, "--take", "30", "2").status, tell.USAGE)
+
+    def test_no_file_that_is_read_is_written_over(self) -> None:
+        """But for the settings, which may be written anew."""
+        self.scarce()
+        for words in (["--take", "30", "2"], ["--turns", "0"]):
+            told = call("settings", *SCARCE_WORDS, *words, "--write", "b.session")
+            self.assertEqual((told.status, told.out), (tell.USAGE, ""))
+            self.assertIn("b.session is the session that this command reads", told.err)
+        self.assertEqual(self.read("b.session"), SCARCE["b.session"])
+        self.assertEqual(call("settings", *SCARCE_WORDS, "--take", "30", "2", "--write", "settings.json").status, 0)
 
     def test_refusals(self) -> None:
         """A fault of a table ends the trials with the program's status."""

@@ -139,6 +139,14 @@ class Looks(InFolder):
                 self.assertIn(place, told)
         self.assertIn("11 faults", told)
 
+    def test_a_number_of_thousands_of_digits(self) -> None:
+        self.write("catalogue.csv", CATALOGUE)
+        self.write("roll.csv", ROLL.replace(",100,8,5\nt.jain", "," + "9" * 5000 + ",8,5\nt.jain"))
+        self.write("1.session", ALL)
+        status, told = say("look", "catalogue.csv", "roll.csv", "1.session")
+        self.assertEqual(status, tell.FAULTS)
+        self.assertRegex(told, r'^roll\.csv row 2, column budget: "9+\.\." where this was expected: a whole number from 0 to 900000')
+
     def test_300_bad_rows_take_one_run(self) -> None:
         self.write("catalogue.csv", CATALOGUE)
         self.write("roll.csv", "student,budget,credits,courses\n" + "".join(f"s{at},1,000{at},5\n" for at in range(300)))

@@ -26,6 +26,7 @@ REFUSED = (
     ("roll.csv", ROLL + "u,100,801,2\n", ("column 3 'credits'", "'801'", "800")),
     ("roll.csv", ROLL + "u,100,4,9\n", ("column 4 'courses'", "'9'", "0 to 8")),
     ("settings.json", "{", ("settings.json", "no JSON")),
+    ("settings.json", "[" * 100000, ("settings.json", "no JSON")),
     ("settings.json", "[]", ("settings.json", "no JSON object")),
     ("settings.json", SCARCE["settings.json"].replace('"seed": 1, ', ""), ('no "seed"',)),
     ("settings.json", SCARCE["settings.json"].replace('"raise"', '"rase": 1, "raise"'), ("rase",)),
@@ -61,8 +62,15 @@ class Refused(InFolder):
         self.scarce()
         told = call("run", *SCARCE_WORDS, "--text", "./roll.csv")
         self.assertEqual(told.status, tell.USAGE)
-        self.assertIn("./roll.csv is the roll of this run", told.err)
+        self.assertIn("./roll.csv is the roll that this command reads", told.err)
         self.assertEqual(self.read("roll.csv"), SCARCE["roll.csv"])
+
+    def test_a_folder_in_the_place_of_the_text(self) -> None:
+        """It is refused before the program is called."""
+        self.scarce()
+        os.mkdir("texts")
+        told = call("run", *SCARCE_WORDS, "--text", "texts")
+        self.assertEqual((told.status, told.err), (tell.FAULTS, "texts can not be written: it is a folder\n"))
 
     def test_a_missing_file(self) -> None:
         """Status 2 names the file."""

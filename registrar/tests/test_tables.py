@@ -1,9 +1,10 @@
 """Reading the program's formats, on the example term."""
 
 import os
+import tempfile
 import unittest
 
-from registrar import program, published, tables
+from registrar import own_names, program, published, tables, tell
 
 TERM = os.path.join(program.TOP, "examples", "term")
 
@@ -24,6 +25,26 @@ class Reading(unittest.TestCase):
         self.assertEqual(text.prices["FNCE-601-A"], 1942)
         self.assertEqual(text.bundles["n.jones"].sections, ("ACCT-611-B", "FNCE-601-A", "HCMG-841-A"))
         self.assertEqual(text.finals["n.jones"].sections, ("ACCT-611-B", "FNCE-601-A", "MGMT-691-B"))
+
+    def test_a_text_of_unknown_names(self) -> None:
+        """Whoever reads a text that was not checked meets no name without a price or a budget."""
+        lines = ["course-match 1", "order", "budget u 5", "start X 0", "error 0", "price X 0", "bundle u [X] *", "final u [X]", "used X 1 1", "end"]
+        for old, new, wanted in (("final u [X]", "final u [Z]", "the section Z"), ("bundle u [X]", "bundle w [X]", "the student w")):
+            with tempfile.TemporaryDirectory() as folder, self.subTest(new):
+                path = os.path.join(folder, "text")
+                tables.write_whole(path, "\n".join([*lines, ""]).encode())
+                self.assertEqual(published.read_published(path).finals["u"].sections, ("X",))
+                tables.write_whole(path, "\n".join([*lines, ""]).replace(old, new).encode())
+                with self.assertRaisesRegex(tell.Trouble, wanted):
+                    published.read_published(path)
+
+    def test_names_that_are_no_table(self) -> None:
+        """A file of names that Python's reader refuses is told."""
+        with tempfile.TemporaryDirectory() as folder:
+            path = os.path.join(folder, "names.csv")
+            tables.write_whole(path, b'kind,original,name\nsection,"' + b"x" * (1 << 26) + b'x",X\n')
+            with self.assertRaisesRegex(tell.Trouble, "is no table of names"):
+                own_names.read(path)
 
     def test_kinds(self) -> None:
         """Commands as docs/FORMATS.md, "Sessions", has them."""
