@@ -4,9 +4,10 @@ from __future__ import annotations
 
 import argparse
 import os
-from typing import Dict, List, Sequence, Set
+import tempfile
+from typing import Dict, List, Sequence, Tuple
 
-from registrar import manifest, program, published, tables, tell
+from registrar import manifest, program, published, streams, tables, tell
 
 NAME = "run"
 HELP = "run the market to a file, which takes its name only where the run succeeds, with a manifest beside it"
@@ -49,8 +50,9 @@ def run(arguments: argparse.Namespace) -> int:
     answer = to_file(words, arguments.text)
     if answer.status:
         return answer.status
-    tell_text(arguments.text, arguments.settings, answer.elapsed)
-    warn_of_sessions(arguments)
+    text = published.read_published(arguments.text)
+    tell_text(text, arguments.settings, answer.elapsed)
+    warn_of_sessions(text, arguments)
     return 0
 
 
@@ -115,36 +117,43 @@ def tail(path: str) -> List[str]:
         return file.read().decode("utf-8", "replace").splitlines()
 
 
-def tell_text(path: str, settings: str, elapsed: float) -> None:
+def tell_text(text: published.Published, settings: str, elapsed: float) -> None:
     """What a run gave, in a few lines."""
-    text = published.read_published(path)
     filled = sum(one.used for one in text.used.values())
     seats = sum(one.seats for one in text.used.values())
     without = sum(1 for one in text.finals.values() if not one.sections)
     accept = tables.read_settings(settings)["accept"]
-    tell.say(f"{path}: {len(text.budgets)} students, {len(text.prices)} sections, in {tell.seconds(elapsed)}")
+    tell.say(f"{text.path}: {len(text.budgets)} students, {len(text.prices)} sections, in {tell.seconds(elapsed)}")
     tell.say(f"clearing error {text.error} (accept {accept}); {filled} of {seats} seats taken; {without} students without a section")
-    tell.say(f"{manifest.beside(path)} keeps what made it: `registrar check` reads that")
+    tell.say(f"{manifest.beside(text.path)} keeps what made it: `registrar check` reads that")
 
 
-def warn_of_sessions(arguments: argparse.Namespace) -> None:
-    """Says where commands had no effect, since the program publishes a text all the same."""
-    students = {one.name for one in tables.read_roll(arguments.roll)}
-    sections = {one.code for one in tables.read_catalogue(arguments.catalogue)}
-    for path in arguments.sessions:
-        commands = tables.read_session(path)
-        lost = [one for one in commands if not is_known(one, students, sections)]
-        if lost:
-            tell.warn(
-                f"warning: {path}: {len(lost)} of {len(commands)} commands had no effect, the first in line {lost[0].line}: "
-                f"{lost[0].text[:60]} (`registrar look` tells each)"
-            )
+def warn_of_sessions(text: published.Published, arguments: argparse.Namespace) -> None:
+    """Says where commands had no effect, since the program publishes a text all the same, and which `close` closed the desk.
+
+    The desk's replies are those of `prefer` to all commands in the text's own order.
+    """
+    commands = streams.in_order(text.order, arguments.sessions)
+    with tempfile.TemporaryDirectory() as folder:
+        stream = os.path.join(folder, "all.session")
+        tables.write_whole(stream, streams.as_session(commands))
+        answer = program.call(["prefer", arguments.catalogue, arguments.roll, stream], tell.Life("looking at the commands"))
+    if answer.status:
+        tell.warn("warning: how many commands had no effect was not counted: `registrar look` tells each")
+        return
+    replies = [line.split(" ", 3)[2] for line in answer.lines if line.startswith("entry ")]
+    for number, path in enumerate(arguments.sessions, 1):
+        warn_of_session(path, [(one, reply) for one, reply in zip(commands, replies) if one.session == number])
 
 
-def is_known(command: tables.Command, students: Set[str], sections: Set[str]) -> bool:
-    """Whether a command can be read and names students and sections that there are."""
-    kind = command.kind
-    if kind in ("unreadable", "close"):
-        return kind == "close"
-    named = command.words[2:3] if kind == "rate" else command.words[2:4]
-    return command.student in students and all(one in sections for one in named)
+def warn_of_session(path: str, replied: Sequence[Tuple[tables.Command, str]]) -> None:
+    """Says how many commands of a session had no effect, and whether it closed the desk."""
+    lost = [one for one, reply in replied if reply != "done"]
+    if lost:
+        tell.warn(
+            f"warning: {path}: {len(lost)} of {len(replied)} commands had no effect, the first in line {lost[0].line}: "
+            f"{lost[0].text[:60]} (`registrar look` tells each)"
+        )
+    for one, reply in replied:
+        if one.kind == "close" and reply == "done":
+            tell.warn(f"warning: {path}: line {one.line} closed the desk: what any session said behind it had no effect")

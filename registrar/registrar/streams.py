@@ -26,5 +26,5 @@ def in_order(order: Sequence[int], sessions: Sequence[str]) -> List[tables.Comma
 
 
 def as_session(commands: Sequence[tables.Command]) -> bytes:
-    """These commands as a session. A word that is no UTF-8 stays unreadable: no command has such a word."""
-    return "".join(command.text + "\n" for command in commands).encode("utf-8")
+    """These commands as a session. Of an unreadable one nothing is kept but that: what stood there may read otherwise alone."""
+    return "".join(one.kind + "\n" if one.kind == "unreadable" else one.text + "\n" for one in commands).encode("utf-8")

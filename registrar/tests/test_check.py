@@ -140,7 +140,7 @@ class Again(InFolder):
     def test_the_order(self) -> None:
         """The same text comes out in one stream, in the text's own order."""
         self.scarce()
-        self.put("a.session", "rate u X 90\nrate u Y 50\n# nothing\nnot a command\nclear v\n")
+        self.put("a.session", "rate u X 90\nrate u Y 50\n# nothing\nnot a command\nrate u X 0\r\r\nclear v\n")
         self.put("b.session", "rate v X 80\nrate u Y 7\nrate v Y 40\n")
         self.assertEqual(call("run", *SCARCE_WORDS).status, 0)
         told = call("again")

@@ -147,6 +147,28 @@ class Good(InFolder):
         self.assertEqual(told.status, 0)
         self.assert_told(told.err, ("warning: b.session: 2 of 2 commands had no effect", "line 1: student,X,Y"))
 
+    def test_each_command_without_effect_is_counted(self) -> None:
+        """The desk's own replies: out of range, a pair of a section with itself, nobody's name, a line that is no command."""
+        self.scarce()
+        self.put("a.session", "rate u X 90\nrate u Y 101\npair u X X 5\nrate w X 5\nrate u X\nrate u Y 50\n")
+        told = call("run", *SCARCE_WORDS)
+        self.assertEqual(told.status, 0)
+        self.assertEqual(
+            told.err,
+            "warning: a.session: 4 of 6 commands had no effect, the first in line 2: rate u Y 101 (`registrar look` tells each)\n",
+        )
+
+    def test_a_close(self) -> None:
+        """The `close` that closed the desk is told, and what came behind it had no effect; so had a second `close`."""
+        self.scarce()
+        self.put("a.session", "rate u X 90\nclose\nrate u Y 50\nrate v X 80\nclose\n")
+        told = call("run", *SCARCE_WORDS[:3], "a.session")
+        self.assertEqual(told.status, 0)
+        self.assertEqual(told.err.splitlines(), [
+            "warning: a.session: 3 of 5 commands had no effect, the first in line 3: rate u Y 50 (`registrar look` tells each)",
+            "warning: a.session: line 2 closed the desk: what any session said behind it had no effect",
+        ])  # fmt: skip
+
     def test_life(self) -> None:
         """The line of life tells what the last runs of about this size took."""
         tell.keep_time(".", {"students": 100, "workers": 2}, 19.2)
