@@ -11,7 +11,7 @@ import os
 import sys
 from dataclasses import dataclass
 
-from registrar import manifest, published, tables, tell
+from registrar import manifest, published, ranges, tables, tell
 from registrar.faults import Faults
 from registrar.import_exports import write_all
 
@@ -40,7 +40,7 @@ def add_arguments(parser: argparse.ArgumentParser) -> None:
         help="who is there in the next term, with new bases and caps (default: the roll of the text)",
     )
     parser.add_argument(
-        "--most", type=int, default=MOST_TOKENS, metavar="N", help="nobody carries over more than so many tokens"
+        "--most", type=ranges.whole(0, MOST_TOKENS), default=MOST_TOKENS, metavar="N", help="nobody carries over more than so many tokens"
     )
     parser.add_argument(
         "--into", default="roll.next.csv", metavar="FILE", help="the roll that is written (default: roll.next.csv)"

@@ -12,7 +12,7 @@ from dataclasses import dataclass
 from typing import BinaryIO, Callable, Dict, List, Optional, Sequence, Tuple
 
 from registrar import tables
-from registrar.tell import NO_PROGRAM, Life, Trouble
+from registrar.tell import NO_PROGRAM, USAGE, Life, Trouble
 
 TOP = os.path.dirname(os.path.dirname(os.path.dirname(os.path.abspath(__file__))))
 
@@ -91,6 +91,7 @@ def call(words: Sequence[str], life: Optional[Life] = None, output: Optional[Bin
     The status is the program's own. A program that was killed has none, and that is a refusal of ours.
     """
     program = find_program()
+    refuse_many(words)
     begun = time.monotonic()
     with tempfile.TemporaryFile() as kept:
         target = output if output is not None else kept
@@ -107,6 +108,13 @@ def call(words: Sequence[str], life: Optional[Life] = None, output: Optional[Bin
     if status > 9:
         raise Trouble(f"{program} ended with {status}, which is no status of the program", NO_PROGRAM)
     return Answer(tuple(words), status, found, elapsed)
+
+
+def refuse_many(words: Sequence[str]) -> None:
+    """Refuses more sessions than the program takes."""
+    sessions = sum(one.role == "session" for one in inputs_of(words))
+    if sessions > tables.MAX_SESSIONS:
+        raise Trouble(f"{sessions} sessions are given; the program takes at most {tables.MAX_SESSIONS}", USAGE)
 
 
 def wait(process: subprocess.Popen[bytes], life: Optional[Life]) -> int:

@@ -7,7 +7,7 @@ import os
 import tempfile
 from typing import Dict, List, Sequence, Tuple
 
-from registrar import manifest, program, published, streams, tables, tell
+from registrar import manifest, program, published, ranges, streams, tables, tell
 
 NAME = "run"
 HELP = "run the market to a file, which takes its name only where the run succeeds, with a manifest beside it"
@@ -33,7 +33,7 @@ def add_market(parser: argparse.ArgumentParser) -> None:
 def add_workers(parser: argparse.ArgumentParser) -> None:
     """The number of workers."""
     parser.add_argument(
-        "--workers", type=int, default=workers(), metavar="N",
+        "--workers", type=ranges.whole(1, tables.MAX_WORKERS), default=workers(), metavar="N",
         help="1 to 16 workers, which change the time and never the text (default: one for each processor)",
     )
 

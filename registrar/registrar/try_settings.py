@@ -9,10 +9,14 @@ import tempfile
 from dataclasses import dataclass
 from typing import Dict, List, Optional, Sequence, Tuple
 
-from registrar import program, published, run_market, tables, tell
+from registrar import program, published, run_market, ranges, tables, tell
 
 NAME = "settings"
 HELP = "try values of accept and turns, show what each gives, and write the settings that are chosen"
+
+# The greatest values of both settings (docs/FORMATS.md, "Settings").
+MOST_TURNS = 10_000
+MOST_ACCEPT = 1_000_000_000_000
 
 HEADER = ("row", "turns", "accept", "time", "error", "seats filled", "of", "students without a section")
 
@@ -31,26 +35,20 @@ class Trial:
     without: int = 0
 
 
-def numbers(text: str) -> List[int]:
-    """Numbers with commas between them."""
-    found = text.split(",")
-    if not all(tables.NUMBER.match(one) for one in found):
-        raise argparse.ArgumentTypeError(f"'{text}' is no list of whole numbers such as 40,120,400")
-    return [int(one) for one in found]
-
-
 def add_arguments(parser: argparse.ArgumentParser) -> None:
     """The words and options of `settings`."""
     run_market.add_market(parser)
     run_market.add_workers(parser)
-    parser.add_argument("--turns", type=numbers, metavar="N,N,..", help="the numbers of turns to try (default: that of SETTINGS)")
     parser.add_argument(
-        "--accept", type=numbers, default=[], metavar="N,N,..",
+        "--turns", type=ranges.wholes(0, MOST_TURNS), metavar="N,N,..", help="the numbers of turns to try (default: that of SETTINGS)"
+    )
+    parser.add_argument(
+        "--accept", type=ranges.wholes(0, MOST_ACCEPT), default=[], metavar="N,N,..",
         help="errors to try besides the least that a search sees with accept 0",
     )
     parser.add_argument("--write", metavar="FILE", help="write the settings of the row of least error, or those of --take, to FILE")
     parser.add_argument(
-        "--take", nargs=2, type=int, metavar=("TURNS", "ACCEPT"), help="try nothing: write these two and the rest of SETTINGS"
+        "--take", nargs=2, type=ranges.whole(0, MOST_ACCEPT), metavar=("TURNS", "ACCEPT"), help="try nothing: write these two and the rest of SETTINGS"
     )
 
 
@@ -62,6 +60,8 @@ def run(arguments: argparse.Namespace) -> int:
     if arguments.take:
         if not arguments.write:
             raise tell.Trouble("--take needs --write FILE", tell.USAGE)
+        if arguments.take[0] > MOST_TURNS:
+            raise tell.Trouble(f"--take: {arguments.take[0]} turns are more than {MOST_TURNS}", tell.USAGE)
         write(arguments.write, settings, *arguments.take)
         return 0
     trials: List[Trial] = []

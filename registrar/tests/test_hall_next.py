@@ -35,6 +35,13 @@ class Next(InFolder):
     def test_a_greatest_carry(self) -> None:
         self.assertEqual(self.next("--most", "500")[0], 0)
         self.assertIn("r.grant,4500,8,5,500\n", self.read("roll.next.csv"))
+        for most in ("-5", "900001", "1e3"):
+            status, told = self.next("--most", most, "--into", "other.csv")
+            self.assertEqual(status, tell.USAGE)
+            self.assertIn(f"argument --most: '{most}' is no whole number from 0 to 900000", told)
+        self.assertFalse(os.path.exists("other.csv"))
+        self.assertEqual(self.next("--most", "0", "--replace")[0], 0)
+        self.assertIn("r.grant,4500,8,5,0\n", self.read("roll.next.csv"))
 
     def test_who_is_new_and_who_is_gone(self) -> None:
         self.write("new.csv", "student,budget,credits,courses\nr.grant,5000,10,4\nz.new,4500,8,5\n")

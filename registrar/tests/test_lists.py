@@ -172,6 +172,24 @@ class Settings(InFolder):
         self.assertIn("roll.csv, row 2 (line 2), column 2 'budget'", told.err)
         self.assertEqual(call("settings", *SCARCE_WORDS, "--turns", "a").status, tell.USAGE)
 
+    def test_numbers_out_of_their_ranges(self) -> None:
+        """FORMATS, "Settings": at most 10,000 turns, and `accept` from 0 to 1,000,000,000,000."""
+        self.scarce()
+        write = ["--write", "new.json"]
+        for words, wanted in (
+            (["--take", "20000", "5", *write], "20000 turns are more than 10000"),
+            (["--take", "20", "-5", *write], "'-5' is no whole number from 0 to 1000000000000"),
+            (["--take", "20", "1000000000001", *write], "'1000000000001' is no whole number"),
+            (["--turns", "20,10001"], "'10001' is no whole number from 0 to 10000"),
+            (["--accept", "1000000000001"], "'1000000000001' is no whole number"),
+        ):
+            with self.subTest(words):
+                told = call("settings", *SCARCE_WORDS, *words)
+                self.assertEqual(told.status, tell.USAGE)
+                self.assertIn(wanted, told.err)
+        self.assertFalse(os.path.exists("new.json"))
+        self.assertEqual(call("settings", *SCARCE_WORDS, "--take", "10000", "1000000000000", *write).status, 0)
+
 
 class Figures(unittest.TestCase):
     """Figures of examples/term, against numbers of its text and its audit."""

@@ -110,10 +110,16 @@ class Refused(InFolder):
         self.assert_kept(told.err)
 
     def test_wrong_words(self) -> None:
-        """Status 1, for words that the program takes in no form; and the tool's own status where words are missing."""
+        """The tool's own status, before the program is called: words that are missing or out of their range."""
         self.scarce()
-        self.assertEqual(call("run", "--workers", "17", *SCARCE_WORDS).status, 1)
         self.assertEqual(call("run", "catalogue.csv").status, tell.USAGE)
+        for number in ("0", "17", "a", "1.0"):
+            told = call("run", "--workers", number, *SCARCE_WORDS)
+            self.assertEqual(told.status, tell.USAGE)
+            self.assertIn(f"argument --workers: '{number}' is no whole number from 1 to 16", told.err)
+        told = call("run", *SCARCE_WORDS[:3], *["a.session"] * 65)
+        self.assertEqual((told.status, told.err), (tell.USAGE, "65 sessions are given; the program takes at most 64\n"))
+        self.assertEqual(call("run", *SCARCE_WORDS[:3], *["a.session"] * 64).status, 0)
 
     @unittest.skipUnless(os.path.exists("/dev/full"), "there is no /dev/full")
     def test_a_full_disk(self) -> None:
