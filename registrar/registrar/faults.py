@@ -5,6 +5,7 @@ A command gathers all faults before it answers, so that one run tells them all.
 
 from __future__ import annotations
 
+import unicodedata
 from collections import Counter
 from dataclasses import dataclass, replace
 from typing import Iterable, Sequence, TextIO
@@ -54,13 +55,19 @@ def spans(rows: Sequence[int]) -> str:
 
 
 def shown(value: str) -> str:
-    """A value as a fault shows it: in quotes, in one line, cut where it is long."""
-    plain = "".join(sign if sign.isprintable() else "?" for sign in " ".join(value.split()))
-    if not plain:
+    """A value as a fault shows it: in quotes, in one line, cut where it is long, and with what is hardly seen named."""
+    if not value.strip():
         return "blank"
+    plain = "".join(sign if sign.isprintable() else f"[{name_of(sign)}]" for sign in value)
     if len(plain) > SHOWN:
         plain = plain[: SHOWN - 2] + ".."
-    return f'"{plain}"'
+    places = [place for place, sign in (("before", value[0]), ("behind", value[-1])) if sign == " "]
+    return f'"{plain}"' + (f" (with a blank {' and '.join(places)} it)" if places else "")
+
+
+def name_of(sign: str) -> str:
+    """The name of a sign that no screen shows."""
+    return {"\n": "line end", "\r": "line end", "\t": "tab"}.get(sign) or unicodedata.name(sign, f"U+{ord(sign):04X}").lower()
 
 
 class Faults:

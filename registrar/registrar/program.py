@@ -3,6 +3,7 @@
 from __future__ import annotations
 
 import hashlib
+import json
 import os
 import re
 import subprocess
@@ -357,19 +358,19 @@ def retell_settings(one: Input, cause: str) -> str:
         return f"{where} have a name that is none of {', '.join(tables.SETTINGS)}{unknown_keys(one.path)}"
     if cause.startswith("range of "):
         name = cause.split()[-1]
-        return f"{where}: \"{name}\" is {value_of(one.path, name)}, which is out of its range: {SETTING_RANGES.get(name, '')}"
+        return f'{where}: "{name}" is {value_of(one.path, name)}. It has to be {SETTING_RANGES.get(name, "another")}'
     return f"{where}: {cause}"
 
 
 SETTING_RANGES = {
-    "seed": "a whole number from 0 to 18446744073709551615",
-    "spread": "a whole number from 0 to 49",
-    "accept": "a whole number from 0 to 1000000000000",
-    "turns": "a whole number from 0 to 10000",
-    "tabu": "a whole number from 1 to 1000",
-    "patience": "a whole number from 1 to 10000",
+    "seed": "a whole number from 0 to 18446744073709551615, without sign, point and exponent",
+    "spread": "a whole number from 0 to 49, without sign, point and exponent",
+    "accept": "a whole number from 0 to 1000000000000, without sign, point and exponent",
+    "turns": "a whole number from 0 to 10000, without sign, point and exponent",
+    "tabu": "a whole number from 1 to 1000, without sign, point and exponent",
+    "patience": "a whole number from 1 to 10000, without sign, point and exponent",
     "steps": "an array of 1 to 16 whole numbers from 1 to 100000",
-    "raise": "a whole number from 0 to 50",
+    "raise": "a whole number from 0 to 50, without sign, point and exponent",
 }
 
 
@@ -391,8 +392,11 @@ def unknown_keys(path: str) -> str:
 
 
 def value_of(path: str, name: str) -> str:
-    """The value of a setting, as it reads."""
+    """The value of a setting, as it reads in JSON, and what is wrong with it."""
     try:
-        return str(tables.read_settings(path).get(name))
+        value = tables.read_settings(path).get(name)
     except Trouble:
-        return "what it is"
+        return "out of its range"
+    kinds = {str: "a text in quotes and no number", bool: "no number", type(None): "no number"}
+    fault = kinds.get(type(value), "out of its range")
+    return f"{json.dumps(value, ensure_ascii=False)}, which is {fault}"

@@ -139,6 +139,22 @@ class Looks(InFolder):
                 self.assertIn(place, told)
         self.assertIn("11 faults", told)
 
+    def test_what_is_hardly_seen_is_named(self) -> None:
+        self.write("catalogue.csv", CATALOGUE.replace("FNCE-601,2,", "FNCE-601,2 ,", 1).replace("MGMT-690,2", "MGMT-690,\u00a02"))
+        self.write("roll.csv", ROLL.replace("00123,100", '00123," 100 "').replace("8,5\nt", '8,"5\n"\nt').replace("t.jain", "\u200bt.jain"))
+        self.write("1.session", ALL)
+        status, told = say("look", "catalogue.csv", "roll.csv", "1.session")
+        self.assertEqual(status, tell.FAULTS)
+        for place in (
+            'catalogue.csv row 2, column seats: "2 " (with a blank behind it) where this was expected: a whole number',
+            'catalogue.csv row 4, column seats: "[no-break space]2" where this was expected',
+            'roll.csv row 2, column budget: " 100 " (with a blank before and behind it) where this was expected',
+            'roll.csv row 2, column courses: "5[line end]" where this was expected',
+            'roll.csv row 3, column student: "[zero width space]t.jain" where this was expected',
+        ):
+            with self.subTest(place=place):
+                self.assertIn(place, told)
+
     def test_a_number_of_thousands_of_digits(self) -> None:
         self.write("catalogue.csv", CATALOGUE)
         self.write("roll.csv", ROLL.replace(",100,8,5\nt.jain", "," + "9" * 5000 + ",8,5\nt.jain"))
