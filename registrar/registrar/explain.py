@@ -4,7 +4,7 @@ from __future__ import annotations
 
 import argparse
 
-from registrar import check, manifest, own_names, program, published, reasons, streams, tell
+from registrar import check, manifest, own_names, program, published, reasons, streams, tables, tell
 
 NAME = "explain"
 HELP = "tell why a student has no seat in a section, by the manifest, with words for the student"
@@ -23,6 +23,9 @@ def run(arguments: argparse.Namespace) -> int:
     own = own_names.beside(found.catalogue)
     student = own_names.meant(own, "student", arguments.student)
     section = own_names.meant(own, "section", arguments.section)
+    for word in (student, section):
+        if not tables.NAME.match(word):
+            raise tell.Trouble(f"'{word}' is no name of the program, and no spelling that {own_names.FILE} has", tell.USAGE)
     answer = program.call(manifest.explain_words(found, student, section), tell.Life("explaining"))
     tell.say(answer.text.rstrip("\n"))
     if answer.status == 0:

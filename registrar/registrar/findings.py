@@ -86,7 +86,7 @@ def sections_of(line: str) -> List[str]:
 def cause_in_words(words: Sequence[str]) -> str:
     """What a finding on a bundle means."""
     if words[0] == "tree":
-        return f"{TREES.get(words[1], words[1])} (symbol {words[3]} of the tree, counted from 0)"
+        return f"{TREES.get(words[1], words[1])} (byte {words[3]} of the tree, counted from 0)"
     return CAUSES.get(words[0], " ".join(words))
 
 

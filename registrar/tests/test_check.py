@@ -174,6 +174,8 @@ class Explain(InFolder):
         self.assertEqual(told.status, 9)
         self.assertIn("No student of the roll has the name 'U'. Capital letters count.", told.err)
         self.assertIn("No section of the catalogue has the name 'Z'", call("explain", "u", "Z").err)
+        told = call("explain", "u", "GÉNI 1")
+        self.assertEqual((told.status, told.err), (tell.USAGE, "'GÉNI 1' is no name of the program, and no spelling that names.csv has\n"))
 
     def test_a_finding(self) -> None:
         """Where the text does not hold, the finding is told with its place."""
@@ -262,6 +264,7 @@ class Reading(unittest.TestCase):
         path = os.path.join(TERM, "published.txt")
         for finding, wanted in (
             ("finding: student n.jones tree open at 11", "line 227: bundle n.jones [ACCT-611-B"),
+            ("finding: student n.jones tree open at 11", "(byte 11 of the tree, counted from 0)"),
             ("finding: turn 1 taken", "line 264: turn 1 "),
             ("finding: seats FNCE-717-A 13 of 12", "used FNCE-717-A"),
             ("finding: not quiet after 500 turns", "line 763"),
