@@ -30,7 +30,7 @@ MODULES = (
 
 STATUSES = (
     "Exit statuses: 0, all is well; 1 to 9, the program's own status (docs/FORMATS.md); 64, the words are wrong; "
-    "65, faults or warnings stand in the files, and are told; 66, a file is missing; 69, there is no program yet; "
+    "65, faults or warnings stand in the files, and are told; 66, a file is missing or can not be read; 69, there is no program yet; "
     "above 128, a signal ended it or the program."
 )
 

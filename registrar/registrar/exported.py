@@ -66,6 +66,7 @@ class Export:
             self.faults.add(self.file, fault.row, "", fault.value, fault.expected)
             return
         except OSError as error:
+            self.faults.lacks_file = True
             self.faults.add(self.file, None, "", "", f"{self.source.path} can not be read ({error.strerror})")
             return
         if not any(cell.strip() for cell in self.header):

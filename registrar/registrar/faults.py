@@ -10,6 +10,8 @@ from collections import Counter
 from dataclasses import dataclass, replace
 from typing import Iterable, Sequence, TextIO
 
+from registrar import tell
+
 #: How many characters of a value are shown.
 SHOWN = 60
 
@@ -75,9 +77,16 @@ class Faults:
 
     def __init__(self) -> None:
         self.found: list[Fault] = []
+        #: Whether a file could not be read.
+        self.lacks_file = False
 
     def __len__(self) -> int:
         return len(self.found)
+
+    @property
+    def status(self) -> int:
+        """The exit status of a command that ends with these faults."""
+        return tell.NO_FILE if self.lacks_file else tell.FAULTS
 
     def add(self, file: str, row: int | None, column: str, value: str, expected: str) -> None:
         """Keeps one fault more."""

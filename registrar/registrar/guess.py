@@ -316,6 +316,7 @@ def run(exports: list[str], mapping: str, encoding: str) -> int:
         raise tell.Trouble(f"{mapping} stands already; name another by --mapping, or remove it")
     seen: list[Seen] = []
     faults: list[str] = []
+    status = tell.FAULTS
     for path in exports:
         try:
             seen.append(look_at(path, encoding))
@@ -323,8 +324,9 @@ def run(exports: list[str], mapping: str, encoding: str) -> int:
             faults.append(f"{path}" + (f" row {fault.row}" if fault.row else "") + f": {fault.expected}")
         except OSError as error:
             faults.append(f"{path} can not be read: {error.strerror}")
+            status = tell.NO_FILE
     if faults:
-        raise tell.Trouble("\n".join(faults))
+        raise tell.Trouble("\n".join(faults), status)
     guesser = Guesser(seen, os.path.dirname(mapping) or ".")
     text = guesser.guess()
     make_folder(os.path.dirname(mapping) or ".")

@@ -66,7 +66,7 @@ def run(arguments: argparse.Namespace) -> int:
         if faults:
             faults.tell(sys.stdout)
             tell.say(f"nothing is written; correct the exports, or {arguments.mapping}, and run again")
-            return tell.FAULTS
+            return faults.status
     text = "# Requests, written by `registrar hall`.\n" + "".join(request.line + "\n" for request in asked)
     answer = ask(found, text)
     if answer.status:
@@ -114,7 +114,7 @@ class Gatherer:
     def requests(self) -> list[Request]:
         """The requests of all exports, in the mapping's order."""
         sources = self.mapping.of_kind("requests")
-        if not sources:
+        if self.mapping.is_read and "requests" not in self.mapping.kinds:
             self.faults.add(self.mapping.path, None, "", "", "there is no section [requests NAME]")
         return [request for source in sources for request in self.of_source(source)]
 

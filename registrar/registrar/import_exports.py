@@ -78,7 +78,7 @@ def tell_faults(faults: Faults, table: str | None, mapping: str) -> int:
     if table:
         tables.write_whole(table, tables.csv_text(faults.rows()).encode("utf-8-sig"))
     tell.say(f"nothing is written; correct the exports, or {mapping}, and run again")
-    return tell.FAULTS
+    return faults.status
 
 
 def refuse_exports(folder: str, files: dict[str, bytes], mapping: Mapping) -> None:
@@ -139,10 +139,7 @@ class Made:
         for what, count, most in counts:
             if count > most:
                 faults.add(source, None, what, grouped(count), f"at most {grouped(most)} {what}, the limit of the program")
-        for what, count, _ in counts[:2]:
-            if not count and not faults:
-                faults.add(source, None, "", "", f"there are no {what} below the header of the export")
-        if not self.mapping.of_kind("survey"):
+        if self.mapping.is_read and "survey" not in self.mapping.kinds:
             faults.add(source, None, "", "", "there is no section [survey NAME]")
         for name, content in self.files().items():
             if len(content) > MOST_BYTES and name != own_names.FILE:
@@ -193,11 +190,15 @@ class Importer:
 
     def made(self) -> Made:
         """The files' content. Where there are faults it is not to be used."""
-        for kind, take in (("catalogue", self.take_catalogue), ("roll", self.take_roll)):
+        if not self.mapping.is_read:
+            return self.result
+        tables_of = (("catalogue", self.sections, self.take_catalogue), ("roll", self.students, self.take_roll))
+        for kind, names, take in tables_of:
             sources = self.mapping.of_kind(kind)
+            names.is_whole = bool(sources)
             if sources:
                 take(Export(sources[0], self.faults))
-            else:
+            elif kind not in self.mapping.kinds:
                 self.faults.add(self.mapping.path, None, "", "", f"there is no section [{kind}]")
         for source in self.mapping.of_kind("survey"):
             self.result.surveys.append(self.survey(source))
@@ -220,9 +221,15 @@ class Importer:
             export.fault(row, option, text, f"{fault}{hint}")
             return "0"
 
+    def has_names(self, export: Export, option: str) -> bool:
+        """Whether a table has the column of its names, and rows. Where it has not, no name is looked up in it."""
+        if export.is_read and not export.rows:
+            self.faults.add(export.file, None, "", "", f"there are no {option}s below the header")
+        return bool(export.column(option, needed=True) and export.rows)
+
     def take_catalogue(self, export: Export) -> None:
         """The catalogue, a section's rows together."""
-        self.sections.is_whole = bool(export.column("section", needed=True))
+        self.sections.is_whole = self.has_names(export, "section")
         export.column("course", needed=True)
         for option in ("seats", "credits"):
             export.column(option, needed=not export.source.get(f"{option} default"))
@@ -325,7 +332,7 @@ class Importer:
 
     def take_roll(self, export: Export) -> None:
         """The roll."""
-        self.students.is_whole = bool(export.column("student", needed=True))
+        self.students.is_whole = self.has_names(export, "student")
         has_carry = bool(export.column("carry"))
         self.result.roll = [["student", "budget", "credits", "courses"] + ["carry"] * has_carry]
         for option in ("budget", "credits", "courses"):

@@ -115,10 +115,12 @@ def refuse_changed(path: str, folder: str, files: List[Tuple[str, str, str]]) ->
     """Refuses where a file is gone or has changed since the run."""
     names = {total: name for _, name, total in files}
     told = []
+    status = FAULTS
     for role, name, total in files:
         full = os.path.join(folder, name)
         if not os.path.exists(full):
             told.append(f"{full} ({role}) is not there")
+            status = NO_FILE
             continue
         now = program.sha256(full)
         if now != total:
@@ -126,7 +128,7 @@ def refuse_changed(path: str, folder: str, files: List[Tuple[str, str, str]]) ->
             told.append(f"{full} ({role}) has changed since the run{other}")
     if told:
         advice = "Put the file of that run back, or run again with the files as they are now."
-        raise Trouble("\n".join([f"by {path}:"] + ["  " + one for one in told] + [advice]), FAULTS)
+        raise Trouble("\n".join([f"by {path}:"] + ["  " + one for one in told] + [advice]), status)
 
 
 def of_files(files: Sequence[str]) -> Manifest:

@@ -188,6 +188,10 @@ class Mapping:
 
     path: str
     sources: list[Source] = field(default_factory=list)
+    #: Whether the text is a mapping at all; where it is none its fault says so, and nothing is known of its sections.
+    is_read: bool = False
+    #: The kinds of the sections that stand there, also of those that have faults.
+    kinds: set[str] = field(default_factory=set)
     decimal: str = "."
     unit: Decimal = Decimal(1)
     meetings: MeetingRules = field(default_factory=MeetingRules)
@@ -231,8 +235,10 @@ class MappingReader:
         except SheetFault as fault:
             self.faults.add(self.path, fault.row, "", fault.value, fault.expected)
         except configparser.Error as error:
-            self.faults.add(self.path, getattr(error, "lineno", None), "", "", f"this is no mapping: {error.message}")
+            line, what = first_fault(error)
+            self.faults.add(self.path, line, "", "", f"this is no mapping: {what}")
         else:
+            self.mapping.is_read = True
             for title in self.parsed.sections():
                 self.take(title)
             self.settle()
@@ -264,6 +270,7 @@ class MappingReader:
             known = [*OPTIONS, *FREE]
             self.fault(title, "", title, f"one of {', '.join(known)}")
             return
+        self.mapping.kinds.add(kind)
         values = {option: tidy(value) for option, value in self.parsed[title].items()}
         for option, value in values.items():
             if option not in OPTIONS[kind]:
@@ -353,6 +360,19 @@ class MappingReader:
         if not self.parsed.has_section(title):
             return {}
         return {tidy(key): tidy(value) for key, value in self.parsed[title].items()}
+
+
+def first_fault(error: configparser.Error) -> tuple[int | None, str]:
+    """The line of a text that is no mapping, and what is wrong there."""
+    if isinstance(error, configparser.DuplicateOptionError):
+        return error.lineno, f"[{error.section}] has the option {error.option} already"
+    if isinstance(error, configparser.DuplicateSectionError):
+        return error.lineno, f"the section [{error.section}] stands there already"
+    if isinstance(error, configparser.MissingSectionHeaderError):
+        return error.lineno, "no section in brackets stands above this line"
+    if isinstance(error, configparser.ParsingError):
+        return error.errors[0][0], "this line is no option with its `=`, no section in brackets, and no comment"
+    return None, error.message
 
 
 def split(text: str) -> list[str]:

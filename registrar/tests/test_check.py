@@ -97,17 +97,19 @@ class Check(InFolder):
         self.assertEqual(told.status, tell.FAULTS)
         self.assert_told(told.err, ("a.session (session) has changed", "it is what b.session was. Were the two swapped?"))
         os.remove("roll.csv")
-        self.assertIn("roll.csv (roll) is not there", call("check").err)
+        told = call("check")
+        self.assertEqual(told.status, tell.NO_FILE)
+        self.assertIn("roll.csv (roll) is not there", told.err)
 
     def test_a_spoiled_manifest(self) -> None:
         """A manifest that is none is refused in words."""
         good = self.read("manifest.json")
         long = good.replace('"elapsed": ', f'"elapsed": 1{"0" * 400}, "was": ')
-        for text in ("", "[]", '{"inputs": []}', "[" * 100000, long, good.replace('"catalogue.csv"', "7")):
+        for text in ("", "[]", '{"inputs": []}', "[" * 100000, long, good.replace('"catalogue.csv"', '"7"')):
             with self.subTest(text):
                 self.put("manifest.json", text)
                 told = call("check")
-                self.assertEqual(told.status, tell.FAULTS)
+                self.assertEqual(told.status, tell.NO_FILE if '"7"' in text else tell.FAULTS)
                 self.assertRegex(told.err, r"is no manifest|7 \(catalogue\) is not there")
 
     def test_a_file_that_fails(self) -> None:

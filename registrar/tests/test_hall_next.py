@@ -166,6 +166,11 @@ class Hall(InFolder):
         status, told = say("hall")
         self.assertEqual(status, tell.FAULTS)
         self.assertIn("there is no section [requests NAME]", told)
+        self.write("mapping.ini", "a stray line\n")
+        status, told = say("hall")
+        self.assertEqual((status, len(told.splitlines())), (tell.FAULTS, 2), told)
+        self.write("mapping.ini", "[requests form]\nfile = none.csv\nstudent = Who\nadd = Add\n")
+        self.assertEqual(say("hall")[0], tell.NO_FILE)
         os.remove("mapping.ini")
         self.assertEqual(say("hall")[0], tell.NO_FILE)
 

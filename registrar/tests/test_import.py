@@ -190,7 +190,44 @@ class Imports(WithSchool):
         self.write("empty.csv", "SECTION CODE,Course,Max Enrollment,Credits,Meeting Times,Length\n")
         self.settle("file", "empty.csv", "catalogue")
         self.settle("header row", "1", "roll")
-        self.assertIn("a section of the catalogue", self.imported()[1])
+        status, told = self.imported()
+        self.assertEqual((status, told.splitlines()[0]), (tell.FAULTS, "empty.csv: there are no sections below the header"))
+        self.assertNotIn("a section of the catalogue", told)
+
+    def test_a_table_that_says_nothing_is_the_one_fault(self) -> None:
+        mapping = self.read("mapping.ini")
+        self.write("register.csv", "Student ID,Name,Tokens,Max Credits,Max Courses\n")
+        wanted = "register.csv: there are no students below the header\n"
+        self.assertEqual(self.imported(), (tell.FAULTS, wanted + "nothing is written; correct the exports, or mapping.ini, and run again\n"))
+        self.settle("file", "none.csv", "roll")
+        status, told = self.imported()
+        self.assertEqual((status, told.splitlines()[0]), (tell.NO_FILE, "none.csv: none.csv can not be read (No such file or directory)"))
+        self.assertEqual(len(told.splitlines()), 2, told)
+        self.write("mapping.ini", mapping.replace("[roll]", "[rol]"))
+        status, told = self.imported()
+        self.assertEqual(status, tell.FAULTS)
+        self.assertTrue(told.startswith("mapping.ini: there is no section [roll]\nmapping.ini row "), told)
+        self.assertIn("\n2 faults\n", told)
+
+    def test_what_is_no_mapping_is_the_one_fault(self) -> None:
+        mapping = self.read("mapping.ini")
+        for old, new, wanted in (
+            ("[catalogue]", "[catalogue]\nstudent = a\nstudent = b", "row 7: this is no mapping: [catalogue] has the option student already"),
+            ("[catalogue]", "[catalogue]\na stray line", "row 6: this is no mapping: this line is no option"),
+            ("[catalogue]", "[catalogue]\n[catalogue]", "row 6: this is no mapping: the section [catalogue] stands there already"),
+            ("[catalogue]", "a = b", "row 5: this is no mapping: no section in brackets stands above this line"),
+        ):
+            with self.subTest(new):
+                self.write("mapping.ini", mapping.replace(old, new))
+                status, told = self.imported()
+                self.assertEqual((status, len(told.splitlines())), (tell.FAULTS, 2), told)
+                self.assertTrue(told.startswith(f"mapping.ini {wanted}"), told)
+
+    def test_a_section_without_its_file_is_there(self) -> None:
+        self.settle("file", "", "roll")
+        status, told = self.imported()
+        self.assertEqual((status, len(told.splitlines())), (tell.FAULTS, 2), told)
+        self.assertIn("column [roll] file: blank where this was expected: the export's file", told)
 
     def test_files_that_stand_are_written_over_by_word_alone(self) -> None:
         self.assertEqual(self.imported()[0], 0)
@@ -334,7 +371,7 @@ class Many(InFolder):
         self.write("mapping.ini", "[catalogue]\nfile = c.csv\nsektion = s\n\n[survey a b]\nfile = w.csv\n[roll]\nfile =\n[colours]\n"
                    "[students]\npad = many\n[survey w]\nfile = w.csv\nshape = rows\nfirst rating = 101\n[days]\nDi = X\n")  # fmt: skip
         status, told = say("import")
-        self.assertEqual(status, tell.FAULTS)
+        self.assertEqual(status, tell.NO_FILE)
         for place in (
             'mapping.ini row 3, column [catalogue] sektion: "sektion" where this was expected: an option of this section; nearest: section',
             "mapping.ini row 5, column [survey a b]",
@@ -351,7 +388,7 @@ class Many(InFolder):
     def test_what_can_not_begin(self) -> None:
         self.assertEqual(say("import")[0], tell.NO_FILE)
         self.write("a.csv", "x\n")
-        self.assertEqual(say("import", "none.csv")[0], tell.FAULTS)
+        self.assertEqual(say("import", "none.csv"), (tell.NO_FILE, "none.csv can not be read: No such file or directory\n"))
         self.assertFalse(os.path.exists("mapping.ini"))
         self.assertEqual(say("import", "a.csv")[0], tell.FAULTS)
         self.assertEqual(say("import", "a.csv")[0], tell.FAULTS)
