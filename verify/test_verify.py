@@ -36,9 +36,16 @@ class Examples(unittest.TestCase):
         self.assertEqual((0, ["accepted"]), verify.verdict(TABLES + [str(TERM / "published.txt")] + SESSIONS))
 
     def test_words(self):
-        for words in [], ["a"] * 4, ["a"] * 69, ["--own", "n.jones"], ["--own", "n", "--before", "1", "a", "b", "c", "d"]:
+        """The verdict is the program's; what is printed are the two forms of verify.py."""
+        forms = re.findall(r"^    (python3 verify.py .+)$", verify.__doc__, re.M)
+        self.assertEqual(2, len(forms))
+        own = ["--own", "n"]
+        for words in ([], ["a"] * 4, ["a"] * 69, own, own + ["--before", "1", "a", "b", "c", "d"], own + ["a"] * 6,
+                      own + ["--before", "x"] + ["a"] * 5):
             with self.subTest(words):
                 self.assertEqual((1, [verify.USAGE]), verify.verdict(words))
+                done = subprocess.run([sys.executable, verify.__file__, *words], stdout=subprocess.PIPE, text=True)
+                self.assertEqual((1, forms), (done.returncode, done.stdout.splitlines()))
 
 
 class Draws(unittest.TestCase):

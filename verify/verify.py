@@ -15,8 +15,8 @@ and `error` lines, which tell how the prices were found, are read and not judged
 The second form needs nobody else's ratings: LINES has the student's own `rate`, `pair` and `clear` lines, in the order
 in which the desk took them (others are passed over), and N is how many of them came before the desk was closed (without
 it, all). It checks whatever needs no ratings of others (form, budgets, prices, turns, seats), and of the student each
-bundle with its tree. All amounts are whole numbers. Long work tells on standard error how far it is.
-"""
+bundle with its tree. Of other words both forms are printed, and the status is 1. All amounts are whole numbers. Long
+work tells on standard error how far it is."""
 import collections, csv, io, itertools, json, re, sys, time
 
 INPUT_LIMIT, TEXT_LIMIT, COMMAND_LIMIT, ANY_64_BITS = 2**24, 2**26, 200_000, 2**64 - 1
@@ -383,9 +383,9 @@ def check(own, before, catalogue, roll, settings, text, *sessions):
 
 def verdict(words):  # the exit status and the lines that are printed
     own, words = (words[1], words[2:]) if words[:1] == ["--own"] and len(words) > 6 else (None, words)
-    before, words = (number(COMMAND_LIMIT)(words[1]), words[2:]) if own and words[0] == "--before" else (None, words)
+    before, words = (number(COMMAND_LIMIT)(words[1]), words[2:]) if own and words[0] == "--before" else (COMMAND_LIMIT, words)
     try:
-        if not 5 <= len(words) <= (5 if own else 68):
+        if before is None or not 5 <= len(words) <= (5 if own else 68):
             raise Ended(1, USAGE, None)
         return 0, check(own, before, *words)
     except Ended as ended:
@@ -396,5 +396,5 @@ def verdict(words):  # the exit status and the lines that are printed
 
 if __name__ == "__main__":
     status, lines = (0, [__doc__]) if sys.argv[1:] == ["--help"] else verdict(sys.argv[1:])
-    print("\n".join(lines))
+    print("\n".join(re.findall("python3 verify.py .*", __doc__) if status == 1 else lines))
     sys.exit(status)
