@@ -15,7 +15,7 @@ import os
 from dataclasses import dataclass
 from typing import Dict, List, Sequence
 
-from registrar import program, published, reasons, tables
+from registrar import program, published, reasons, streams, tables
 
 # The greatest base of a roll. A drawn budget may be greater: then the whole market is asked.
 MOST_BASE = 900000
@@ -38,12 +38,7 @@ class Room:
 
 def room(folder: str, market: reasons.Market, commands: Sequence[tables.Command]) -> Room:
     """Puts the settings into the folder, which all such markets share."""
-    made = Room(folder, market, {})
-    for command in commands:
-        if command.kind == "close":
-            break
-        if command.student is not None:
-            made.commands.setdefault(command.student, []).append(command)
+    made = Room(folder, market, streams.by_student(commands))
     tables.write_whole(made.path("settings.json"), json.dumps(SETTINGS).encode("ascii"))
     return made
 
@@ -62,7 +57,7 @@ def enter(made: Room, name: str) -> None:
     roll = [tables.ROLL_HEADERS[0].split(","), (name, made.market.text.budgets[name], student.credits, student.courses)]
     tables.write_csv(made.path(name + ".roll"), roll)
     said = made.commands.get(name, [])
-    tables.write_whole(made.path(name + ".session"), "".join(one.text + "\n" for one in said).encode("utf-8"))
+    tables.write_whole(made.path(name + ".session"), streams.as_session(said))
     text = text_of_one(made.market, made.market.text.bundles[name], sections, len(said))
     tables.write_whole(made.path(name + ".text"), text.encode("ascii"))
 

@@ -13,7 +13,7 @@ from registrar import alone, explain, manifest, own_names, program, published, r
 
 NAME = "lists"
 HELP = (
-    "write students.csv, rosters.csv, sections.csv and a text for each student, by the manifest; "
+    "write students.csv, rosters.csv, sections.csv and for each student a text and its own lines of the sessions, by the manifest; "
     "the tables have the school's own spelling where names.csv stands beside the catalogue"
 )
 
@@ -22,11 +22,12 @@ BOOK = "lists.xlsx"
 
 @dataclass(frozen=True)
 class Ask:
-    """What the texts are made from: the manifest, the market, each student's lines, and where reasons are asked, if at all."""
+    """What the texts are made from: the manifest, the market, each student's lines, what it said, and where reasons are asked."""
 
     found: manifest.Manifest
     market: reasons.Market
     lines: Dict[str, List[int]]
+    said: Dict[str, List[tables.Command]]
     room: Optional[alone.Room]
 
 
@@ -63,16 +64,17 @@ def run(arguments: argparse.Namespace) -> int:
     with tempfile.TemporaryDirectory() as folder:
         commands = streams.in_order(market.text.order, found.sessions)
         room = None if arguments.no_reasons else alone.room(folder, market, commands)
-        ask = Ask(found, market, own_lines(market.text), room)
+        ask = Ask(found, market, own_lines(market.text), streams.by_student(commands), room)
         write_texts(os.path.join(arguments.out, "students"), ask, names, arguments.workers)
     warn_of_others(os.path.join(arguments.out, "students"), list(market.students))
-    tell.say(f"{arguments.out}: students.csv, rosters.csv, sections.csv, and {tell.count(len(names), 'text', 'texts')} in students/")
+    texts = tell.count(len(names), "text", "texts")
+    tell.say(f"{arguments.out}: students.csv, rosters.csv, sections.csv, and {texts} in students/, each with the student's session")
     return 0
 
 
 def targets(folder: str, names: Sequence[str]) -> List[str]:
     """The files that are written."""
-    texts = [os.path.join("students", name + ".txt") for name in names]
+    texts = [os.path.join("students", name + ending) for name in names for ending in (".txt", ".session")]
     return [os.path.join(folder, name) for name in ("students.csv", "rosters.csv", "sections.csv", BOOK, *texts)]
 
 
@@ -138,11 +140,12 @@ def missed(market: reasons.Market, name: str) -> List[str]:
 
 
 def write_texts(folder: str, ask: Ask, names: Sequence[str], workers: int) -> None:
-    """Writes a text for each student, a few at a time, and says how far it is."""
+    """Writes for each student a text and what it said, a few at a time, and says how far it is."""
     life = tell.Life("")
     with concurrent.futures.ThreadPoolExecutor(max_workers=max(1, workers)) as pool:
         for done, (name, text) in enumerate(zip(names, pool.map(lambda one: student_text(ask, one), names)), 1):
             tables.write_whole(os.path.join(folder, name + ".txt"), text.encode("utf-8"))
+            tables.write_whole(os.path.join(folder, name + ".session"), own_session(name, ask.said.get(name, [])))
             life.what = f"texts: {done} of {len(names)}"
             life.tick()
     life.end()
@@ -171,6 +174,11 @@ def student_text(ask: Ask, name: str) -> str:
     if ask.room is not None:
         lines += reason_lines(ask, ask.room, name)
     return "\n".join(lines) + "\n"
+
+
+def own_session(name: str, said: Sequence[tables.Command]) -> bytes:
+    """What a student said, as a session: by it and the published files a reader checks this student's bundles."""
+    return f"# What {name} said, in the order in which the desk took it.\n".encode("ascii") + streams.as_session(said)
 
 
 def section_lines(market: reasons.Market, name: str, final: Sequence[str]) -> List[str]:

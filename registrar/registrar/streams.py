@@ -2,7 +2,8 @@
 
 from __future__ import annotations
 
-from typing import List, Sequence
+import itertools
+from typing import Dict, Iterable, List, Sequence
 
 from registrar import tables
 from registrar.tell import Trouble
@@ -23,6 +24,16 @@ def in_order(order: Sequence[int], sessions: Sequence[str]) -> List[tables.Comma
         if next(rest, None) is not None:
             raise Trouble(f"the text's order leaves out commands of session {number}: `registrar check` says more")
     return merged
+
+
+def by_student(commands: Iterable[tables.Command]) -> Dict[str, List[tables.Command]]:
+    """What each student said, of commands in the text's order: what comes behind a `close` the desk did not hear."""
+    heard = itertools.takewhile(lambda one: one.kind != "close", commands)
+    said: Dict[str, List[tables.Command]] = {}
+    for command in heard:
+        if command.student is not None:
+            said.setdefault(command.student, []).append(command)
+    return said
 
 
 def as_session(commands: Sequence[tables.Command]) -> bytes:

@@ -218,7 +218,7 @@ class Printed(unittest.TestCase):
 
     def prepare(self, folder: str) -> None:
         """What the words of a document find there."""
-        for name in ("scripts", "registrar", "crates"):
+        for name in ("scripts", "registrar", "verify", "crates"):
             os.symlink(os.path.join(program.TOP, name), os.path.join(folder, name))
         shutil.copytree(os.path.join(program.TOP, "examples"), os.path.join(folder, "examples"))
 

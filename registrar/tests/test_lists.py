@@ -3,6 +3,8 @@
 import json
 import os
 import random
+import subprocess
+import sys
 import unittest
 import xml.etree.ElementTree
 from unittest import mock
@@ -14,6 +16,7 @@ TERM_FILES = [
     os.path.join(TERM, name)
     for name in ("catalogue.csv", "roll.csv", "settings.json", "published.txt", "desk.session", "web.session")
 ]
+VERIFY = os.path.join(program.TOP, "verify", "verify.py")
 
 
 def term() -> reasons.Market:
@@ -79,10 +82,25 @@ class Lists(InFolder):
         self.assertNotIn("You have all", text)
         self.assertIn("You have all that you rated highest.", self.read("lists/students/u.txt"))
 
+    def test_own_lines(self) -> None:
+        """Beside each text stands what the student said, in the text's order and up to a `close`; the second checker takes it."""
+        self.put("a.session", "rate u X 90\n# note\nrate  u Y 50\nnone\nrate v Y 40\nclose\nrate u Y 7\n")
+        self.put("b.session", "# nothing\n")
+        self.assertEqual(call("run", *SCARCE_WORDS).status, 0)
+        self.assertEqual(call("lists", "--no-reasons").status, 0)
+        said = self.read("lists/students/u.session").splitlines()
+        self.assertEqual(said, ["# What u said, in the order in which the desk took it.", "rate u X 90", "rate u Y 50"])
+        self.assertEqual(self.read("lists/students/v.session").splitlines()[1:], ["rate v Y 40"])
+        for name, bundle in (("u", "[X,Y]"), ("v", "[Y]")):
+            words = ["--own", name, *SCARCE_WORDS[:3], "published.txt", f"lists/students/{name}.session"]
+            done = subprocess.run([sys.executable, VERIFY, *words], stdout=subprocess.PIPE, check=False, universal_newlines=True)
+            self.assertEqual(done.returncode, 0, done.stdout)
+            self.assertIn(f"holds: final {name} {bundle}\n", done.stdout)
+
     def test_no_reasons(self) -> None:
         """`--no-reasons` leaves them out, and one student alone may be asked for."""
         self.assertEqual(call("lists", "--no-reasons", "--student", self.loser).status, 0)
-        self.assertEqual(os.listdir("lists/students"), [self.loser + ".txt"])
+        self.assertEqual(sorted(os.listdir("lists/students")), [self.loser + ".session", self.loser + ".txt"])
         self.assertNotIn("rated higher", self.read(f"lists/students/{self.loser}.txt"))
         self.assertEqual(call("lists", "--student", "w").status, tell.FAULTS)
 
