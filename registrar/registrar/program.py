@@ -67,7 +67,7 @@ def find_program() -> str:
     """The path of the program, or a refusal that says how to come by it."""
     named = os.environ.get("COURSE_MATCH_PROGRAM")
     if named:
-        if not os.access(named, os.X_OK):
+        if not (os.path.isfile(named) and os.access(named, os.X_OK)):
             raise Trouble(f"COURSE_MATCH_PROGRAM names {named}, which is no program that can be called", NO_PROGRAM)
         return os.path.abspath(named)
     for one in PLACES:

@@ -26,14 +26,16 @@ FORMS = {
 class Scripts(InFolder):
     """The scripts of the repository."""
 
-    def script(self, name: str, words: List[str], named: Optional[str] = None, path: Optional[str] = None) -> subprocess.CompletedProcess:
-        """Calls a script, with another program or another search path."""
+    def script(
+        self, name: str, words: List[str], named: Optional[str] = None, path: Optional[str] = None, scripts: str = SCRIPTS
+    ) -> subprocess.CompletedProcess:
+        """Calls a script, with another program, another search path, or from another folder of scripts."""
         there = dict(os.environ)
         if named is not None:
             there["COURSE_MATCH_PROGRAM"] = named
         if path is not None:
             there["PATH"] = path + os.pathsep + there["PATH"]
-        return subprocess.run([os.path.join(SCRIPTS, name), *words], env=there, capture_output=True, text=True, check=False)
+        return subprocess.run([os.path.join(scripts, name), *words], env=there, capture_output=True, text=True, check=False)
 
     def test_usage(self) -> None:
         """`--help` answers 0 and the usage; missing words answer it on standard error, and no status of the program."""
@@ -47,22 +49,46 @@ class Scripts(InFolder):
         for name in ("examples", "program", "registrar"):
             self.assertEqual(self.script(name, ["--help"]).returncode, 0)
 
+    def without_program(self) -> str:
+        """The scripts in a folder beside which nothing was built."""
+        shutil.copytree(SCRIPTS, "top/scripts")
+        os.makedirs("top/crates/market_program")
+        return os.path.abspath("top/scripts")
+
     def test_no_program(self) -> None:
         """With words and without a program each ends with 69."""
+        scripts = self.without_program()
         for name, words in FORMS.items():
             with self.subTest(name):
-                told = self.script(name, words + ["more"], named=os.path.join(self.folder, "none"))
+                told = self.script(name, words + ["more"], named="", scripts=scripts)
                 self.assertEqual((told.returncode, told.stdout), (tell.NO_PROGRAM, ""))
                 self.assertIn("there is no program yet", told.stderr)
+
+    def test_another_program_that_is_none(self) -> None:
+        """Where COURSE_MATCH_PROGRAM names none, no other one is called: neither with words nor for the example."""
+        self.put("none", "no program")
+        for named in ("missing", "none", self.folder):
+            for name, words in (*FORMS.items(), ("check", []), ("examples", [])):
+                with self.subTest(name + named):
+                    told = self.script(name, words + ["more"] if words else [], named=named)
+                    self.assertEqual((told.returncode, told.stdout), (tell.NO_PROGRAM, ""))
+                    self.assertRegex(told.stderr, rf"^COURSE_MATCH_PROGRAM names \S*{named}, which is no program that can be called\n$")
+
+    def test_a_program_of_this_folder(self) -> None:
+        """A name without a slash is a file of this folder, and no word of the search path."""
+        self.put("true", "#!/bin/sh\nexit 7\n")
+        os.chmod("true", 0o755)
+        self.assertEqual(self.script("check", FORMS["check"] + ["more"], named="true").returncode, 7)
 
     def test_numbers_of_rt(self) -> None:
         """Where `rt try` fails with a number that is also one of the program's, the script does not end with it."""
         os.mkdir("bin")
         self.put("bin/rt", "#!/bin/sh\nexit 6\n")
         os.chmod("bin/rt", 0o755)
+        scripts = self.without_program()
         for name in FORMS:
             with self.subTest(name):
-                told = self.script(name, [], named=os.path.join(self.folder, "none"), path=os.path.join(self.folder, "bin"))
+                told = self.script(name, [], named="", path=os.path.join(self.folder, "bin"), scripts=scripts)
                 self.assertEqual(told.returncode, 70)
                 self.assertIn("rt try ended with 6", told.stderr)
 
