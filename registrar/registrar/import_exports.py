@@ -83,8 +83,8 @@ def tell_faults(faults: Faults, table: str | None, mapping: str) -> int:
 
 def refuse_exports(folder: str, files: dict[str, bytes], mapping: Mapping) -> None:
     """Refuses where a file would be written over one of the exports that it is made of."""
-    exports = {os.path.abspath(source.path) for source in mapping.sources}
-    over = [name for name in files if os.path.abspath(os.path.join(folder, name)) in exports]
+    exports = {tables.file_at(source.path) for source in mapping.sources} - {None}
+    over = [name for name in files if tables.file_at(os.path.join(folder, name)) in exports]
     if over:
         raise tell.Trouble(f"{', '.join(over)} would be written over an export of that name: `--into` names another folder")
 

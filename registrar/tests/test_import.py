@@ -352,6 +352,8 @@ class Many(InFolder):
         status, told = say("import", "--replace")
         self.assertEqual(status, tell.FAULTS)
         self.assertIn("roll.csv would be written over an export of that name", told)
+        os.symlink(".", "other")
+        self.assertIn("roll.csv would be written over an export of that name", say("import", "--replace", "--into", "other")[1])
         self.assertEqual(self.read("roll.csv"), "student,budget,credits,courses\na1,5,9,5\nb1,5,9,5\n")
         self.assertIn("rate b1 ECON-1-B 100\nrate b1 ECON-1-A 95\n", self.read("w-2.session"))
 
