@@ -3,6 +3,7 @@ const KINDS = {
   catalogue: 'catalogue', roll: 'roll', settings: 'settings', text: 'published text', session: 'session',
   manifest: 'manifest', other: 'not needed here', unknown: 'not known',
 };
+const LONGEST = 2 ** 27;
 const NEEDED = { catalogue: 'the catalogue', roll: 'the roll', settings: 'the settings', text: 'the published text' };
 const BY_NAME = [[/catalog/i, 'catalogue'], [/roll|student/i, 'roll'], [/setting/i, 'settings'], [/publish/i, 'text'], [/session/i, 'session']];
 
@@ -31,23 +32,40 @@ function kindOf(name, bytes) {
   return BY_NAME.find(([pattern]) => pattern.test(name))?.[1] ?? 'unknown';
 }
 
-// All files below what was dropped, also those in folders.
+// All files of what was dropped, also those in folders, as { name, file }; the name has the folders below what was dropped.
+// What was dropped can be asked for only before the first wait. To a page on a disk Chrome opens a folder by its handle
+// alone, and Firefox by its entry alone; so files are taken as they come, and by neither.
 async function filesDropped(transfer) {
-  const entries = [...transfer.items].map(it => it.webkitGetAsEntry?.()).filter(Boolean);
-  if (!entries.length) return [...transfer.files];
-  const found = [];
-  const go = async entry => {
-    if (entry.isFile) return found.push(await new Promise((done, fail) => entry.file(done, fail)));
-    const reader = entry.createReader();
-    for (let more; (more = await new Promise((done, fail) => reader.readEntries(done, fail))).length;) for (const it of more) await go(it);
-  };
-  for (const it of entries) await go(it);
+  const items = [...transfer.items].filter(it => it.kind === 'file').map(it =>
+    ({ file: it.getAsFile(), entry: it.webkitGetAsEntry?.(), handle: it.getAsFileSystemHandle?.().catch(() => null) }));
+  const isOne = items.filter(it => it.entry?.isDirectory).length < 2, found = [];
+  for (const { file, entry, handle } of items) {
+    if (!entry?.isDirectory) found.push({ name: file.name, file });
+    else found.push(...await filesBelow(await handle ?? entry, isOne ? '' : `${entry.name}/`));
+  }
   return found.sort((one, other) => one.name.localeCompare(other.name, 'en', { numeric: true }));
 }
 
-async function loaded(file) {
-  const bytes = new Uint8Array(await file.arrayBuffer());
-  return { name: file.name, bytes, kind: kindOf(file.name, bytes) };
+async function filesBelow(folder, path) {
+  const found = [], isHandle = !folder.createReader;
+  for (const it of isHandle ? await Array.fromAsync(folder.values()) : await entriesBelow(folder)) {
+    const name = path + it.name;
+    if (isHandle ? it.kind === 'directory' : it.isDirectory) found.push(...await filesBelow(it, `${name}/`));
+    else found.push({ name, file: await (isHandle ? it.getFile() : new Promise((done, fail) => it.file(done, fail))) });
+  }
+  return found;
+}
+
+async function entriesBelow(folder) {
+  const reader = folder.createReader(), found = [];
+  for (let more; (more = await new Promise((done, fail) => reader.readEntries(done, fail))).length;) found.push(...more);
+  return found;
+}
+
+// Reads a file. One that is longer than any of a market, or that the browser cannot read, is kept by its name alone.
+async function loaded({ name, file }) {
+  const bytes = file.size > LONGEST ? null : await file.arrayBuffer().then(it => new Uint8Array(it), () => null);
+  return bytes ? { name, bytes, kind: kindOf(name, bytes) } : { name, bytes: new Uint8Array(), kind: 'unknown', isUnread: true };
 }
 
 async function hashOf(bytes) {

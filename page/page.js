@@ -28,6 +28,12 @@ function verdict(kind, title, ...children) {
   $('verdict').replaceChildren(el('h2', {}, title), ...children.flat());
 }
 
+// Reads files and takes them; null stands for a folder that the browser did not open.
+app.give = async files => {
+  if (!files) return verdict('wrong', 'The folder was not opened', p('This browser does not open a folder to this page: open the folder, and give the files that are in it. What was given before stays as it was.'));
+  await app.take(await Promise.all(files.map(loaded)));
+};
+
 // Takes files beside those that are there; one of the same name takes the other's place.
 app.take = async files => {
   for (const it of files) {
@@ -92,22 +98,29 @@ function lacksWords(lacks) {
     strange.length ? p(`What ${listed(strange)} is, the page cannot tell: choose it in the list of the files.`) : ''];
 }
 
+// Checks what is there. The answers on the files of before are gone at once, and what was under way on them is stopped.
 app.check = async () => {
-  const number = ++app.checks, { parts, faults, lacks, isOrdered } = await partsOf(app.files);
-  if (number !== app.checks) return;
+  const number = ++app.checks, isOld = () => number !== app.checks;
   app.market = app.finding = null;
+  if (app.works) app.program.stop();
   $('verdict').replaceChildren();
+  drawReaders(app.files.length ? CHECKING : GIVE);
+  const { parts, faults, lacks, isOrdered } = await partsOf(app.files);
+  if (isOld()) return;
   drawFiles();
-  if (!app.files.length) return app.draw();
+  const registrar = await registrarView();
+  if (isOld()) return;
+  $('registrar').replaceChildren(...registrar);
+  if (!app.files.length) return;
   if (lacks.length || faults.length) {
     verdict('open', faults.length ? 'The files do not fit together' : 'Not all files are there yet', ...faults.map(it => p(it)), lacks.length ? lacksWords(lacks) : '');
-    return app.draw();
+    return drawReaders(GIVE);
   }
   const checked = await checkedIn(parts, isOrdered), { market, refusal } = checked.answer.status === 0 ? await marketOf(checked) : { refusal: checked };
-  if (number !== app.checks) return;
+  if (isOld()) return;
   if (market) accepted(market);
   else refused(refusal);
-  app.draw();
+  drawReaders(app.finding ? NOTHING : GIVE);
 };
 
 function refused({ answer, call, parts }) {
@@ -171,14 +184,15 @@ app.showStudent = (typed, focuses = true) => {
 const whichOf = near => ['Which of them? ', ...near.slice(0, 12).flatMap(it => [button(it.name, () => app.showStudent(it.name), { class: 'link' }), ' ']), near.length > 12 ? `and ${near.length - 12} more` : ''];
 
 const GIVE = 'First give the published files above. When their text holds, this part shows what it says.';
+const CHECKING = 'The files are being checked. When their text holds, this part shows what it says.';
 const NOTHING = 'The text does not hold, so nothing of it is shown here.';
 
-app.draw = async () => {
+// Draws what a student and an auditor see: what the text says, or, where none holds, the given words.
+function drawReaders(words) {
   const { market } = app;
-  $('student').replaceChildren(...market ? [chooser(market), el('div', { id: 'student-answer' })] : [p(app.finding ? NOTHING : GIVE)]);
-  $('auditor').replaceChildren(...market ? auditorView(market) : [p(app.finding ? NOTHING : GIVE)]);
-  $('registrar').replaceChildren(...await registrarView());
-};
+  $('student').replaceChildren(...market ? [chooser(market), el('div', { id: 'student-answer' })] : [p(words)]);
+  $('auditor').replaceChildren(...market ? auditorView(market) : [p(words)]);
+}
 
 app.show = view => {
   app.view = view;
@@ -201,7 +215,7 @@ async function takeExample() {
 function listen() {
   addEventListener('unhandledrejection', event => verdict('wrong', 'The page failed', p(String(event.reason))));
   $('choose').addEventListener('change', async event => {
-    await app.take(await Promise.all([...event.target.files].map(loaded)));
+    await app.give([...event.target.files].map(file => ({ name: file.name, file })));
     event.target.value = '';
   });
   $('example').addEventListener('click', takeExample);
@@ -212,7 +226,7 @@ function listen() {
   addEventListener('drop', async event => {
     event.preventDefault();
     $('drop').classList.remove('over');
-    await app.take(await Promise.all((await filesDropped(event.dataTransfer)).map(loaded)));
+    await app.give(await filesDropped(event.dataTransfer).catch(() => null));
   });
   // Of the questions that were asked, those that are closed on the screen are open on paper.
   const closed = [];

@@ -110,6 +110,12 @@ class Browser:
         node = self.call("DOM.querySelector", nodeId=root, selector=selector)["nodeId"]
         self.call("DOM.setFileInputFiles", nodeId=node, files=[str(it.resolve()) for it in files])
 
+    def drop(self, files: list[Path]) -> None:
+        """Drops files and folders on the page, as a person does with the mouse."""
+        data = {"items": [], "files": [str(it.resolve()) for it in files], "dragOperationsMask": 1}
+        for what in ("dragEnter", "dragOver", "drop"):
+            self.call("Input.dispatchDragEvent", type=what, x=300, y=300, data=data)
+
     def press(self, key: str, text: str = "") -> None:
         """Presses a key."""
         code = {"Tab": 9, "Enter": 13, " ": 32}.get(key, 0)

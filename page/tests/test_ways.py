@@ -103,6 +103,43 @@ class Ways(unittest.TestCase):
         self.tab.press("Enter", "\r")
         self.tab.wait(f"$('student-answer').querySelector('h2')?.textContent === {json.dumps(name)} && !app.works")
 
+    def test_files_and_folders_are_dropped(self) -> None:
+        self.tab.drop([TERM / it for it in FILES])
+        self.verdict("This text holds")
+        open_page(self.tab)
+        fall, spring = self.room / "fall", self.room / "spring"
+        (fall / "wishes").mkdir(parents=True)
+        for it in FILES:
+            shutil.copy(TERM / it, fall / ("wishes" if it.endswith(".session") else "") / it)
+        self.tab.drop([fall])
+        self.verdict("This text holds")
+        self.assertIn("wishes/desk.session", self.words("#file-list"))
+        open_page(self.tab)
+        shutil.copytree(fall, spring)
+        self.tab.drop([fall, spring])
+        self.assertIn("the roll (fall/roll.csv and spring/roll.csv): remove all but one", self.verdict("The files do not fit together"))
+
+    def test_folder_that_is_not_opened_is_told(self) -> None:
+        self.tab.evaluate("DataTransferItem.prototype.getAsFileSystemHandle = undefined")
+        self.tab.drop([TERM])
+        self.assertIn("open the folder, and give the files", self.verdict("The folder was not opened"))
+
+    def test_nothing_of_old_files_stands_beside_new_ones(self) -> None:
+        self.click("Take the example term")
+        self.verdict("This text holds")
+        self.show("n.jones")
+        self.tab.evaluate(
+            "globalThis.ask = app.program.ask.bind(app.program); app.program.ask = (...it) => new Promise(done => { globalThis.go = () => done(ask(...it)); })"
+        )
+        self.give(["roll.csv"], {"roll.csv": (TERM / "roll.csv").read_bytes().replace(b"n.jones,4500", b"n.jones,4600")})
+        self.tab.wait("globalThis.go")
+        self.assertEqual("", self.words("#verdict"))
+        for view in ("student", "auditor"):
+            self.assertIn("The files are being checked", self.words(f"#{view}"))
+        self.tab.evaluate("go()")
+        self.assertIn("The budget of n.jones is not", self.verdict("This text does not hold"))
+        self.assertIn("nothing of it is shown", self.words("#student"))
+
     def test_student(self) -> None:
         self.give(["web.session", "published.txt", *BESIDE, "settings.json", "roll.csv", "desk.session", "catalogue.csv"])
         self.verdict("This text holds")
