@@ -1,14 +1,13 @@
 // What an auditor sees: the check, prices and seats, budgets, errors, the aftermarket, and all sections and students.
 
-// Where a finding stands in the text: its line, with the symbol of the tree marked.
+// Where a finding stands in the text: its line, with the symbol of the tree, or the entry of the order, marked.
 function findingPart(finding, parts) {
-  const { line, text, byte } = placeOf(finding, parts);
+  const { line, text, start } = placeOf(finding, parts);
   if (!line) return p(code(finding));
-  const start = byte === null ? -1 : text.lastIndexOf(' ') + 1 + byte;
-  const from = Math.max(0, Math.min(start - 60, text.length)), shown = byte === null
+  const from = Math.max(0, Math.min(start - 60, text.length)), shown = start === null
     ? [shortenedLine(text)]
     : [from ? '.. ' : '', text.slice(from, start), el('mark', {}, text[start] ?? ' '), text.slice(start + 1, start + 80)];
-  const place = `line ${line}${byte === null ? '' : `, column ${start + 1}`} of ${parts.text.name}`;
+  const place = `line ${line}${start === null ? '' : `, column ${start + 1}`} of ${parts.text.name}`;
   const said = p(`This is ${place} (the program's words: `, code(`finding: ${finding}`), '):');
   return [said, el('pre', { class: 'place', tabindex: '0', role: 'region', 'aria-label': place }, shown)];
 }

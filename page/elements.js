@@ -23,6 +23,8 @@ function listed(names) {
   return names.length === 1 ? names[0] : `${names.slice(0, -1).join(', ')} and ${names.at(-1)}`;
 }
 
+const shortList = names => names.length > 12 ? `${names.slice(0, 12).join(', ')} and ${names.length - 12} more` : listed(names);
+
 // Names in a cell of a table: none is broken at a dash.
 function namesCell(names) {
   if (!names.length) return 'nothing';

@@ -17,9 +17,19 @@ function entriesIn(bytes) {
   }
 }
 
+// As what a file is saved that is no text in UTF-8, and what is to be done, in words; nothing where that does not show.
+function savedAs(bytes) {
+  const begins = (...signs) => signs.every((it, at) => bytes[at] === it);
+  if (begins(0x50, 0x4b, 3, 4)) return 'a packed file or a workbook: give what is in it, of a workbook the sheet saved as CSV with commas';
+  if (begins(0x25, 0x50, 0x44, 0x46)) return 'a PDF, which no file of a market is';
+  if (begins(0xff, 0xfe) || begins(0xfe, 0xff)) return 'a text in UTF-16: save it in UTF-8';
+  return '';
+}
+
 // The kind of a file, by its first lines, and where these tell nothing by its name.
 function kindOf(name, bytes) {
   const head = decoded(bytes.subarray(0, 65536)), first = head.split(/\r\n|\r|\n/, 1)[0];
+  if (savedAs(bytes)) return 'unknown';
   if (head.startsWith('course-match ')) return 'text';
   if (/^\s*\{/.test(head)) return entriesIn(bytes) ? 'manifest' : 'settings';
   if (/section.*course/i.test(first)) return 'catalogue';
@@ -77,12 +87,12 @@ const baseName = path => String(path).split(/[\\/]/).at(-1);
 
 // The files that a manifest names, in its order; the faults are in words.
 async function byManifest(manifest, files) {
-  const entries = entriesIn(manifest.bytes), found = { sessions: [] }, faults = entries ? [] : [`${manifest.name} is taken for a manifest and is none.`];
+  const entries = entriesIn(manifest.bytes), found = { sessions: [] }, faults = entries ? [] : [`${manifest.name} is taken for a manifest and is none: remove it, or choose in the list what it is.`];
   for (const { role, file, sha256 } of entries ?? []) {
-    const named = files.find(it => it.name === baseName(file));
-    if (!named) { faults.push(`${manifest.name} names ${baseName(file)}, which is not among the files.`); continue; }
+    const named = files.find(it => it.name === baseName(file)) ?? files.find(it => baseName(it.name) === baseName(file));
+    if (!named) { faults.push(`${manifest.name} names ${baseName(file)}, which is not among the files: give it, or remove ${manifest.name}.`); continue; }
     const sum = await hashOf(named.bytes);
-    if (sum && sha256 && sum !== String(sha256).toLowerCase()) faults.push(`${named.name} is not the file that ${manifest.name} tells of: its SHA-256 is another.`);
+    if (sum && sha256 && sum !== String(sha256).toLowerCase()) faults.push(`${named.name} is not the file that ${manifest.name} tells of: its SHA-256 is another. Give that file, or remove ${manifest.name}.`);
     named.kind = role;
     if (role === 'session') found.sessions.push(named);
     else found[role] = named;
@@ -90,18 +100,20 @@ async function byManifest(manifest, files) {
   return { found, faults };
 }
 
-// The parts of the market among the files: { parts, faults, lacks, isOrdered }, faults and lacks in words. What a manifest
-// names goes before what the files' content tells.
+// The parts of the market among the files: { parts, faults, lacks, isOrdered, unused }, faults and lacks in words. What a
+// manifest names goes before what the files' content tells; `unused` are the files of a market that it does not name.
 async function partsOf(files, wanted = Object.keys(NEEDED)) {
   const of = kind => files.filter(it => it.kind === kind), [manifest] = of('manifest');
   const { found, faults } = manifest ? await byManifest(manifest, files) : { found: { sessions: [] }, faults: [] };
   const isOrdered = found.sessions.length > 0 || of('session').length < 2;
   const parts = { ...found, sessions: found.sessions.length ? found.sessions : of('session') };
+  if (of('manifest').length > 1) faults.push(`Several files are manifests (${listed(of('manifest').map(it => it.name))}): remove all but one.`);
   for (const kind of Object.keys(NEEDED)) {
     parts[kind] ??= of(kind).at(-1);
     if (!found[kind] && of(kind).length > 1) faults.push(`Several files are taken for ${NEEDED[kind]} (${listed(of(kind).map(it => it.name))}): remove all but one.`);
   }
   const lacks = wanted.filter(kind => !parts[kind]).map(kind => NEEDED[kind]);
   if (!parts.sessions.length) lacks.push('the sessions (what the students wished)');
-  return { parts, faults, lacks, isOrdered };
+  const used = new Set(Object.values(parts).flat()), unused = files.filter(it => (NEEDED[it.kind] || it.kind === 'session') && !used.has(it));
+  return { parts, faults, lacks, isOrdered, unused };
 }

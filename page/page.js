@@ -25,7 +25,7 @@ app.work = async (title, call) => {
 
 function verdict(kind, title, ...children) {
   $('verdict').className = kind;
-  $('verdict').replaceChildren(el('h2', {}, title), ...children.flat());
+  $('verdict').replaceChildren(el('h2', {}, title), ...children.flat(2));
 }
 
 // Reads files and takes them; null stands for a folder that the browser did not open.
@@ -64,6 +64,7 @@ function drawFiles() {
   const list = $('file-list'), label = list.contains(document.activeElement) && document.activeElement.getAttribute('aria-label');
   list.replaceChildren(...app.files.map(fileRow));
   $('files-count').textContent = app.files.length ? `: ${app.files.length}` : '';
+  $('clear').hidden = !app.files.length;
   if (label) ([...list.querySelectorAll('[aria-label]')].find(it => it.getAttribute('aria-label') === label) ?? $('choose')).focus();
 }
 
@@ -75,13 +76,12 @@ function removeFile(at) {
 function moveUp(at) {
   const before = app.files.slice(0, at).findLastIndex(it => it.kind === 'session'), [moved] = app.files.splice(at, 1);
   app.files.splice(before, 0, moved);
-  app.isOrderSet = true;
   app.check();
 }
 
 // Checks the text, with the sessions in the orders that the text allows, until one is accepted.
 async function checkedIn(parts, isOrdered) {
-  const orders = isOrdered || app.isOrderSet ? [parts.sessions] : possibleOrders(parts.sessions, orderOf(parts.text.bytes));
+  const orders = isOrdered ? [parts.sessions] : possibleOrders(parts.sessions, orderOf(parts.text.bytes));
   let first;
   for (const sessions of orders.length ? orders : [parts.sessions]) {
     const call = callOf('check', { ...parts, sessions }), answer = await app.work('Checking the text', call);
@@ -93,9 +93,12 @@ async function checkedIn(parts, isOrdered) {
 }
 
 function lacksWords(lacks) {
-  const canRun = lacks.every(it => it === NEEDED.text || it === NEEDED.settings), strange = app.files.filter(it => it.kind === 'unknown').map(it => it.name);
+  const canRun = lacks.every(it => it === NEEDED.text || it === NEEDED.settings), unknown = app.files.filter(it => it.kind === 'unknown');
+  const unread = unknown.filter(it => it.isUnread), saved = unknown.filter(it => savedAs(it.bytes)), strange = unknown.filter(it => !unread.includes(it) && !saved.includes(it));
   return [p(`Missing: ${listed(lacks)}. ${canRun ? 'With “Run a market” you can make that from the other files.' : ''}`),
-    strange.length ? p(`What ${listed(strange)} is, the page cannot tell: choose it in the list of the files.`) : ''];
+    unread.length ? p(`${listed(unread.map(it => it.name))} cannot be read: the browser does not open it, or it is longer than any file of a market.`) : '',
+    saved.map(it => p(`${it.name} is ${savedAs(it.bytes)}.`)),
+    strange.length ? p(`What ${listed(strange.map(it => it.name))} is, the page cannot tell: choose it in the list of the files.`) : ''];
 }
 
 // Checks what is there. The answers on the files of before are gone at once, and what was under way on them is stopped.
@@ -105,7 +108,7 @@ app.check = async () => {
   if (app.works) app.program.stop();
   $('verdict').replaceChildren();
   drawReaders(app.files.length ? CHECKING : GIVE);
-  const { parts, faults, lacks, isOrdered } = await partsOf(app.files);
+  const { parts, faults, lacks, isOrdered, unused } = await partsOf(app.files);
   if (isOld()) return;
   drawFiles();
   const registrar = await registrarView();
@@ -118,7 +121,7 @@ app.check = async () => {
   }
   const checked = await checkedIn(parts, isOrdered), { market, refusal } = checked.answer.status === 0 ? await marketOf(checked) : { refusal: checked };
   if (isOld()) return;
-  if (market) accepted(market);
+  if (market) accepted(market, unused);
   else refused(refusal);
   drawReaders(app.finding ? NOTHING : GIVE);
 };
@@ -127,7 +130,7 @@ function refused({ answer, call, parts }) {
   const told = answerWords(answer, call);
   app.finding = told.finding;
   const again = answer.status === 'stopped' && button('Check again', () => app.check());
-  verdict('wrong', told.title, p(told.words), told.finding ? findingPart(told.finding, parts) : '', told.help ? p(told.help) : '', again || '');
+  verdict('wrong', told.title, p(told.words), told.finding ? [findingPart(told.finding, parts), causesOf(told.finding, parts).map(it => p(it))] : '', told.help ? p(told.help) : '', again || '');
 }
 
 // Puts together what the views need of a text that holds; what the students want comes from the program, by the order of the text.
@@ -146,13 +149,14 @@ async function marketOf({ answer, parts }) {
   } };
 }
 
-function accepted(market) {
+function accepted(market, unused) {
   const { parts, roll, catalogue, ms } = app.market = market;
   if ($('files').contains(document.activeElement)) $('files').querySelector('summary').focus();
   $('files').open = false;
   verdict('right', 'This text holds', p(`${parts.text.name} was checked in ${timed(ms)}: ${plural(roll.length, 'student')}, ${plural(catalogue.length, 'section')}. `
     + 'In the second stage each student has the best bundle that its budget buys at the published prices. '
-    + 'At each turn of the aftermarket the student takes the best of what it holds and what is free. At no time has a section more students than seats.'));
+    + 'At each turn of the aftermarket the student takes the best of what it holds and what is free. At no time has a section more students than seats.'),
+    unused.length ? p(`The manifest does not name ${shortList(unused.map(it => it.name))}, so the check left that out.`) : '');
 }
 
 // Student's view: the name is chosen by typing.
@@ -205,7 +209,6 @@ app.show = view => {
 async function takeExample() {
   const files = JSON.parse(decoded(await unpacked('example-files')));
   app.files = [];
-  app.isOrderSet = false;
   await app.take(files.map(([name, text]) => {
     const bytes = new TextEncoder().encode(text);
     return { name, bytes, kind: kindOf(name, bytes) };
@@ -219,6 +222,7 @@ function listen() {
     event.target.value = '';
   });
   $('example').addEventListener('click', takeExample);
+  $('clear').addEventListener('click', () => { app.files = []; $('choose').focus(); app.check(); });
   $('stop').addEventListener('click', () => app.program.stop());
   for (const it of ['student', 'auditor', 'registrar']) $(`to-${it}`).addEventListener('click', () => app.show(it));
   addEventListener('dragover', event => { event.preventDefault(); $('drop').classList.add('over'); });

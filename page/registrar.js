@@ -65,8 +65,6 @@ function lookPart(answer, parts) {
   return [el('ul', {}, lines.map(it => el('li', {}, it))), table];
 }
 
-const shortList = names => names.length > 12 ? `${names.slice(0, 12).join(', ')} and ${names.length - 12} more` : listed(names);
-
 function inSeveral(sessions) {
   const seen = new Map();
   sessions.forEach((session, at) => commandsOf(session.bytes).forEach(({ line }) => {

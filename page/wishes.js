@@ -16,8 +16,8 @@ function countsIn(order) {
   return counts;
 }
 
-// The orders of the given sessions in which each has as many commands as the text says, at most `most`. Where no order has,
-// that is seen before any is tried.
+// The orders of the given sessions in which each has as many commands as the text says, at most `most`, the given order
+// first. Where no order has, that is seen before any is tried.
 function possibleOrders(sessions, order, most = 24) {
   const counts = countsIn(order), sizes = sessions.map(it => commandsOf(it.bytes).length), wanted = sessions.map((_, at) => counts.get(at + 1) ?? 0), found = [];
   const go = chosen => {
@@ -34,6 +34,26 @@ function orderOf(bytes) {
   const from = bytes.indexOf(10) + 1, to = bytes.indexOf(10, from);
   const line = decoded(bytes.subarray(from, to < 0 ? bytes.length : to));
   return line.startsWith('order') ? line.split(' ').slice(1).map(Number) : [];
+}
+
+// How the given sessions differ from those that the order of a text takes, in words.
+function sessionsWords(sessions, order) {
+  const counts = countsIn(order), wanted = Array.from({ length: Math.max(0, ...counts.keys()) }, (_, at) => counts.get(at + 1) ?? 0);
+  const here = sessions.map(it => ({ it, size: commandsOf(it.bytes).length })), left = [...here], lacking = [];
+  for (const size of wanted) {
+    const at = left.findIndex(it => it.size === size);
+    if (at < 0) lacking.push(size);
+    else left.splice(at, 1);
+  }
+  const sized = it => `${it.it.name} (${plural(it.size, 'command')})`, isSame = (one, other) => one.length === other.length && one.every((it, at) => it === other[at]);
+  const twice = sessions.flatMap((it, at) => sessions.slice(0, at).filter(other => it.bytes.length && isSame(it.bytes, other.bytes)).map(other => `${it.name} is the same as ${other.name}: remove one of them.`));
+  return [
+    `The order of the text takes ${shortList(wanted.map((size, at) => `${plural(size, 'command')} of session ${at + 1}`))}. Given are ${shortList(here.map(sized))}.`,
+    lacking.length ? `No session of ${shortList(lacking.map(it => plural(it, 'command')))} is left for it: one is missing, or was changed.` : '',
+    left.length ? `The text takes no session of so many commands as ${shortList(left.map(sized))}: it belongs to another text, or was changed.` : '',
+    ...twice,
+    lacking.length || left.length ? '' : 'Each session has as many commands as the text takes, but they stand in another order: the school says in which.',
+  ].filter(Boolean);
 }
 
 // All commands in one session, in the order of the text.

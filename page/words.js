@@ -48,19 +48,31 @@ function jsonPlace(text) {
   return '';
 }
 
-function settingsWords(cause) {
+// Which settings a text lacks, and what it has that is none.
+function settingsLacks(text) {
+  let names = [];
+  try {
+    names = Object.keys(JSON.parse(text));
+  } catch {
+    // (the text is no JSON, so that it names none)
+  }
+  return { lacking: Object.keys(RANGES).filter(it => !names.includes(it)), strange: names.filter(it => !Object.hasOwn(RANGES, it)) };
+}
+
+function settingsWords(cause, text) {
   const [, key] = /(?:missing|range of) (\w+)$/.exec(cause) ?? [];
   if (cause === 'not json') return 'It is not JSON (a comma, a quote or a bracket too many or too few).';
   if (cause === 'not an object') return 'It is JSON, but no object: the settings stand between { and }.';
-  if (cause === 'unknown key') return `It has a setting that there is not. The settings are ${listed(Object.keys(RANGES))}.`;
+  if (cause === 'unknown key') return `It has ${listed(settingsLacks(text).strange.map(quoted))}, which is no setting: the settings are ${listed(Object.keys(RANGES))}. Capital letters count.`;
   if (cause.startsWith('missing')) return `The setting ${key} is missing.`;
   return `The setting ${key} is out of its range. Expected: ${key === 'steps' ? '' : 'a whole number, '}${RANGES[key]}, without point, exponent or sign.`;
 }
 
 function refusalWords(line, call) {
   const [, number, row, cause] = /^input (\d+) row (\d+): (.*)$/.exec(line), file = call.inputs[number - 1];
-  const text = decoded(file.bytes);
-  if (row === '0') return `${file.name}${jsonPlace(text)}: ${settingsWords(cause)}`;
+  const text = decoded(file.bytes), as = file.bytes.length ? savedAs(file.bytes) : 'empty';
+  if (as) return `${file.name} is ${as}.`;
+  if (row === '0') return `${file.name}${jsonPlace(text)}: ${settingsWords(cause, text)}`;
   return `${file.name}, row ${row} (the header is row 1): ${recordWords(file.kind, Number(row), cause, text)}`;
 }
 
@@ -70,10 +82,10 @@ const DEFECTS = {
 };
 const treeWords = (whose, defect, at) => `The tree of ${whose} does not prove that the bundle is the best one: behind its first ${at} characters ${DEFECTS[defect]}.`;
 const FINDINGS = [
-  [/^line (\d+) missing$/, 'A line is missing.'],
-  [/^line (\d+) form$/, 'The line does not have the form that is due there. (A text that a spreadsheet or an editor saved with other line ends is another text.)'],
+  [/^line (\d+) missing$/, 'Here a whole line is due, with the line feed that ends it, and the text ends before that: it was cut, or an editor saved it anew. Take the file as it was published.'],
+  [/^line (\d+) form$/, 'The line does not have the form that is due there.'],
   [/^line (\d+) rest$/, 'There is more behind the end.'],
-  [/^journal at (\d+)$/, it => `The order line has to take all commands of each session, in their order; its entry ${it} does not. A session may be missing, be another file, or stand in another place of the list.`],
+  [/^journal at (\d+)$/, it => `The order line has to take all commands of each session, in their order: at its entry ${it} it does not, or it is at its end and commands are left.`],
   [/^budget (\S+)$/, it => `The budget of ${it} is not what the roll, the settings and the draw give.`],
   [/^student (\S+) unaffordable$/, it => `The prices of the bundle of ${it} come to more than its budget.`],
   [/^student (\S+) infeasible$/, it => `${it} cannot have this bundle: two sections clash, a cap is passed, or a section is not rated.`],
@@ -97,7 +109,35 @@ function findingWords(words) {
   return words;
 }
 
-// The line of the text that a finding names, and the byte of its tree, if it names one.
+// What else there is to say of a text that does not have the form that is due, or does not take the sessions.
+function causesOf(finding, parts) {
+  const { bytes } = parts.text;
+  if (finding.startsWith('journal')) return sessionsWords(parts.sessions, orderOf(bytes));
+  if (!finding.startsWith('line')) return [];
+  const as = bytes.length ? savedAs(bytes) : 'empty';
+  if (as) return [`${parts.text.name} is ${as}.`];
+  const marks = [bytes[0] === 0xef && bytes[1] === 0xbb && 'begins with a byte order mark', bytes.includes(13) && 'has carriage returns (line ends of CR LF)'].filter(Boolean);
+  const isSecond = records(decoded(parts.catalogue.bytes))[0].length > 5 || records(decoded(parts.roll.bytes))[0].length > 4, first = `course-match ${isSecond ? 2 : 1}`;
+  return [
+    marks.length ? `${parts.text.name} ${marks.join(' and ')}. No published text does: an editor, a spreadsheet or the mail saved it anew. Take the file as it was published.` : '',
+    finding === 'line 1 form' && !marks.length ? `By the headers of ${parts.catalogue.name} and ${parts.roll.name} the first line is to be “${first}”.` : '',
+    ...strangersIn(decoded(bytes), 'budget', rollIn(parts), 'student', parts.roll.name),
+    ...strangersIn(decoded(bytes), 'price', catalogueIn(parts), 'section', parts.catalogue.name),
+  ].filter(Boolean);
+}
+
+// How the names of a text's lines differ from those of a table, in words; nothing where they do not.
+function strangersIn(text, word, table, one, name) {
+  const named = new Set(text.split(/\r?\n/).filter(it => it.startsWith(`${word} `)).map(it => it.split(' ')[1])), known = new Set(table.map(it => it.name));
+  const strange = [...named].filter(it => !known.has(it)), lacking = [...known].filter(it => !named.has(it));
+  return [
+    strange.length ? `Of the ${plural(named.size, one)} of the text ${name} lacks ${strange.length} (${shortList(strange)}).` : '',
+    lacking.length && named.size ? `Of the ${plural(known.size, one)} of ${name} the text has no ${word} for ${lacking.length} (${shortList(lacking)}).` : '',
+    strange.length > 1 && lacking.length ? `It may be the text of another term than ${name}.` : '',
+  ];
+}
+
+// The line of the text that a finding names, and where in its last word, or in the order, if it names that.
 function placeOf(words, parts) {
   const catalogue = catalogueIn(parts), roll = rollIn(parts), lines = decoded(parts.text.bytes).split('\n');
   const none = linesOf(roll.length, catalogue.length, 0), at = linesOf(roll.length, catalogue.length, turnCount(lines, none.turns));
@@ -107,10 +147,16 @@ function placeOf(words, parts) {
     line: Number(second), journal: at.order, budget: at.budgets + student, student: at.bundles + student, seats: at.prices + section,
     turn: at.turns + Number(second) - 1, not: at.finals, final: at.finals + student, used: at.used + section,
   }[word];
-  return { line, text: lines[line - 1] ?? '', byte: byte === undefined ? null : Number(byte) };
+  const text = lines[line - 1] ?? '', last = text.lastIndexOf(' ') + 1;
+  const entry = text.split(' ').slice(0, Number(words.split(' ')[2])).join(' ').length + 1;
+  return { line, text, start: word === 'journal' ? entry : byte === undefined ? null : last + Number(byte) };
 }
 
 const AGAIN = 'Nothing is lost: correct it and give the files again. The first fault alone is told.';
+
+const NOT_TRUSTED = 'Do not trust it as it stands: compare the line that is named. If all files are of one term, and as the school published them, ask the school about that line.';
+const OTHER_SESSIONS = 'Give the sessions of this text, all of them and no others. If these are they, as the school published them, do not trust the text. '
+  + 'Whoever has no more than the own lines of a session checks the own bundles by verify/verify.py --own, and not here (GUIDE, “How a student checks its own bundles”).';
 
 // What an answer says, by its status: { title, words, help?, finding? }. `line` is its last line, `name` the file that it names.
 const TOLD = {
@@ -131,7 +177,8 @@ const TOLD = {
   }),
   8: ({ line }) => {
     const finding = line.replace('finding: ', '');
-    return { title: 'This text does not hold', words: findingWords(finding), finding, help: 'Do not trust it: compare the line that is named.' };
+    const isJournal = finding.startsWith('journal'), title = isJournal ? 'The text and these sessions do not fit together' : 'This text does not hold';
+    return { title, words: findingWords(finding), finding, help: isJournal ? OTHER_SESSIONS : NOT_TRUSTED };
   },
   9: ({ line }) => ({ title: 'There is no such name', words: `No ${line.endsWith('6') ? 'student of the roll' : 'section of the catalogue'} has this name. Capital letters count.` }),
   stopped: () => ({ title: 'Stopped', words: 'The work was stopped before its end. Nothing is lost.' }),

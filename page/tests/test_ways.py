@@ -140,6 +140,70 @@ class Ways(unittest.TestCase):
         self.assertIn("The budget of n.jones is not", self.verdict("This text does not hold"))
         self.assertIn("nothing of it is shown", self.words("#student"))
 
+    def test_files_that_are_no_texts_are_told(self) -> None:
+        roll, settings, text = ((TERM / it).read_bytes() for it in ("roll.csv", "settings.json", "published.txt"))
+        for name, content, title, words in (
+            ("roll.csv", roll.decode().encode("utf-16"), "Not all files are there yet", "roll.csv is a text in UTF-16: save it in UTF-8."),
+            ("roll.csv", b"PK\3\4" + bytes(99), "Not all files are there yet", "roll.csv is a packed file or a workbook"),
+            ("published.txt", b"%PDF-1.7\n", "Not all files are there yet", "published.txt is a PDF"),
+            ("roll.csv", b"", "A file is refused", "roll.csv is empty."),
+            ("settings.json", b"", "A file is refused", "settings.json is empty."),
+            ("published.txt", b"", "This text does not hold", "published.txt is empty."),
+            ("published.txt", b"\xef\xbb\xbf" + text, "This text does not hold", "published.txt begins with a byte order mark."),
+            ("published.txt", text.replace(b"\n", b"\r\n"), "This text does not hold", "published.txt has carriage returns"),
+            ("published.txt", text[:-1], "This text does not hold", "the text ends before that"),
+            ("settings.json", settings.replace(b"}", b',"Turns": 3}'), "A file is refused", "It has “Turns”, which is no setting"),
+        ):
+            with self.subTest(words=words):
+                self.give(FILES, {name: content})
+                self.assertIn(words, self.verdict(title))
+                self.click("Remove all files")
+                self.tab.wait("!app.files.length && !$('verdict').textContent")
+
+    def test_tables_of_a_spreadsheet_are_taken(self) -> None:
+        tables = {name: b"\xef\xbb\xbf" + (TERM / name).read_bytes().replace(b"\n", b"\r\n") for name in FILES[:2]}
+        self.give(FILES, tables)
+        self.verdict("This text holds")
+
+    def test_file_that_cannot_be_read_is_told(self) -> None:
+        self.tab.evaluate("File.prototype.arrayBuffer = () => Promise.reject(new DOMException('', 'NotReadableError'))")
+        self.give(["roll.csv"])
+        self.assertIn("roll.csv cannot be read", self.verdict("Not all files are there yet"))
+
+    def test_text_of_another_term_is_told(self) -> None:
+        self.give(FILES, {"roll.csv": (TERM / "roll.csv").read_bytes().replace(b"n.jones,", b"n.johns,").replace(b"s.adler,", b"s.eagle,")})
+        told = self.verdict("This text does not hold")
+        self.assertIn("Of the 100 students of the text roll.csv lacks 2 (s.adler and n.jones).", told)
+        self.assertIn("It may be the text of another term than roll.csv.", told)
+        self.give(["roll.csv"])
+        self.verdict("This text holds")
+        self.give(["published.txt"], {"published.txt": (TERM / "published.txt").read_bytes().replace(b"course-match 2", b"course-match 1")})
+        self.assertIn("the first line is to be “course-match 2”", self.verdict("This text does not hold"))
+
+    def test_sessions_that_do_not_fit_are_told(self) -> None:
+        web = (TERM / "web.session").read_bytes()
+        for names, changed, words in (
+            (FILES[:5], {}, "No session of 605 commands is left for it: one is missing"),
+            ([*FILES, "more.session"], {"more.session": b"clear n.jones\n"}, "no session of so many commands as more.session (1 command)"),
+            ([*FILES, "web (1).session"], {"web (1).session": web}, "web (1).session is the same as web.session: remove one of them."),
+        ):
+            with self.subTest(words=words):
+                self.give(names, changed)
+                told = self.verdict("The text and these sessions do not fit together")
+                self.assertIn(words, told)
+                self.assertIn("verify/verify.py --own", told)
+                self.click("Remove all files")
+                self.tab.wait("!app.files.length && !$('verdict').textContent")
+
+    def test_order_of_the_sessions_is_found(self) -> None:
+        self.give(FILES)
+        self.verdict("This text holds")
+        self.tab.evaluate("$('files').open = true")
+        self.click("Up")
+        self.tab.wait("app.files.findIndex(it => it.name === 'web.session') === 4")
+        self.verdict("This text holds")
+        self.assertEqual(["desk.session", "web.session"], self.tab.evaluate("app.market.parts.sessions.map(it => it.name)"))
+
     def test_student(self) -> None:
         self.give(["web.session", "published.txt", *BESIDE, "settings.json", "roll.csv", "desk.session", "catalogue.csv"])
         self.verdict("This text holds")
@@ -327,7 +391,12 @@ class Ways(unittest.TestCase):
             shutil.copy(TERM / name, self.room / name)
         self.tab.choose("#choose", sorted(self.room.iterdir()))
         self.verdict("This text holds")
+        (self.room / "late.session").write_bytes(b"clear n.jones\n")
+        self.tab.choose("#choose", [self.room / "late.session"])
+        self.tab.wait("app.files.length === 8")
+        self.assertIn("does not name late.session, so the check left that out", self.verdict("This text holds"))
         self.tab.evaluate("app.files = []; app.check()")
+        (self.room / "late.session").unlink()
         (self.room / "z.session").write_bytes(sessions[0] + b"# changed\n")
         self.tab.choose("#choose", sorted(self.room.iterdir()))
         self.assertIn("z.session is not the file that manifest.json tells of", self.verdict("The files do not fit together"))
