@@ -100,13 +100,13 @@ async function byManifest(manifest, files) {
   return { found, faults };
 }
 
-// The parts of the market among the files: { parts, faults, lacks, isOrdered, unused }, faults and lacks in words. What a
-// manifest names goes before what the files' content tells; `unused` are the files of a market that it does not name.
+// The parts of the market among the files: { parts, faults, lacks, isByManifest, unused }, faults and lacks in words. What a
+// manifest names goes before what the files' content tells, and its order of the sessions before that of the list; `unused`
+// are the files of a market that it does not name.
 async function partsOf(files, wanted = Object.keys(NEEDED)) {
   const of = kind => files.filter(it => it.kind === kind), [manifest] = of('manifest');
   const { found, faults } = manifest ? await byManifest(manifest, files) : { found: { sessions: [] }, faults: [] };
-  const isOrdered = found.sessions.length > 0 || of('session').length < 2;
-  const parts = { ...found, sessions: found.sessions.length ? found.sessions : of('session') };
+  const isByManifest = found.sessions.length > 0, parts = { ...found, sessions: isByManifest ? found.sessions : of('session') };
   if (of('manifest').length > 1) faults.push(`Several files are manifests (${listed(of('manifest').map(it => it.name))}): remove all but one.`);
   for (const kind of Object.keys(NEEDED)) {
     parts[kind] ??= of(kind).at(-1);
@@ -115,5 +115,5 @@ async function partsOf(files, wanted = Object.keys(NEEDED)) {
   const lacks = wanted.filter(kind => !parts[kind]).map(kind => NEEDED[kind]);
   if (!parts.sessions.length) lacks.push('the sessions (what the students wished)');
   const used = new Set(Object.values(parts).flat()), unused = files.filter(it => (NEEDED[it.kind] || it.kind === 'session') && !used.has(it));
-  return { parts, faults, lacks, isOrdered, unused };
+  return { parts, faults, lacks, isByManifest, unused };
 }

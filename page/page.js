@@ -1,5 +1,5 @@
 // The page: files in, the check, and the three readers' views.
-const app = { files: [], market: null, about: null, program: null, view: 'student', works: 0, checks: 0 };
+const app = { files: [], market: null, made: null, about: null, program: null, view: 'student', works: 0, checks: 0 };
 
 // Runs one call of the program, and tells that it works and for how long.
 app.work = async (title, call) => {
@@ -48,13 +48,14 @@ app.takeRun = async (text, settings) => {
   app.files = [...app.files.filter(it => !['text', 'settings', 'manifest'].includes(it.kind)), settings, text];
   await app.check();
   app.show(app.market ? 'auditor' : 'registrar');
+  $(app.view).querySelector('h2')?.focus();
 };
 
 function fileRow(file) {
   const at = app.files.indexOf(file), isSecond = file.kind === 'session' && app.files.slice(0, at).some(it => it.kind === 'session');
   const kind = el('select', { 'aria-label': `What ${file.name} is`, onchange: event => { file.kind = event.target.value; app.check(); } },
     Object.entries(KINDS).map(([value, words]) => el('option', { value, selected: value === file.kind }, words)));
-  const up = isSecond && button('Up', () => moveUp(at), { class: 'small', 'aria-label': `Move ${file.name} before the session above it` });
+  const up = isSecond && !app.isByManifest && button('Up', () => moveUp(at), { class: 'small', 'aria-label': `Move ${file.name} before the session above it` });
   const remove = button('Remove', () => removeFile(at), { class: 'small', 'aria-label': `Remove ${file.name}` });
   return el('li', { class: file.kind }, el('span', { class: 'name' }, file.name), kind, up, remove);
 }
@@ -80,8 +81,8 @@ function moveUp(at) {
 }
 
 // Checks the text, with the sessions in the orders that the text allows, until one is accepted.
-async function checkedIn(parts, isOrdered) {
-  const orders = isOrdered ? [parts.sessions] : possibleOrders(parts.sessions, orderOf(parts.text.bytes));
+async function checkedIn(parts, isByManifest) {
+  const orders = isByManifest ? [parts.sessions] : possibleOrders(parts.sessions, orderOf(parts.text.bytes));
   let first;
   for (const sessions of orders.length ? orders : [parts.sessions]) {
     const call = callOf('check', { ...parts, sessions }), answer = await app.work('Checking the text', call);
@@ -108,8 +109,9 @@ app.check = async () => {
   if (app.works) app.program.stop();
   $('verdict').replaceChildren();
   drawReaders(app.files.length ? CHECKING : GIVE);
-  const { parts, faults, lacks, isOrdered, unused } = await partsOf(app.files);
+  const { parts, faults, lacks, isByManifest, unused } = await partsOf(app.files);
   if (isOld()) return;
+  app.isByManifest = isByManifest;
   drawFiles();
   const registrar = await registrarView();
   if (isOld()) return;
@@ -119,7 +121,7 @@ app.check = async () => {
     verdict('open', faults.length ? 'The files do not fit together' : 'Not all files are there yet', ...faults.map(it => p(it)), lacks.length ? lacksWords(lacks) : '');
     return drawReaders(GIVE);
   }
-  const checked = await checkedIn(parts, isOrdered), { market, refusal } = checked.answer.status === 0 ? await marketOf(checked) : { refusal: checked };
+  const checked = await checkedIn(parts, isByManifest), { market, refusal } = checked.answer.status === 0 ? await marketOf(checked) : { refusal: checked };
   if (isOld()) return;
   if (market) accepted(market, unused);
   else refused(refusal);
@@ -232,6 +234,8 @@ function listen() {
     $('drop').classList.remove('over');
     await app.give(await filesDropped(event.dataTransfer).catch(() => null));
   });
+  // What was not saved is lost with the page, and what a run has done so far.
+  addEventListener('beforeunload', event => { if (app.isRunning || app.made && !app.made.isSaved) event.preventDefault(); });
   // Of the questions that were asked, those that are closed on the screen are open on paper.
   const closed = [];
   addEventListener('beforeprint', () => { for (const it of document.querySelectorAll('details.question:not([open]):has(.answer)')) { it.open = true; closed.push(it); } });

@@ -11,21 +11,34 @@ const SETTINGS = [
 ];
 const USUAL = { seed: '2026', spread: '7', accept: '60', turns: '120', tabu: '30', patience: '25', steps: '3, 12, 50', raise: '10' };
 
-// The settings of a file as they stand in it, so that a seed of 64 bits keeps its digits.
+// The settings of a file as they stand in it, so that a seed of 64 bits keeps its digits; of a setting that is written twice
+// the last one counts. A text that is no JSON object has none.
 function settingsIn(text) {
   const found = {};
-  for (const [name] of SETTINGS) {
-    const [, value] = new RegExp(`"${name}"\\s*:\\s*(\\[[^\\]]*\\]|[^,}\\s]+)`).exec(text) ?? [];
-    if (value !== undefined) found[name] = value.replace(/[[\]]/g, '').trim();
+  if (settingsLacks(text).isObject) {
+    for (const [name] of SETTINGS) {
+      const value = [...text.matchAll(new RegExp(`"${name}"\\s*:\\s*(\\[[^\\]]*\\]|[^,}\\s]+)`, 'g'))].at(-1)?.[1];
+      if (value !== undefined) found[name] = value.replace(/[[\]]/g, '').trim().replace(/\s+/g, ' ');
+    }
   }
   return found;
+}
+
+// Where the form does not stand as the file of the settings does, in words.
+function settingsNotes({ name, bytes }) {
+  const { isObject, lacking, strange } = settingsLacks(decoded(bytes));
+  if (!isObject) return [`${name} is no JSON object, so that the usual settings stand here.`];
+  return [
+    lacking.length ? `${name} does not say ${listed(lacking)}: what stands here is the usual.` : '',
+    strange.length ? `${name} has ${listed(strange.map(quoted))}, which is no setting and is not taken.` : '',
+  ].filter(Boolean);
 }
 
 const settingsFile = values => ({
   name: 'settings.json', kind: 'settings',
   bytes: new TextEncoder().encode(`{\n${SETTINGS.map(([name]) => `  "${name}": ${valueText(name, values[name])}`).join(',\n')}\n}\n`),
 });
-const valueText = (name, value) => name === 'steps' ? `[${value}]` : value || 'null';
+const valueText = (name, value) => name === 'steps' ? `[${value.split(STEP).join(', ')}]` : value;
 
 function settingsForm(values) {
   return el('fieldset', { class: 'settings-form' }, el('legend', {}, 'Settings'), SETTINGS.map(([name, range, words]) => el('div', { class: 'setting' },
@@ -42,13 +55,18 @@ const REPLIES = {
   'out-of-range': 'a rating is 0 to 100, an adjustment -200 to 200', 'too-many': 'a student has at most 60 ratings and 200 adjustments',
 };
 
-// What the desk replies to the wishes, before a run.
-function lookPart(answer, parts) {
-  const replies = repliesOf(answer, parts.sessions), wishes = preferencesOf(answer), roll = rollIn(parts), catalogue = catalogueIn(parts);
-  const has = name => [...wishes.get(name)?.ratings.values() ?? []].some(it => it > 0), silent = roll.filter(it => !has(it.name)).map(it => it.name);
-  const wanted = new Set([...wishes.values()].flatMap(it => [...it.ratings.keys()])), unwanted = catalogue.filter(it => !wanted.has(it.name)).map(it => it.name);
-  const several = inSeveral(parts.sessions);
-  const all = parts.sessions.reduce((sum, it) => sum + commandsOf(it.bytes).length, 0);
+// What the desk replies to the wishes, and what they come to.
+function lookOf(answer, parts) {
+  const wishes = preferencesOf(answer), has = name => [...wishes.get(name)?.ratings.values() ?? []].some(it => it > 0);
+  const wanted = new Set([...wishes.values()].flatMap(it => [...it.ratings.keys()]));
+  return {
+    replies: repliesOf(answer, parts.sessions), all: parts.sessions.reduce((sum, it) => sum + commandsOf(it.bytes).length, 0),
+    silent: rollIn(parts).map(it => it.name).filter(it => !has(it)), unwanted: catalogueIn(parts).map(it => it.name).filter(it => !wanted.has(it)),
+    several: inSeveral(parts.sessions),
+  };
+}
+
+function lookPart({ replies, all, silent, unwanted, several }) {
   const lines = [
     `The desk carried out ${all - replies.length} of ${all} commands.`,
     silent.length ? `${plural(silent.length, 'student wants', 'students want')} nothing: ${shortList(silent)}.` : 'Each student wants something.',
@@ -61,7 +79,7 @@ function lookPart(answer, parts) {
     { head: 'Reply', of: it => it.reply, isText: true },
     { head: 'Why', of: it => REPLIES[it.reply] ?? '', isText: true },
     { head: 'Command', of: it => it.command, isText: true },
-  ], replies) : null;
+  ], replies) : '';
   return [el('ul', {}, lines.map(it => el('li', {}, it))), table];
 }
 
@@ -84,42 +102,101 @@ async function manifestOf(parts, text, ms) {
   }, null, 2) + '\n';
 }
 
-async function runMarket(parts, settings, to) {
-  const call = callOf('run', { ...parts, settings }), answer = await app.work('Running the market', call);
-  if (answer.status !== 0) {
-    const told = answerWords(answer, call), [, least] = /least error (\d+)\n$/.exec(answer.text ?? '') ?? [];
-    const set = () => { $('setting-accept').value = least; $('setting-accept').focus(); }, take = least && button(`Set “accept” to ${least}`, set);
-    return to.replaceChildren(el('h3', {}, told.title), p(told.words), told.help ? p(told.help) : '', take ?? '');
-  }
-  const text = { name: 'published.txt', kind: 'text', bytes: answer.out }, all = { ...parts, settings };
-  const manifest = await manifestOf(all, text, answer.ms);
-  to.replaceChildren(el('h3', {}, 'The market has prices'),
-    p(`The run took ${timed(answer.ms)}. Publish the text with the catalogue, the roll, the settings and the sessions: whoever has them can check it. `
+// What a run made: { parts, settings, text, manifest, ms, warning }. It stands as long as the files are given that it was made of.
+const isMadeOf = (made, parts) => ['catalogue', 'roll'].every(it => made.parts[it] === parts[it])
+  && made.parts.sessions.length === parts.sessions.length && made.parts.sessions.every((it, at) => it === parts.sessions[at]);
+
+function madePart(made) {
+  const settings = settingsIn(decoded(made.settings.bytes)), said = SETTINGS.map(([name]) => `${name} ${settings[name]}`);
+  return [el('h3', {}, 'The market has prices'),
+    p(`The run took ${timed(made.ms)}, with these settings: ${said.join('; ')}.`),
+    made.warning ? p(el('b', {}, made.warning)) : '',
+    p('Publish the text with the catalogue, the roll, the settings and the sessions: whoever has them can check it. '
       + 'The manifest, which the registrar\'s tools read, has the names of these files and the SHA-256 of each.'),
     el('p', { class: 'buttons' },
-      button('Save the published text', () => save('published.txt', text.bytes)),
-      button('Save the settings', () => save('settings.json', settings.bytes)),
-      button('Save the manifest', () => save('manifest.json', manifest)),
-      button('Check it and look at it', () => app.takeRun(text, settings), { class: 'main' })));
+      button('Save the published text', () => { made.isSaved = true; save('published.txt', made.text.bytes); }),
+      button('Save the settings', () => save('settings.json', made.settings.bytes)),
+      button('Save the manifest', () => save('manifest.json', made.manifest)),
+      button('Check it and look at it', () => app.takeRun(made.text, made.settings), { class: 'main' }))];
 }
+
+// What is to be known of the wishes before a text is published; nothing where the desk carried out all and each student wants something.
+async function wishesWarning(parts) {
+  const answer = await app.work('Reading what the students want', callOf('prefer', parts));
+  if (answer.status !== 0) return '';
+  const { all, replies, silent } = lookOf(answer.text, parts);
+  const told = [replies.length ? `the desk did not carry out ${replies.length} of ${all} commands` : '', silent.length ? `${plural(silent.length, 'student wants', 'students want')} nothing` : ''].filter(Boolean);
+  return told.length ? `Before you publish it: ${told.join(', and ')}. “Look at the wishes” shows which.` : '';
+}
+
+async function runMarket(parts, settings, told) {
+  app.made = null;
+  const call = callOf('run', { ...parts, settings }), answer = await app.work('Running the market', call);
+  if (answer.status !== 0) return told.replaceChildren(...refusedRun(answerWords(answer, call), answer, call.inputs));
+  const text = { name: 'published.txt', kind: 'text', bytes: answer.out };
+  const made = { parts, settings, text, ms: answer.ms, manifest: await manifestOf({ ...parts, settings }, text, answer.ms), warning: await wishesWarning(parts) };
+  app.made = made;
+  told.replaceChildren(...madePart(made));
+}
+
+// What a run without prices says. What is wrong with a setting is told of the form, in which it stands.
+function refusedRun({ title, words, help }, answer, inputs) {
+  const [, least] = /least error (\d+)\n$/.exec(answer.text ?? '') ?? [], [, number] = /^input (\d+) row/.exec(answer.text ?? '') ?? [];
+  if (inputs[number - 1]?.kind === 'settings') {
+    const [, name] = /The setting (\w+)/.exec(words) ?? [];
+    markField(name);
+    return [el('h3', {}, 'A setting is out of its range'), p(words.replace(/^settings\.json[^:]*: /, ''))];
+  }
+  const set = () => { $('setting-accept').value = least; $('setting-accept').focus(); };
+  return [el('h3', {}, title), p(words), help ? p(help) : '', least ? button(`Set “accept” to ${least}`, set) : ''];
+}
+
+function markField(name) {
+  $(`setting-${name}`)?.setAttribute('aria-invalid', 'true');
+  $(`setting-${name}`)?.focus();
+}
+
+const NUMBER = /^(0|[1-9]\d*)$/;
+const STEP = /\s*,\s*|\s+/;
+
+// The first field of the form in which no number stands, or no list of numbers; of the ranges the program judges.
+const wrongField = values => SETTINGS.map(([name]) => name).find(it => !(it === 'steps' ? values[it].split(STEP) : [values[it]]).every(that => NUMBER.test(that)));
 
 async function lookAtWishes(parts, to) {
   const call = callOf('prefer', parts), answer = await app.work('Reading what the students want', call);
-  if (answer.status === 0) return to.replaceChildren(el('h3', {}, 'What the desk replies'), ...lookPart(answer.text, parts).filter(Boolean));
+  if (answer.status === 0) return to.replaceChildren(el('h3', {}, 'What the desk replies'), ...lookPart(lookOf(answer.text, parts)));
   const told = answerWords(answer, call);
   to.replaceChildren(el('h3', {}, told.title), p(told.words), told.help ? p(told.help) : '');
 }
 
 async function registrarView() {
-  const { parts, faults, lacks } = await partsOf(app.files, ['catalogue', 'roll']), to = el('div', { class: 'answer', id: 'run-answer', 'aria-live': 'polite' });
+  const { parts, faults, lacks, isByManifest } = await partsOf(app.files, ['catalogue', 'roll']);
   const about = 'This makes the text that is to be published, out of the catalogue, the roll, the settings and the sessions. The files stay on this machine.';
   const head = [el('h2', { tabindex: '-1' }, 'Run a market'), p(about)];
   if (lacks.length || faults.length) return [...head, p(faults.join(' ') || `First give the files above. Missing: ${listed(lacks)}.`)];
-  const values = parts.settings ? settingsIn(decoded(parts.settings.bytes)) : {};
-  const form = el('form', { onsubmit: event => { event.preventDefault(); runMarket(parts, settingsFile(formValues(form)), to); } }, settingsForm(values),
-    el('p', { class: 'buttons' },
-      button('Look at the wishes', () => lookAtWishes(parts, to)),
-      el('button', { class: 'main' }, 'Run the market')));
-  const used = listed([parts.catalogue, parts.roll, ...parts.sessions].map(it => it.name));
-  return [...head, p(`It takes ${used}. Here the sessions are heard one after the other, in the order of the list above.`), form, to];
+  if (app.made && !isMadeOf(app.made, parts)) app.made = null;
+  const of = parts.settings, looked = el('div'), told = el('div', {}, app.made ? madePart(app.made) : '');
+  let isRunning = false;
+  const run = async values => {
+    const wrong = wrongField(values);
+    if (wrong) {
+      markField(wrong);
+      return looked.replaceChildren(el('h3', {}, 'A setting is no number'), p(`${wrong}: ${quoted(values[wrong])} stands there. Expected: ${wrong === 'steps' ? '' : 'a whole number, '}${RANGES[wrong]}, without point, exponent or sign.`));
+    }
+    looked.replaceChildren();
+    told.replaceChildren();
+    isRunning = app.isRunning = true;
+    await runMarket(parts, settingsFile(values), told);
+    isRunning = app.isRunning = false;
+  };
+  const form = el('form', {
+    onsubmit: event => { event.preventDefault(); if (!isRunning) run(formValues(form)); },
+    oninput: event => { event.target.removeAttribute('aria-invalid'); app.typed = { of, values: formValues(form) }; },
+  }, of ? settingsNotes(of).map(it => p(el('b', {}, it))) : '', settingsForm(app.typed && app.typed.of === of ? app.typed.values : of ? settingsIn(decoded(of.bytes)) : {}),
+  el('p', { class: 'buttons' },
+    button('Look at the wishes', () => lookAtWishes(parts, looked)),
+    el('button', { class: 'main' }, 'Run the market')));
+  const used = listed([parts.catalogue, parts.roll, ...parts.sessions].map(it => it.name)), order = parts.sessions.length < 2 ? ''
+    : ` Here the sessions are heard one after the other, in this order${isByManifest ? ', which is that of the manifest' : '; “Up” in the list above changes it'}.`;
+  return [...head, p(`It takes ${used}.${order}`), form, el('div', { class: 'answer', id: 'run-answer', 'aria-live': 'polite' }, looked, told)];
 }

@@ -48,15 +48,16 @@ function jsonPlace(text) {
   return '';
 }
 
-// Which settings a text lacks, and what it has that is none.
+// Whether a text is a JSON object, which settings it lacks, and what it has that is none.
 function settingsLacks(text) {
-  let names = [];
+  let found = null;
   try {
-    names = Object.keys(JSON.parse(text));
+    found = JSON.parse(text);
   } catch {
-    // (the text is no JSON, so that it names none)
+    // (the text is no JSON)
   }
-  return { lacking: Object.keys(RANGES).filter(it => !names.includes(it)), strange: names.filter(it => !Object.hasOwn(RANGES, it)) };
+  const isObject = found !== null && typeof found === 'object' && !Array.isArray(found), names = isObject ? Object.keys(found) : [];
+  return { isObject, lacking: Object.keys(RANGES).filter(it => !names.includes(it)), strange: names.filter(it => !Object.hasOwn(RANGES, it)) };
 }
 
 function settingsWords(cause, text) {

@@ -76,6 +76,8 @@ class Browser:
         elif method == "Runtime.exceptionThrown":
             details = told["exceptionDetails"]
             self.seen.append(("fails", details.get("exception", {}).get("description", details["text"])))
+        elif method == "Page.javascriptDialogOpening":
+            self.seen.append(("dialog", told["type"]))
         elif method == "Log.entryAdded" and told["entry"]["level"] in ("error", "warning"):
             self.seen.append(("fails", told["entry"]["text"]))
 

@@ -327,6 +327,81 @@ class Ways(unittest.TestCase):
         self.assertEqual(hashlib.sha256((self.room / "published.txt").read_bytes()).hexdigest(), manifest["text"]["sha256"])
         self.click("Check it and look at it")
         self.verdict("This text holds")
+        self.assertEqual("The whole text", self.tab.evaluate("document.activeElement.textContent"))
+        self.click("Run a market")
+        self.assertIn("Save the published text", self.words("#run-answer"))
+        self.assertRegex(self.words("#run-answer"), r"accept \d+; turns 0;")
+
+    def submit(self, **settings: str) -> None:
+        """Writes settings into the form and runs the market."""
+        for name, value in settings.items():
+            self.tab.evaluate(f"$('setting-{name}').value = {json.dumps(value)}; $('setting-{name}').dispatchEvent(new Event('input', {{ bubbles: true }}))")
+        self.tab.evaluate("document.querySelector('#registrar form').requestSubmit()")
+
+    def test_settings_stand_in_the_form_as_in_the_file(self) -> None:
+        files, settings = [it for it in FILES if it != "published.txt"], (TERM / "settings.json").read_bytes()
+        big = settings.replace(b'"seed": 2026', b'"seed": 18446744073709551615').replace(b'"raise"', b'"raise": 3, "raise"').replace(b'"tabu"', b'"Tabu"')
+        self.give(files, {"settings.json": big})
+        self.tab.wait("$('setting-seed')")
+        values = self.tab.evaluate("['seed', 'raise', 'steps'].map(it => $(`setting-${it}`).value)")
+        self.assertEqual(["18446744073709551615", "10", "3, 12, 50"], values)
+        told = self.words("#registrar")
+        self.assertIn("settings.json does not say tabu: what stands here is the usual.", told)
+        self.assertIn("settings.json has “Tabu”, which is no setting and is not taken.", told)
+        self.tab.evaluate("$('setting-turns').value = '7'; $('setting-turns').dispatchEvent(new Event('input', { bubbles: true }))")
+        self.give(["more.session"], {"more.session": b"clear n.jones\n"})
+        self.tab.wait("$('registrar').textContent.includes('more.session') && $('setting-turns').value === '7'")
+        self.give(["settings.json"], {"settings.json": b"{seed: 7}"})
+        self.tab.wait("$('registrar').textContent.includes('settings.json is no JSON object, so that the usual settings stand here')")
+        self.assertEqual("2026", self.tab.evaluate("$('setting-seed').value"))
+
+    def test_wrong_settings_are_told_of_their_field(self) -> None:
+        self.give([it for it in FILES if it != "published.txt"])
+        self.click("Run a market")
+        self.tab.wait("$('setting-accept')")
+        for name, value, words in (
+            ("accept", "1,000", "accept: “1,000” stands there. Expected: a whole number, 0 to 1000000000000"),
+            ("steps", "3; 12", "steps: “3; 12” stands there. Expected: a list of 1 to 16 numbers"),
+            ("raise", "51", "The setting raise is out of its range. Expected: a whole number, 0 to 50"),
+        ):
+            with self.subTest(name=name):
+                self.submit(**{name: value})
+                self.tab.wait(f"$('run-answer').textContent.includes({json.dumps(words)}) && !app.works")
+                self.assertNotIn("settings.json", self.words("#run-answer"))
+                self.assertEqual([f"setting-{name}", "true"], self.tab.evaluate("[document.activeElement.id, document.activeElement.getAttribute('aria-invalid')]"))
+                self.submit(accept="100000", turns="0", steps="3 12", **{"raise": "10"})
+                self.tab.wait("document.querySelector('#run-answer h3')?.textContent === 'The market has prices'")
+                self.assertIn("steps 3, 12;", self.words("#run-answer"))
+                self.assertEqual(0, self.tab.evaluate("document.querySelectorAll('[aria-invalid]').length"))
+
+    def test_run_warns_of_wishes_without_effect(self) -> None:
+        self.give(["catalogue.csv", "roll.csv", "desk.session", "web.session"], {"web.session": b"Student;Section;Points\nn.jones;FNCE-601-A;100\nrate\n"})
+        self.click("Run a market")
+        self.tab.wait("$('setting-accept')")
+        self.submit(accept="100000", turns="0")
+        self.tab.wait("document.querySelector('#run-answer h3')?.textContent === 'The market has prices'")
+        self.assertRegex(self.words("#run-answer"), r"Before you publish it: the desk did not carry out 3 of 993 commands, and \d+ students want nothing.")
+        self.click("Look at the wishes")
+        self.tab.wait("document.querySelector('#run-answer h3')?.textContent === 'What the desk replies'")
+        self.assertIn("Save the published text", self.words("#run-answer"))
+
+    def test_text_that_is_not_saved_is_asked_for(self) -> None:
+        self.give([it for it in FILES if it != "published.txt"])
+        self.click("Run a market")
+        self.tab.wait("$('setting-accept')")
+        self.submit(accept="100000", turns="0")
+        self.tab.wait("app.made")
+        self.tab.press("Tab")
+        for button, dialogs in ("Look at the wishes", [("dialog", "beforeunload")]), ("Save the published text", []):
+            self.click(button)
+            self.tab.seen.clear()
+            self.tab.call("Page.reload")
+            if dialogs:
+                self.tab.until(lambda: self.tab.call("Page.getNavigationHistory") and dialogs[0] in self.tab.seen, "the page asks")
+                self.tab.call("Page.handleJavaScriptDialog", accept=False)
+            else:
+                self.tab.wait("typeof app !== 'undefined' && !app.made && document.body.dataset.ready")
+            self.assertEqual(dialogs, [it for it in self.tab.seen if it[0] == "dialog"])
 
     def test_work_can_be_stopped(self) -> None:
         self.click("Take the example term")
