@@ -1,4 +1,4 @@
-// What an auditor sees: the check, prices and seats, budgets, errors, the aftermarket, and all sections and students.
+// What an auditor sees: the check, prices and seats, budgets, errors, the aftermarket, all sections and students, and who envies whom.
 
 // Where a finding stands in the text: its line, with the symbol of the tree, or the entry of the order, marked.
 function findingPart(finding, parts) {
@@ -101,6 +101,25 @@ function changesTable(market) {
   ], changesOf(market));
 }
 
+// Who envies whom: of both stages the counts, and the first who is envied.
+function envyOfAll(market) {
+  const { settled, final } = market.envy, sum = (of, at) => of.get('total').counts[at];
+  const rows = market.roll.map(it => ({ name: it.name, budget: market.text.budgets[it.at], second: settled.get(it.name), end: final.get(it.name) }))
+    .filter(({ second, end }) => second.sees || end.sees);
+  const sees = it => it ? `${it.other}${it.but ? `, but for ${it.but}` : ', for more than one section'}` : '';
+  const words = (when, of) => p(`${when} students envy ${plural(sum(of, 0), 'time')} somebody of a budget no greater than their own, and ${plural(sum(of, 1), 'time')} somebody of a greater one.`);
+  return [words('In the second stage', settled), words('In the end', final), tableOf('Who envies whom', [
+    { head: 'Student', of: it => it.name, isText: true, show: it => button(it.name, () => app.showStudent(it.name), { class: 'link' }) },
+    { head: 'Budget', of: it => it.budget },
+    { head: 'Second stage: of no greater budget', of: it => it.second.counts[0] },
+    { head: 'Second stage: of a greater budget', of: it => it.second.counts[1] },
+    { head: 'The first of these', of: it => sees(it.second.sees), isText: true },
+    { head: 'In the end: of no greater budget', of: it => it.end.counts[0] },
+    { head: 'In the end: of a greater budget', of: it => it.end.counts[1] },
+    { head: 'The first of those', of: it => sees(it.end.sees), isText: true },
+  ], rows)];
+}
+
 const MEANING = [
   'The published order takes all commands of each session, in the session\'s own order.',
   'The budgets are those that the roll, the settings and the draw of the seed give.',
@@ -135,5 +154,6 @@ function auditorView(market) {
     part('Budgets', ...budgetsPart(market)),
     part('The aftermarket', changesTable(market)),
     part('All students', studentTable(market)),
+    part('Envy', envyPart(market, () => envyOfAll(market), false)),
   ];
 }

@@ -5,7 +5,10 @@ const KINDS = {
 };
 const LONGEST = 2 ** 27;
 const NEEDED = { catalogue: 'the catalogue', roll: 'the roll', settings: 'the settings', text: 'the published text' };
-const BY_NAME = [[/catalog/i, 'catalogue'], [/roll|student/i, 'roll'], [/setting/i, 'settings'], [/publish/i, 'text'], [/session/i, 'session']];
+const BY_NAME = [[/^registrar-times/, 'other'], [/catalog/i, 'catalogue'], [/roll|student/i, 'roll'], [/setting/i, 'settings'], [/publish/i, 'text'], [/session/i, 'session']];
+
+// The first lines of what the registrar's tools write beside a market.
+const OF_TOOLS = /^(student,sections|section,student|section,place,student|file,row,request|kind,original,name)\b|^<!doctype html>/i;
 
 // What a manifest lists, each with its role, file and sha256; null where these bytes are no manifest.
 function entriesIn(bytes) {
@@ -34,17 +37,17 @@ function kindOf(name, bytes) {
   if (/^\s*\{/.test(head)) return entriesIn(bytes) ? 'manifest' : 'settings';
   if (/section.*course/i.test(first)) return 'catalogue';
   if (/student.*budget/i.test(first)) return 'roll';
-  if (/^section.*price/i.test(first)) return 'other';
+  if (/^section.*price/i.test(first) || OF_TOOLS.test(first)) return 'other';
   const word = /^[ \t]*([a-z]+)[ \t\r\n]/m.exec(head.replace(/^[ \t]*#.*$/gm, ''))?.[1];
   if (['rate', 'pair', 'clear', 'close'].includes(word)) return 'session';
   if (['add', 'drop', 'leave', 'entry', 'settled', 'order', 'final', 'bundle', 'finding'].includes(word)) return 'other';
   if (/^\S+ \S+ (held|unrated|alone|clash|beside|less)\b/.test(first)) return 'other';
-  return BY_NAME.find(([pattern]) => pattern.test(name))?.[1] ?? 'unknown';
+  return BY_NAME.find(([pattern]) => pattern.test(baseName(name)))?.[1] ?? 'unknown';
 }
 
 // All files of what was dropped, also those in folders, as { name, file }; the name has the folders below what was dropped.
-// What was dropped can be asked for only before the first wait. To a page on a disk Chrome opens a folder by its handle
-// alone, and Firefox by its entry alone; so files are taken as they come, and by neither.
+// What was dropped can be asked for only before the first wait. To a page on a disk Chrome opens no entry, of a file or of a
+// folder; so files are taken as they come, and folders by their handles, and by entries where a browser has no handles.
 async function filesDropped(transfer) {
   const items = [...transfer.items].filter(it => it.kind === 'file').map(it =>
     ({ file: it.getAsFile(), entry: it.webkitGetAsEntry?.(), handle: it.getAsFileSystemHandle?.().catch(() => null) }));
@@ -110,7 +113,7 @@ async function partsOf(files, wanted = Object.keys(NEEDED)) {
   if (of('manifest').length > 1) faults.push(`Several files are manifests (${listed(of('manifest').map(it => it.name))}): remove all but one.`);
   for (const kind of Object.keys(NEEDED)) {
     parts[kind] ??= of(kind).at(-1);
-    if (!found[kind] && of(kind).length > 1) faults.push(`Several files are taken for ${NEEDED[kind]} (${listed(of(kind).map(it => it.name))}): remove all but one.`);
+    if (!found[kind] && of(kind).length > 1) faults.push(`Several files are taken for ${NEEDED[kind]} (${shortList(of(kind).map(it => it.name))}): remove all but one.`);
   }
   const lacks = wanted.filter(kind => !parts[kind]).map(kind => NEEDED[kind]);
   if (!parts.sessions.length) lacks.push('the sessions (what the students wished)');

@@ -99,7 +99,7 @@ function lacksWords(lacks) {
   return [p(`Missing: ${listed(lacks)}. ${canRun ? 'With “Run a market” you can make that from the other files.' : ''}`),
     unread.length ? p(`${listed(unread.map(it => it.name))} cannot be read: the browser does not open it, or it is longer than any file of a market.`) : '',
     saved.map(it => p(`${it.name} is ${savedAs(it.bytes)}.`)),
-    strange.length ? p(`What ${listed(strange.map(it => it.name))} is, the page cannot tell: choose it in the list of the files.`) : ''];
+    strange.length ? p(`What ${shortList(strange.map(it => it.name))} is, the page cannot tell: choose it in the list of the files.`) : ''];
 }
 
 // Checks what is there. The answers on the files of before are gone at once, and what was under way on them is stopped.
@@ -165,7 +165,7 @@ function accepted(market, unused) {
 function chooser(market) {
   const input = el('input', { id: 'student-name', list: 'student-names', autocomplete: 'off', autocapitalize: 'off', spellcheck: 'false' });
   const names = el('datalist', { id: 'student-names' }, market.roll.map(it => el('option', { value: it.name })));
-  input.addEventListener('input', () => { if (market.roll.some(it => it.name === input.value)) app.showStudent(input.value, false); });
+  input.addEventListener('input', () => { if (market.roll.some(it => it.name === input.value)) app.showStudent(input.value, false); else showNobody(); });
   return el('form', { class: 'chooser', onsubmit: event => { event.preventDefault(); app.showStudent(input.value); } },
     el('label', { for: 'student-name' }, 'Name of the student'), input, names, el('button', { class: 'main' }, 'Show'), el('div', { id: 'student-said', role: 'status' }));
 }
@@ -175,8 +175,7 @@ app.showStudent = (typed, focuses = true) => {
   const found = roll.find(it => it.name === name) ?? (near.length === 1 ? near[0] : null);
   if (app.view !== 'student') app.show('student');
   if (!found) {
-    delete $('student-answer').dataset.name;
-    $('student-answer').replaceChildren();
+    showNobody();
     $('student-said').replaceChildren(...near.length && name ? whichOf(near) : ['No student of the roll has this name.']);
     return;
   }
@@ -186,6 +185,12 @@ app.showStudent = (typed, focuses = true) => {
   $('student-answer').dataset.name = found.name;
   if (focuses) $('student-answer').querySelector('h2').focus({ preventScroll: false });
 };
+
+function showNobody() {
+  delete $('student-answer').dataset.name;
+  $('student-answer').replaceChildren();
+  $('student-said').textContent = '';
+}
 
 const whichOf = near => ['Which of them? ', ...near.slice(0, 12).flatMap(it => [button(it.name, () => app.showStudent(it.name), { class: 'link' }), ' ']), near.length > 12 ? `and ${near.length - 12} more` : ''];
 

@@ -18,6 +18,13 @@ const REASONS = {
 // Whether each question is answered at once; of a larger market it is, each, when it is asked.
 const isSmall = market => market.parts.text.bytes.length < 1e6;
 
+// Puts into an element what is answered, once it is. Words alone say why there is no answer, and it can be asked for again.
+async function asked(to, words, ask) {
+  to.replaceChildren(words);
+  const told = await ask();
+  to.replaceChildren(...typeof told === 'string' ? [p(told, ' ', button('Ask again', () => asked(to, words, ask), { class: 'small' }))] : told);
+}
+
 // What `explain` answered: { reason, other?, best?, worth?, lost?, tree? }.
 function explanationOf(answer) {
   const [first, best, lost, tree] = answer.trimEnd().split('\n'), [, , ...words] = first.split(' ');
@@ -67,7 +74,7 @@ const raisedBudget = (market, student) => market.text.budgets[student] + Math.fl
 
 async function explained(market, student, section) {
   const call = callOf('explain', market.parts, [market.roll[student].name, section]), answer = await app.work(`Asking about ${section}`, call);
-  if (answer.status !== 0) return [p(answerWords(answer, call).words)];
+  if (answer.status !== 0) return answerWords(answer, call).words;
   const told = explanationOf(answer.text), parts = [p(el('b', {}, 'Second stage. '), reasonWords(market, student, section, told))];
   if (told.best) parts.push(p(bestWords(market, student, section, told)));
   if (told.reason !== 'held' && told.reason !== 'unrated') parts.push(...laterParts(market, student, section));
@@ -172,8 +179,8 @@ function missedSections(market, student) {
 // One question that opens with its answer.
 function question(market, student, it, isOpen = false) {
   return opening(['Why not ', el('b', {}, it.name), `? (rating ${it.rating}, price ${it.price})`], () => {
-    const answer = el('div', { class: 'answer', 'aria-live': isOpen ? null : 'polite' }, 'Asking ..');
-    explained(market, student, it.name).then(parts => answer.replaceChildren(...parts));
+    const answer = el('div', { class: 'answer', 'aria-live': isOpen ? null : 'polite' });
+    asked(answer, 'Asking ..', () => explained(market, student, it.name));
     return answer;
   }, isOpen, { class: 'question' });
 }
@@ -223,23 +230,28 @@ function envyWords(market, student, part, when) {
     + `which are worth more to ${name} than its own bundle. ${end}${more}`);
 }
 
-async function showEnvy(market, student, to) {
-  if (!market.envy) {
-    const call = callOf('audit', market.parts), answer = await app.work('Looking whom each student envies', call);
-    if (answer.status !== 0) return to.replaceChildren(p(answerWords(answer, call).words));
-    market.envy = envyOf(answer.text);
-  }
-  to.replaceChildren(envyWords(market, student, 'settled', 'In the second stage'), envyWords(market, student, 'final', 'In the end'),
-    el('p', { class: 'quiet' }, 'A student envies another if what it can use of the other\'s bundle is worth more to it, by its own ratings, than its own bundle. '
-      + 'In the second stage nobody envies a student of a budget no greater than its own. In the end that can be, since free seats go by turns.'));
+const ENVY = 'A student envies another if what it can use of the other\'s bundle is worth more to it, by its own ratings, than its own bundle. '
+  + 'In the second stage nobody envies a student of a budget no greater than its own. In the end that can be, since free seats go by turns.';
+
+// Asks, once, whom each student envies; where that is not answered, says why.
+async function envyAsked(market) {
+  const call = callOf('audit', market.parts), answer = market.envy ? null : await (market.asksEnvy ??= app.work('Looking whom each student envies', call));
+  market.asksEnvy = null;
+  if (answer && answer.status !== 0) return answerWords(answer, call).words;
+  market.envy ??= envyOf(answer.text);
+  return '';
 }
 
-function envyPart(market, student) {
-  const isAtOnce = market.envy || isSmall(market), to = el('div', { 'aria-live': isAtOnce ? null : 'polite' });
-  if (isAtOnce) showEnvy(market, student, to);
-  else to.append(button('Look whom each student envies (this may take minutes)', () => showEnvy(market, student, to)));
+// A part on envy, which is made when that is known: at once, or when it is asked for.
+function envyPart(market, make, isQuick) {
+  const isAtOnce = market.envy || isQuick, to = el('div', { 'aria-live': isAtOnce ? null : 'polite' });
+  const show = () => asked(to, 'Looking ..', async () => await envyAsked(market) || [...make(), el('p', { class: 'quiet' }, ENVY)]);
+  if (isAtOnce) show();
+  else to.append(button(`Look whom each student envies${isSmall(market) ? '' : ' (this may take minutes)'}`, show));
   return to;
 }
+
+const envyOfOne = (market, student) => [envyWords(market, student, 'settled', 'In the second stage'), envyWords(market, student, 'final', 'In the end')];
 
 const part = (title, ...children) => el('section', {}, el('h3', {}, title), ...children);
 
@@ -259,6 +271,6 @@ function studentView(market, student) {
     part('Ratings and prices', ratedTable(market, student), adjustmentWords(market, student)),
     part('The proof that nothing better was to be had',
       p('Beside each bundle a tree is published. It goes through all bundles that the budget buys (in the aftermarket, of what is held and what is free), and so proves that none is better.'), treesPart(market, student)),
-    part('What others have', envyPart(market, student)),
+    part('What others have', envyPart(market, () => envyOfOne(market, student), isSmall(market))),
   ];
 }

@@ -282,6 +282,14 @@ class Ways(unittest.TestCase):
         self.assertEqual(
             1, self.tab.evaluate("document.querySelectorAll('[aria-label=\"Students: budgets and bundles\"] tbody tr').length")
         )
+        self.click("Look whom each student envies")
+        self.tab.wait("$('auditor').textContent.includes('Who envies whom')")
+        told = self.words("#auditor")
+        self.assertIn("In the second stage students envy 0 times somebody of a budget no greater than their own, and 47 times somebody of a greater one.", told)
+        self.assertIn("In the end students envy 1 time somebody of a budget no greater than their own, and 50 times somebody of a greater one.", told)
+        envy = "document.querySelector('[aria-label=\"Who envies whom\"]')"
+        row = self.tab.evaluate(f"[...[...{envy}.querySelectorAll('tbody tr')].find(it => it.textContent.startsWith('n.jones')).children].map(it => it.textContent)")
+        self.assertEqual(["n.jones", "4542", "0", "2", "s.adler, but for ACCT-611-B"], row[:5])
         self.pictures("auditor")
 
     def test_finding_has_its_place(self) -> None:
@@ -414,7 +422,24 @@ class Ways(unittest.TestCase):
         self.click("Stop")
         self.tab.wait("document.querySelector('#run-answer h3')?.textContent === 'Stopped' && $('working').hidden")
         self.click("One student")
-        self.show("k.abara")
+        self.tab.evaluate("globalThis.ask = app.program.ask; app.program.ask = () => Promise.resolve({ status: 'stopped', text: '' })")
+        self.show("n.jones")
+        told = "document.querySelector('.question .answer').textContent"
+        self.assertEqual("The work was stopped before its end. Nothing is lost. Ask again", self.tab.evaluate(told))
+        self.assertEqual("The work was stopped before its end. Nothing is lost. Ask again", self.words("#student section:last-of-type div"))
+        self.tab.evaluate("app.program.ask = globalThis.ask; [...document.querySelectorAll('#student button')].filter(it => it.textContent === 'Ask again').forEach(it => it.click())")
+        self.tab.wait(f"{told}.includes('The price of FNCE-717-A is 3252') && $('student').textContent.includes('s.adler, whose budget is 5018')")
+
+    def test_no_answer_stands_beside_another_name(self) -> None:
+        self.click("Take the example term")
+        self.verdict("This text holds")
+        self.tab.evaluate("$('student-name').focus()")
+        self.tab.type("n.jones")
+        self.assertEqual(["shown below", True], self.tab.evaluate("[$('student-said').textContent, $('student-answer').textContent.includes('4542 tokens')]"))
+        self.tab.type("x")
+        self.assertEqual(["", ""], self.tab.evaluate("[$('student-said').textContent, $('student-answer').textContent]"))
+        self.tab.press("Enter", "\r")
+        self.assertEqual("No student of the roll has this name.", self.words("#student-said"))
 
     def test_bad_files_are_refused_in_words(self) -> None:
         roll, settings, catalogue = ((TERM / it).read_bytes() for it in ("roll.csv", "settings.json", "catalogue.csv"))
