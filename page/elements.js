@@ -79,7 +79,7 @@ function tableOf(caption, columns, rows, { filterAt = 8 } = {}) {
   const body = el('tbody'), said = el('span', { role: 'status', class: 'quiet' });
   const classOf = column => column.isText ? '' : 'number';
   const heads = columns.map((column, at) => el('th', { scope: 'col', class: classOf(column) }, button(column.head, () => sortBy(at), { class: 'head' })));
-  const cell = (row, column, at) => el(at ? 'td' : 'th', { scope: at ? null : 'row', class: classOf(column) }, column.show ? column.show(row) : String(column.of(row)));
+  const cell = (row, column, at) => el(at ? 'td' : 'th', { scope: at ? null : 'row', class: at || !String(column.of(row)).includes(' ') ? classOf(column) : 'words' }, column.show ? column.show(row) : String(column.of(row)));
   const draw = () => body.replaceChildren(...shown.map(row => el('tr', {}, columns.map((column, at) => cell(row, column, at)))));
   const sortBy = at => {
     [by, isFalling] = [at, by === at && !isFalling];

@@ -48,6 +48,7 @@ app.takeRun = async (text, settings) => {
   app.files = [...app.files.filter(it => !['text', 'settings', 'manifest'].includes(it.kind)), settings, text];
   await app.check();
   app.show(app.market ? 'auditor' : 'registrar');
+  remember();
   $(app.view).querySelector('h2')?.focus();
 };
 
@@ -180,11 +181,33 @@ app.showStudent = (typed, focuses = true) => {
     return;
   }
   $('student-said').textContent = focuses ? '' : 'shown below';
-  $('student-name').value = found.name;
-  if ($('student-answer').dataset.name !== found.name) $('student-answer').replaceChildren(...studentView(app.market, found.at));
-  $('student-answer').dataset.name = found.name;
+  drawStudent(found);
+  remember(!focuses);
   if (focuses) $('student-answer').querySelector('h2').focus({ preventScroll: false });
 };
+
+function drawStudent({ name, at }) {
+  $('student-name').value = name;
+  if ($('student-answer').dataset.name !== name) $('student-answer').replaceChildren(...studentView(app.market, at));
+  $('student-answer').dataset.name = name;
+}
+
+// What is looked at is kept in the browser's history, so that its back button leads to what was looked at before, and not away.
+// (It is not in the address: no student's name is left in what the browser keeps.) Of names that are shown while one types, the
+// last one is kept.
+function remember(isTyped = false) {
+  const now = { view: app.view, name: $('student-answer')?.dataset.name ?? history.state?.name, isTyped }, before = history.state;
+  if (now.view !== before?.view || now.name !== before?.name) history[isTyped && before?.isTyped ? 'replaceState' : 'pushState'](now, '');
+}
+
+// Looks at what the history has: also once a page that was loaded anew has its files again.
+function recall() {
+  const { view = 'student', name } = history.state ?? {}, found = app.market?.roll.find(it => it.name === name);
+  app.show(view);
+  if (!found) return;
+  drawStudent(found);
+  $('student-said').textContent = '';
+}
 
 function showNobody() {
   delete $('student-answer').dataset.name;
@@ -203,6 +226,7 @@ function drawReaders(words) {
   const { market } = app;
   $('student').replaceChildren(...market ? [chooser(market), el('div', { id: 'student-answer' })] : [p(words)]);
   $('auditor').replaceChildren(...market ? auditorView(market) : [p(words)]);
+  if (market) recall();
 }
 
 app.show = view => {
@@ -231,7 +255,8 @@ function listen() {
   $('example').addEventListener('click', takeExample);
   $('clear').addEventListener('click', () => { app.files = []; $('choose').focus(); app.check(); });
   $('stop').addEventListener('click', () => app.program.stop());
-  for (const it of ['student', 'auditor', 'registrar']) $(`to-${it}`).addEventListener('click', () => app.show(it));
+  for (const it of ['student', 'auditor', 'registrar']) $(`to-${it}`).addEventListener('click', () => { app.show(it); remember(); });
+  addEventListener('popstate', recall);
   addEventListener('dragover', event => { event.preventDefault(); $('drop').classList.add('over'); });
   addEventListener('dragleave', event => { if (!event.relatedTarget) $('drop').classList.remove('over'); });
   addEventListener('drop', async event => {
@@ -256,7 +281,7 @@ async function begin() {
   }
   app.program = new Program(await WebAssembly.compile(await unpacked('module')), $('worker').textContent);
   listen();
-  app.show('student');
+  recall();
   await app.check();
   document.body.dataset.ready = 'yes';
 }

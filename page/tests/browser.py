@@ -34,7 +34,7 @@ class Browser:
 
     def __init__(self, process: subprocess.Popen, to: int, answers: int) -> None:
         self.process, self.to, self.answers = process, to, answers
-        self.count, self.rest, self.seen, self.session = 0, b"", [], None
+        self.count, self.rest, self.seen, self.session, self.loads = 0, b"", [], None, 0
         tab = self.call("Target.createTarget", url="about:blank")["targetId"]
         self.session = self.call("Target.attachToTarget", targetId=tab, flatten=True)["sessionId"]
         for domain in ("Page", "Runtime", "Log", "Network", "DOM"):
@@ -76,6 +76,8 @@ class Browser:
         elif method == "Runtime.exceptionThrown":
             details = told["exceptionDetails"]
             self.seen.append(("fails", details.get("exception", {}).get("description", details["text"])))
+        elif method == "Page.loadEventFired":
+            self.loads += 1
         elif method == "Page.javascriptDialogOpening":
             self.seen.append(("dialog", told["type"]))
         elif method == "Log.entryAdded" and told["entry"]["level"] in ("error", "warning"):
@@ -105,6 +107,15 @@ class Browser:
         """Opens a page and waits till it is whole."""
         self.call("Page.navigate", url=address)
         self.wait("document.readyState === 'complete'")
+
+    def reload(self) -> None:
+        """Loads the page anew and waits till it is whole."""
+        before = self.loads
+        self.call("Page.reload")
+        for message in self.messages() if self.loads == before else ():
+            self.note(message)
+            if self.loads > before:
+                break
 
     def choose(self, selector: str, files: list[Path]) -> None:
         """Gives files to a file input, as a person does in the browser's dialog."""

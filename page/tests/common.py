@@ -61,6 +61,7 @@ def in_page(tab: Browser, words: list[str], files: dict[str, bytes], limit: int 
 
 
 def open_page(tab: Browser) -> None:
-    """Opens the page and waits till it can be used."""
+    """Opens the page, without what was looked at in it before, and waits till it can be used."""
+    tab.go("about:blank")
     tab.go(PAGE.as_uri())
     tab.wait("document.body.dataset.ready")

@@ -55,7 +55,7 @@ class Ways(unittest.TestCase):
         open_page(self.tab)
 
     def tearDown(self) -> None:
-        asked = [it for what, it in self.tab.seen if what == "asks" and not it.startswith(("blob:", PAGE.as_uri()))]
+        asked = [it for what, it in self.tab.seen if what == "asks" and not it.startswith(("blob:", "about:", PAGE.as_uri()))]
         failed = [it for what, it in self.tab.seen if what == "fails"]
         self.tab.seen.clear()
         self.assertEqual(([], []), (asked, failed))
@@ -98,7 +98,7 @@ class Ways(unittest.TestCase):
 
     def show(self, name: str) -> None:
         """Types a student's name and presses Enter."""
-        self.tab.evaluate("$('student-name').focus()")
+        self.tab.evaluate("$('student-name').select()")
         self.tab.type(name)
         self.tab.press("Enter", "\r")
         self.tab.wait(f"$('student-answer').querySelector('h2')?.textContent === {json.dumps(name)} && !app.works")
@@ -118,6 +118,18 @@ class Ways(unittest.TestCase):
         shutil.copytree(fall, spring)
         self.tab.drop([fall, spring])
         self.assertIn("the roll (fall/roll.csv and spring/roll.csv): remove all but one", self.verdict("The files do not fit together"))
+
+    def test_lists_of_the_registrars_tools_are_no_parts_of_a_market(self) -> None:
+        for name, first, kind in (
+            ("students.csv", "\ufeffstudent,sections,credits,spent,left", "other"),
+            ("hall-students.csv", "\ufeffstudent,sections", "other"),
+            ("rosters.csv", "\ufeffsection,student", "other"),
+            ("names.csv", "\ufeffkind,original,name", "other"),
+            ("summary.html", "<!DOCTYPE html>", "other"),
+            ("students/000113.txt", "000113", "unknown"),
+            ("roll.next.csv", "student,budget,credits,courses,carry", "roll"),
+        ):
+            self.assertEqual(kind, self.tab.evaluate(f"kindOf({json.dumps(name)}, new TextEncoder().encode({json.dumps(first)} + '\\n'))"), name)
 
     def test_folder_that_is_not_opened_is_told(self) -> None:
         self.tab.evaluate("DataTransferItem.prototype.getAsFileSystemHandle = undefined")
@@ -403,12 +415,12 @@ class Ways(unittest.TestCase):
         for button, dialogs in ("Look at the wishes", [("dialog", "beforeunload")]), ("Save the published text", []):
             self.click(button)
             self.tab.seen.clear()
-            self.tab.call("Page.reload")
             if dialogs:
+                self.tab.call("Page.reload")
                 self.tab.until(lambda: self.tab.call("Page.getNavigationHistory") and dialogs[0] in self.tab.seen, "the page asks")
                 self.tab.call("Page.handleJavaScriptDialog", accept=False)
             else:
-                self.tab.wait("typeof app !== 'undefined' && !app.made && document.body.dataset.ready")
+                self.tab.reload()
             self.assertEqual(dialogs, [it for it in self.tab.seen if it[0] == "dialog"])
 
     def test_work_can_be_stopped(self) -> None:
@@ -429,6 +441,36 @@ class Ways(unittest.TestCase):
         self.assertEqual("The work was stopped before its end. Nothing is lost. Ask again", self.words("#student section:last-of-type div"))
         self.tab.evaluate("app.program.ask = globalThis.ask; [...document.querySelectorAll('#student button')].filter(it => it.textContent === 'Ask again').forEach(it => it.click())")
         self.tab.wait(f"{told}.includes('The price of FNCE-717-A is 3252') && $('student').textContent.includes('s.adler, whose budget is 5018')")
+
+    def test_back_leads_to_what_was_looked_at(self) -> None:
+        self.click("Take the example term")
+        self.verdict("This text holds")
+        self.click("Whole text")
+        self.click("s.adler")
+        self.show("n.jones")
+        self.click("Run a market")
+        for view, name in ("student", "n.jones"), ("student", "s.adler"), ("auditor", "s.adler"):
+            self.tab.evaluate("history.back()")
+            self.tab.wait(f"app.view === '{view}' && $('student-answer').dataset.name === '{name}' && !$('{view}').hidden")
+            self.assertEqual(PAGE.as_uri(), self.tab.evaluate("location.href"))
+        self.tab.evaluate("history.go(2)")
+        self.tab.wait("app.view === 'student' && $('student-answer').dataset.name === 'n.jones'")
+        self.tab.reload()
+        self.tab.wait("document.body.dataset.ready && !app.files.length")
+        self.give(FILES)
+        self.verdict("This text holds")
+        self.assertEqual(["student", "n.jones"], self.tab.evaluate("[app.view, $('student-answer').dataset.name]"))
+
+    def test_long_names_stay_on_a_narrow_screen(self) -> None:
+        changed = {it: (TERM / it).read_bytes().replace(b"n.jones", b"N" * 32).replace(b"FNCE-717-A", b"F" * 32) for it in FILES}
+        self.tab.look(360, 740)
+        self.give(FILES, changed)
+        self.verdict("This text holds")
+        self.show("N" * 32)
+        self.tab.evaluate("$('files').open = true")
+        for view in ("One student", "Whole text", "Run a market"):
+            self.click(view)
+            self.assertEqual([360, 360], self.tab.evaluate("[document.documentElement.clientWidth, document.documentElement.scrollWidth]"), view)
 
     def test_no_answer_stands_beside_another_name(self) -> None:
         self.click("Take the example term")
