@@ -1,4 +1,4 @@
-// What an auditor sees: the check, prices and seats, budgets, errors, the aftermarket, all sections and students, and who envies whom.
+// What an auditor sees: the check, prices and seats, budgets, errors, the aftermarket, who envies whom, and all students.
 
 // Where a finding stands in the text: its line, with the symbol of the tree, or the entry of the order, marked.
 function findingPart(finding, parts) {
@@ -20,7 +20,7 @@ function figuresPart(market) {
   const lines = [
     ['Checked in', timed(market.ms)],
     ['Students, sections, sessions', `${roll.length}, ${catalogue.length}, ${market.parts.sessions.length}`],
-    ['Clearing error, search', `${text.error} (the settings accept ${market.settings.accept})`],
+    ['Clearing error, search', `${text.error} by the text, which the check does not judge (the settings accept ${market.settings.accept})`],
     ['Clearing error, second stage', String(errorOf(counts, catalogue, text.prices))],
     ['Seats taken', `${sum(counts)} in the second stage, ${sum(endCounts)} in the end, of ${seats}`],
     ['Students without a section', `${text.bundles.filter(it => !it.names.length).length} in the second stage, ${text.finals.filter(it => !it.length).length} in the end`],
@@ -149,11 +149,12 @@ function hashesTable(market) {
 function auditorView(market) {
   return [
     el('h2', { tabindex: '-1' }, 'The whole text'),
-    part('The check', figuresPart(market), opening('What “this text holds” means', meaningPart), opening('Which files were checked', () => hashesTable(market))),
+    part('The check', figuresPart(market), opening('What “this text holds” means', meaningPart, false, { class: 'paper' }),
+      opening('Which files were checked', () => hashesTable(market), false, { class: 'paper' })),
     part('Prices and seats', p(PRICES), sectionTable(market)),
     part('Budgets', ...budgetsPart(market)),
     part('The aftermarket', changesTable(market)),
-    part('All students', studentTable(market)),
     part('Envy', envyPart(market, () => envyOfAll(market), false)),
+    part('All students', studentTable(market)),
   ];
 }

@@ -45,7 +45,7 @@ function bar(share, kind = '') {
 function opening(summary, make, isOpen = false, properties = {}) {
   const made = el('details', properties, el('summary', {}, summary));
   let isMade = false;
-  const fill = () => {
+  const fill = made.fill = () => {
     if (isMade || !made.open) return;
     isMade = true;
     made.append(...[make()].flat());

@@ -81,14 +81,16 @@ function moveUp(at) {
   app.check();
 }
 
-// Checks the text, with the sessions in the orders that the text allows, until one is accepted.
+const MOST_ORDERS = 24;
+
+// Checks the text, with the sessions in the orders that the text allows, the most that are tried, until one is accepted.
 async function checkedIn(parts, isByManifest) {
-  const orders = isByManifest ? [parts.sessions] : possibleOrders(parts.sessions, orderOf(parts.text.bytes));
+  const orders = isByManifest ? [parts.sessions] : possibleOrders(parts.sessions, orderOf(parts.text.bytes), MOST_ORDERS + 1);
   let first;
-  for (const sessions of orders.length ? orders : [parts.sessions]) {
+  for (const sessions of orders.length ? orders.slice(0, MOST_ORDERS) : [parts.sessions]) {
     const call = callOf('check', { ...parts, sessions }), answer = await app.work('Checking the text', call);
     if (answer.status === 0) return { call, answer, parts: { ...parts, sessions } };
-    first ??= { call, answer, parts: { ...parts, sessions } };
+    first ??= { call, answer, parts: { ...parts, sessions }, isCut: orders.length > MOST_ORDERS };
     if (answer.status !== 8 || /^finding: line/.test(answer.text)) break;
   }
   return first;
@@ -129,10 +131,11 @@ app.check = async () => {
   drawReaders(app.finding ? NOTHING : GIVE);
 };
 
-function refused({ answer, call, parts }) {
+function refused({ answer, call, parts, isCut }) {
   const told = answerWords(answer, call);
+  if (isCut && told.finding && !/^line/.test(told.finding)) Object.assign(told, { title: 'This text was not found to hold', help: OTHER_ORDERS });
   app.finding = told.finding;
-  const again = answer.status === 'stopped' && button('Check again', () => app.check());
+  const again = answer.status === 'stopped' && button('Check again', () => { $('files').querySelector('summary').focus(); app.check(); });
   verdict('wrong', told.title, p(told.words), told.finding ? [findingPart(told.finding, parts), causesOf(told.finding, parts).map(it => p(it))] : '', told.help ? p(told.help) : '', again || '');
 }
 
@@ -266,9 +269,9 @@ function listen() {
   });
   // What was not saved is lost with the page, and what a run has done so far.
   addEventListener('beforeunload', event => { if (app.isRunning || app.made && !app.made.isSaved) event.preventDefault(); });
-  // Of the questions that were asked, those that are closed on the screen are open on paper.
+  // Of the questions that were asked, those that are closed on the screen are open on paper; so is what was checked, and what that means.
   const closed = [];
-  addEventListener('beforeprint', () => { for (const it of document.querySelectorAll('details.question:not([open]):has(.answer)')) { it.open = true; closed.push(it); } });
+  addEventListener('beforeprint', () => { for (const it of document.querySelectorAll('details.question:not([open]):has(.answer), details.paper:not([open])')) { it.open = true; it.fill(); closed.push(it); } });
   addEventListener('afterprint', () => { for (const it of closed.splice(0)) it.open = false; });
 }
 

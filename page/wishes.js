@@ -18,7 +18,7 @@ function countsIn(order) {
 
 // The orders of the given sessions in which each has as many commands as the text says, at most `most`, the given order
 // first. Where no order has, that is seen before any is tried.
-function possibleOrders(sessions, order, most = 24) {
+function possibleOrders(sessions, order, most) {
   const counts = countsIn(order), sizes = sessions.map(it => commandsOf(it.bytes).length), wanted = sessions.map((_, at) => counts.get(at + 1) ?? 0), found = [];
   const go = chosen => {
     if (found.length === most) return;

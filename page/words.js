@@ -159,6 +159,9 @@ const NOT_TRUSTED = 'Do not trust it as it stands: compare the line that is name
 const OTHER_SESSIONS = 'Give the sessions of this text, all of them and no others. If these are they, as the school published them, do not trust the text. '
   + 'Whoever has no more than the own lines of a session checks the own bundles by verify/verify.py --own, and not here (GUIDE, “How a student checks its own bundles”).';
 
+const OTHER_ORDERS = 'That is so in the order of the list, and in none of the first orders that were tried does the text hold. The sessions can stand in others, since several have equally many commands: '
+  + 'put them into the order that the school says (“Up” in the list of the files).';
+
 // What an answer says, by its status: { title, words, help?, finding? }. `line` is its last line, `name` the file that it names.
 const TOLD = {
   2: ({ name }) => ({ title: 'A file cannot be read', words: `${name} cannot be read.`, help: AGAIN }),

@@ -216,6 +216,20 @@ class Ways(unittest.TestCase):
         self.verdict("This text holds")
         self.assertEqual(["desk.session", "web.session"], self.tab.evaluate("app.market.parts.sessions.map(it => it.name)"))
 
+    def test_order_that_was_not_tried_is_no_finding(self) -> None:
+        given = {
+            "catalogue.csv": b"section,course,seats,credits,meetings\nX,X,1,1,\n",
+            "roll.csv": b"student,budget,credits,courses\nann,100,5,5\n",
+            "settings.json": b'{"seed":1,"spread":0,"accept":0,"turns":0,"tabu":1,"patience":1,"steps":[1],"raise":0}',
+            "published.txt": b"course-match 1\norder 1 2 3 4 5\nbudget ann 100\nstart X 0\nerror 0\nprice X 0\nbundle ann [X] +*n\nturn 1 ann [X] +*n\nfinal ann [X]\nused X 1 1\nend\n",
+            **{f"{it}.session": b"rate ann X %d\n" % (5 if it == "a" else 0) for it in "abcde"},
+        }
+        self.give(list(given), given)
+        self.assertIn("put them into the order that the school says", self.verdict("This text was not found to hold"))
+        for at in range(5, 9):
+            self.tab.evaluate(f"moveUp({at})")
+        self.verdict("This text holds")
+
     def test_student(self) -> None:
         self.give(["web.session", "published.txt", *BESIDE, "settings.json", "roll.csv", "desk.session", "catalogue.csv"])
         self.verdict("This text holds")
@@ -279,7 +293,7 @@ class Ways(unittest.TestCase):
         self.give(FILES)
         self.verdict("This text holds")
         self.click("Whole text")
-        self.assertIn("59 (the settings accept 60)", self.words("#auditor"))
+        self.assertIn("59 by the text, which the check does not judge (the settings accept 60)", self.words("#auditor"))
         sections = "document.querySelector('[aria-label=\"Sections: prices and seats\"]')"
         for _ in range(2):
             self.tab.evaluate(f"[...{sections}.querySelectorAll('button')].find(it => it.textContent === 'Price').click()")
@@ -586,6 +600,12 @@ class Ways(unittest.TestCase):
         self.tab.look(*SIZES["desktop"], medium="print")
         self.tab.picture(PICTURES / "student-print.png")
         self.assertFalse(self.tab.evaluate("document.querySelector('nav').checkVisibility()"))
+        self.tab.evaluate("app.show('auditor'); dispatchEvent(new Event('beforeprint'))")
+        told = self.words("#auditor")
+        self.assertIn(hashlib.sha256((TERM / "published.txt").read_bytes()).hexdigest(), told)
+        self.assertIn("It does not mean that the prices came from the search", told)
+        self.tab.evaluate("dispatchEvent(new Event('afterprint'))")
+        self.assertEqual(0, self.tab.evaluate("document.querySelectorAll('#auditor details[open]').length"))
 
 
 if __name__ == "__main__":
