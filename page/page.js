@@ -109,6 +109,7 @@ function lacksWords(lacks) {
 app.check = async () => {
   const number = ++app.checks, isOld = () => number !== app.checks;
   app.market = app.finding = null;
+  app.isRunStopped = app.isRunning;
   if (app.works) app.program.stop();
   $('verdict').replaceChildren();
   drawReaders(app.files.length ? CHECKING : GIVE);

@@ -175,7 +175,7 @@ async function registrarView() {
   const head = [el('h2', { tabindex: '-1' }, 'Run a market'), p(about)];
   if (lacks.length || faults.length) return [...head, p(faults.join(' ') || `First give the files above. Missing: ${listed(lacks)}.`)];
   if (app.made && !isMadeOf(app.made, parts)) app.made = null;
-  const of = parts.settings, looked = el('div'), told = el('div', {}, app.made ? madePart(app.made) : '');
+  const of = parts.settings, looked = el('div'), told = el('div', {}, app.made ? madePart(app.made) : app.isRunStopped ? p('The files were changed, so the run was stopped: run the market again.') : '');
   let isRunning = false;
   const run = async values => {
     const wrong = wrongField(values);

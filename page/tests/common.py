@@ -61,7 +61,8 @@ def in_page(tab: Browser, words: list[str], files: dict[str, bytes], limit: int 
 
 
 def open_page(tab: Browser) -> None:
-    """Opens the page, without what was looked at in it before, and waits till it can be used."""
+    """Opens the page, without what was looked at or made in it before, and waits till it can be used."""
+    tab.evaluate("typeof app === 'undefined' || (app.made = app.isRunning = null)")
     tab.go("about:blank")
     tab.go(PAGE.as_uri())
     tab.wait("document.body.dataset.ready")
