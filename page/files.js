@@ -1,7 +1,7 @@
 // Tells files by what stands in them, and puts those of one market together.
 const KINDS = {
   catalogue: 'catalogue', roll: 'roll', settings: 'settings', text: 'published text', session: 'session',
-  manifest: 'manifest', other: 'not needed here', unknown: 'not known',
+  manifest: 'manifest', own: 'one student\'s lines', other: 'not needed here', unknown: 'not known',
 };
 const LONGEST = 2 ** 27;
 const NEEDED = { catalogue: 'the catalogue', roll: 'the roll', settings: 'the settings', text: 'the published text' };
@@ -9,6 +9,10 @@ const BY_NAME = [[/^registrar-times/, 'other'], [/catalog/i, 'catalogue'], [/rol
 
 // The first lines of what the registrar's tools write beside a market.
 const OF_TOOLS = /^(student,sections|section,student|section,place,student|file,row,request|kind,original,name)\b|^<!doctype html>/i;
+
+// How the file begins that those tools write for a student, of what it said itself.
+const OWN_LINES = /^# What \S+ said, in the order in which the desk took it\./;
+const MOST_SESSIONS = 64;
 
 // What a manifest lists, each with its role, file and sha256; null where these bytes are no manifest.
 function entriesIn(bytes) {
@@ -34,6 +38,7 @@ function kindOf(name, bytes) {
   const head = decoded(bytes.subarray(0, 65536)), first = head.split(/\r\n|\r|\n/, 1)[0];
   if (savedAs(bytes)) return 'unknown';
   if (head.startsWith('course-match ')) return 'text';
+  if (OWN_LINES.test(first)) return 'own';
   if (/^\s*\{/.test(head)) return entriesIn(bytes) ? 'manifest' : 'settings';
   if (/section.*course/i.test(first)) return 'catalogue';
   if (/student.*budget/i.test(first)) return 'roll';
@@ -111,6 +116,7 @@ async function partsOf(files, wanted = Object.keys(NEEDED)) {
   const { found, faults } = manifest ? await byManifest(manifest, files) : { found: { sessions: [] }, faults: [] };
   const isByManifest = found.sessions.length > 0, parts = { ...found, sessions: isByManifest ? found.sessions : of('session') };
   if (of('manifest').length > 1) faults.push(`Several files are manifests (${listed(of('manifest').map(it => it.name))}): remove all but one.`);
+  if (parts.sessions.length > MOST_SESSIONS) faults.push(`${parts.sessions.length} files are taken for sessions, and a market has at most ${MOST_SESSIONS}: remove those that are none of this market, or choose in the list what they are.`);
   for (const kind of Object.keys(NEEDED)) {
     parts[kind] ??= of(kind).at(-1);
     if (!found[kind] && of(kind).length > 1) faults.push(`Several files are taken for ${NEEDED[kind]} (${shortList(of(kind).map(it => it.name))}): remove all but one.`);

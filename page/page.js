@@ -98,8 +98,10 @@ async function checkedIn(parts, isByManifest) {
 
 function lacksWords(lacks) {
   const canRun = lacks.every(it => it === NEEDED.text || it === NEEDED.settings), unknown = app.files.filter(it => it.kind === 'unknown');
+  const own = app.files.filter(it => it.kind === 'own').map(it => it.name);
   const unread = unknown.filter(it => it.isUnread), saved = unknown.filter(it => savedAs(it.bytes)), strange = unknown.filter(it => !unread.includes(it) && !saved.includes(it));
   return [p(`Missing: ${listed(lacks)}. ${canRun ? 'With “Run a market” you can make that from the other files.' : ''}`),
+    own.length ? p(`${shortList(own)} ${own.length > 1 ? 'have each' : 'has'} the lines of one student alone, and the page needs all sessions. ${OWN_CHECK}`) : '',
     unread.length ? p(`${listed(unread.map(it => it.name))} cannot be read: the browser does not open it, or it is longer than any file of a market.`) : '',
     saved.map(it => p(`${it.name} is ${savedAs(it.bytes)}.`)),
     strange.length ? p(`What ${shortList(strange.map(it => it.name))} is, the page cannot tell: choose it in the list of the files.`) : ''];
@@ -251,7 +253,9 @@ async function takeExample() {
 }
 
 function listen() {
-  addEventListener('unhandledrejection', event => verdict('wrong', 'The page failed', p(String(event.reason))));
+  const fail = words => verdict('wrong', 'The page failed', p(String(words)), p('Load the page anew and give the files again. If it fails again, keep the files, and tell these words to whoever gave you this page.'));
+  addEventListener('unhandledrejection', event => fail(event.reason));
+  addEventListener('error', event => fail(event.message));
   $('choose').addEventListener('change', async event => {
     await app.give([...event.target.files].map(file => ({ name: file.name, file })));
     event.target.value = '';

@@ -145,11 +145,18 @@ function refusedRun({ title, words, help }, answer, inputs) {
   if (inputs[number - 1]?.kind === 'settings') {
     const [, name] = /The setting (\w+)/.exec(words) ?? [];
     markField(name);
-    return [el('h3', {}, 'A setting is out of its range'), p(words.replace(/^settings\.json[^:]*: /, ''))];
+    return [fault('A setting is out of its range', words.replace(/^settings\.json[^:]*: /, ''))];
   }
-  const set = () => { $('setting-accept').value = least; $('setting-accept').focus(); };
-  return [el('h3', {}, title), p(words), help ? p(help) : '', least ? button(`Set “accept” to ${least}`, set) : ''];
+  const set = () => {
+    $('setting-accept').value = least;
+    $('setting-accept').dispatchEvent(new Event('input', { bubbles: true }));
+    $('setting-accept').focus();
+  };
+  return [fault(title, words, help ? p(help) : '', least ? button(`Set “accept” to ${least}`, set) : '')];
 }
+
+// What went wrong with the settings that stand in the form: it goes when one of them is changed.
+const fault = (title, words, ...more) => el('div', { class: 'fault' }, el('h3', {}, title), p(words), ...more);
 
 function markField(name) {
   $(`setting-${name}`)?.setAttribute('aria-invalid', 'true');
@@ -181,7 +188,7 @@ async function registrarView() {
     const wrong = wrongField(values);
     if (wrong) {
       markField(wrong);
-      return looked.replaceChildren(el('h3', {}, 'A setting is no number'), p(`${wrong}: ${quoted(values[wrong])} stands there. Expected: ${wrong === 'steps' ? '' : 'a whole number, '}${RANGES[wrong]}, without point, exponent or sign.`));
+      return looked.replaceChildren(fault('A setting is no number', `${wrong}: ${quoted(values[wrong])} stands there. Expected: ${wrong === 'steps' ? '' : 'a whole number, '}${RANGES[wrong]}, without point, exponent or sign.`));
     }
     looked.replaceChildren();
     told.replaceChildren();
@@ -191,7 +198,11 @@ async function registrarView() {
   };
   const form = el('form', {
     onsubmit: event => { event.preventDefault(); if (!isRunning) run(formValues(form)); },
-    oninput: event => { event.target.removeAttribute('aria-invalid'); app.typed = { of, values: formValues(form) }; },
+    oninput: event => {
+      event.target.removeAttribute('aria-invalid');
+      document.querySelectorAll('#run-answer .fault').forEach(it => it.remove());
+      app.typed = { of, values: formValues(form) };
+    },
   }, of ? settingsNotes(of).map(it => p(el('b', {}, it))) : '', settingsForm(app.typed && app.typed.of === of ? app.typed.values : of ? settingsIn(decoded(of.bytes)) : {}),
   el('p', { class: 'buttons' },
     button('Look at the wishes', () => lookAtWishes(parts, looked)),

@@ -156,8 +156,9 @@ function placeOf(words, parts) {
 const AGAIN = 'Nothing is lost: correct it and give the files again. The first fault alone is told.';
 
 const NOT_TRUSTED = 'Do not trust it as it stands: compare the line that is named. If all files are of one term, and as the school published them, ask the school about that line.';
+const OWN_CHECK = 'Whoever has its own lines alone checks its own bundles by verify/verify.py --own, and not here (GUIDE, “How a student checks its own bundles”).';
 const OTHER_SESSIONS = 'Give the sessions of this text, all of them and no others. If these are they, as the school published them, do not trust the text. '
-  + 'Whoever has no more than the own lines of a session checks the own bundles by verify/verify.py --own, and not here (GUIDE, “How a student checks its own bundles”).';
+  + OWN_CHECK;
 
 const OTHER_ORDERS = 'That is so in the order of the list, and in none of the first orders that were tried does the text hold. The sessions can stand in others, since several have equally many commands: '
   + 'put them into the order that the school says (“Up” in the list of the files).';

@@ -127,6 +127,8 @@ class Ways(unittest.TestCase):
             ("names.csv", "\ufeffkind,original,name", "other"),
             ("summary.html", "<!DOCTYPE html>", "other"),
             ("students/000113.txt", "000113", "unknown"),
+            ("students/000113.session", "# What 000113 said, in the order in which the desk took it.", "own"),
+            ("web.session", "# What we said\nclear 000113", "session"),
             ("roll.next.csv", "student,budget,credits,courses,carry", "roll"),
         ):
             self.assertEqual(kind, self.tab.evaluate(f"kindOf({json.dumps(name)}, new TextEncoder().encode({json.dumps(first)} + '\\n'))"), name)
@@ -206,6 +208,25 @@ class Ways(unittest.TestCase):
                 self.assertIn("verify/verify.py --own", told)
                 self.click("Remove all files")
                 self.tab.wait("!app.files.length && !$('verdict').textContent")
+
+    def test_lines_of_one_student_are_no_session(self) -> None:
+        own = b"# What n.jones said, in the order in which the desk took it.\nrate n.jones FNCE-601-A 100\n"
+        self.give([*FILES[:4], "n.jones.session"], {"n.jones.session": own})
+        told = self.verdict("Not all files are there yet")
+        self.assertIn("n.jones.session has the lines of one student alone, and the page needs all sessions.", told)
+        self.assertIn("verify/verify.py --own", told)
+        self.give(FILES[4:])
+        self.verdict("This text holds")
+
+    def test_more_sessions_than_a_market_has_are_told(self) -> None:
+        given = {f"{it}.session": b"clear n.jones\n" for it in range(65)}
+        self.give([*FILES[:4], *given], given)
+        self.assertIn("65 files are taken for sessions, and a market has at most 64", self.verdict("The files do not fit together"))
+
+    def test_failure_is_told(self) -> None:
+        self.tab.evaluate("setTimeout(() => { throw new Error('something'); })")
+        self.assertIn("something", self.verdict("The page failed"))
+        self.tab.seen.clear()
 
     def test_order_of_the_sessions_is_found(self) -> None:
         self.give(FILES)
@@ -348,6 +369,7 @@ class Ways(unittest.TestCase):
         self.tab.evaluate("document.querySelector('#registrar form').requestSubmit()")
         self.tab.wait("document.querySelector('#run-answer h3')?.textContent === 'No prices were found'")
         self.click("Set “accept” to")
+        self.assertEqual("", self.words("#run-answer"))
         self.tab.evaluate("document.querySelector('#registrar form').requestSubmit()")
         self.tab.wait("document.querySelector('#run-answer h3')?.textContent === 'The market has prices'")
         self.pictures("registrar")
