@@ -17,6 +17,9 @@ const code = it => el('code', {}, it);
 const button = (words, onclick, properties) => el('button', { type: 'button', onclick, ...properties }, words);
 const plural = (count, one, more = one + 's') => `${count} ${count === 1 ? one : more}`;
 
+// Whether two arrays of bytes are the same.
+const isSame = (one, other) => one.length === other.length && one.every((it, at) => it === other[at]);
+
 // Names in a sentence: `A`, `A and B`, `A, B and C`.
 function listed(names) {
   if (names.length === 0) return 'nothing';

@@ -31,7 +31,7 @@ function verdict(kind, title, ...children) {
 // Reads files and takes them; null stands for a folder that the browser did not open.
 app.give = async files => {
   if (!files) return verdict('wrong', 'The folder was not opened', p('This browser does not open a folder to this page: open the folder, and give the files that are in it. What was given before stays as it was.'));
-  await app.take(await Promise.all(files.map(loaded)));
+  if (files.length) await app.take(await Promise.all(files.map(loaded)));
 };
 
 // Takes files beside those that are there; one of the same name takes the other's place.
@@ -111,7 +111,7 @@ function lacksWords(lacks) {
 app.check = async () => {
   const number = ++app.checks, isOld = () => number !== app.checks;
   app.market = app.finding = null;
-  app.isRunStopped = app.isRunning;
+  app.isRunStopped ||= app.isRunning;
   if (app.works) app.program.stop();
   $('verdict').replaceChildren();
   drawReaders(app.files.length ? CHECKING : GIVE);

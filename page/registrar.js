@@ -102,9 +102,11 @@ async function manifestOf(parts, text, ms) {
   }, null, 2) + '\n';
 }
 
-// What a run made: { parts, settings, text, manifest, ms, warning }. It stands as long as the files are given that it was made of.
-const isMadeOf = (made, parts) => ['catalogue', 'roll'].every(it => made.parts[it] === parts[it])
-  && made.parts.sessions.length === parts.sessions.length && made.parts.sessions.every((it, at) => it === parts.sessions[at]);
+// What a run made: { parts, settings, text, manifest, ms, warning }. It is shown where the files are given that it was made of.
+function isMadeOf(made, { catalogue, roll, sessions }) {
+  const [before, now] = [[made.parts.catalogue, made.parts.roll, ...made.parts.sessions], [catalogue, roll, ...sessions]];
+  return before.length === now.length && before.every((it, at) => it === now[at] || it.name === now[at].name && isSame(it.bytes, now[at].bytes));
+}
 
 function madePart(made) {
   const settings = settingsIn(decoded(made.settings.bytes)), said = SETTINGS.map(([name]) => `${name} ${settings[name]}`);
@@ -181,18 +183,18 @@ async function registrarView() {
   const about = 'This makes the text that is to be published, out of the catalogue, the roll, the settings and the sessions. The files stay on this machine.';
   const head = [el('h2', { tabindex: '-1' }, 'Run a market'), p(about)];
   if (lacks.length || faults.length) return [...head, p(faults.join(' ') || `First give the files above. Missing: ${listed(lacks)}.`)];
-  if (app.made && !isMadeOf(app.made, parts)) app.made = null;
-  const of = parts.settings, looked = el('div'), told = el('div', {}, app.made ? madePart(app.made) : app.isRunStopped ? p('The files were changed, so the run was stopped: run the market again.') : '');
+  const of = parts.settings, looked = el('div'), told = el('div', {}, app.made && isMadeOf(app.made, parts) ? madePart(app.made) : app.isRunStopped ? p('The files were changed, so the run was stopped: run the market again.') : '');
   let isRunning = false;
   const run = async values => {
     const wrong = wrongField(values);
     if (wrong) {
       markField(wrong);
-      return looked.replaceChildren(fault('A setting is no number', `${wrong}: ${quoted(values[wrong])} stands there. Expected: ${wrong === 'steps' ? '' : 'a whole number, '}${RANGES[wrong]}, without point, exponent or sign.`));
+      return looked.replaceChildren(fault('A setting is no number', `${wrong}: ${quoted(values[wrong])} stands there. Expected: ${wrong === 'steps' ? '' : 'a whole number, '}${RANGES[wrong]}, without point, exponent, sign or leading zeros.`));
     }
     looked.replaceChildren();
     told.replaceChildren();
     isRunning = app.isRunning = true;
+    app.isRunStopped = false;
     await runMarket(parts, settingsFile(values), told);
     isRunning = app.isRunning = false;
   };

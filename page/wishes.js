@@ -45,7 +45,7 @@ function sessionsWords(sessions, order) {
     if (at < 0) lacking.push(size);
     else left.splice(at, 1);
   }
-  const sized = it => `${it.it.name} (${plural(it.size, 'command')})`, isSame = (one, other) => one.length === other.length && one.every((it, at) => it === other[at]);
+  const sized = it => `${it.it.name} (${plural(it.size, 'command')})`;
   const twice = sessions.flatMap((it, at) => sessions.slice(0, at).filter(other => it.bytes.length && isSame(it.bytes, other.bytes)).map(other => `${it.name} is the same as ${other.name}: remove one of them.`));
   return [
     `The order of the text takes ${shortList(wanted.map((size, at) => `${plural(size, 'command')} of session ${at + 1}`))}. Given are ${shortList(here.map(sized))}.`,

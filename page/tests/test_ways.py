@@ -387,6 +387,12 @@ class Ways(unittest.TestCase):
         self.click("Run a market")
         self.assertIn("Save the published text", self.words("#run-answer"))
         self.assertRegex(self.words("#run-answer"), r"accept \d+; turns 0;")
+        self.give(["desk.session", "web.session"])
+        self.verdict("This text holds")
+        self.assertIn("Save the published text", self.words("#run-answer"))
+        self.give(["desk.session"], {"desk.session": b"clear n.jones\n"})
+        self.verdict("The text and these sessions do not fit together")
+        self.assertEqual("", self.words("#run-answer"))
 
     def submit(self, **settings: str) -> None:
         """Writes settings into the form and runs the market."""
