@@ -164,7 +164,7 @@ function accepted(market, unused) {
   $('files').open = false;
   verdict('right', 'This text holds', p(`${parts.text.name} was checked in ${timed(ms)}: ${plural(roll.length, 'student')}, ${plural(catalogue.length, 'section')}. `
     + 'In the second stage each student has the best bundle that its budget buys at the published prices. '
-    + 'At each turn of the aftermarket the student takes the best of what it holds and what is free. At no time has a section more students than seats.'),
+    + 'At each turn of the aftermarket the student takes the best of what it holds and what is free. At no time has a section more students than seats. “Whole text” says what that means, and what it does not mean.'),
     unused.length ? p(`The manifest does not name ${shortList(unused.map(it => it.name))}, so the check left that out.`) : '');
 }
 

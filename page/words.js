@@ -37,31 +37,34 @@ function recordWords(kind, row, cause, text) {
   return at(cause === 'meetings' ? 5 : 6) + '.';
 }
 
-// Where a text stops to be JSON, if the browser tells it.
-function jsonPlace(text) {
+// What the browser says of a text that is not JSON; nothing of one that is.
+function jsonFault(text) {
   try {
     JSON.parse(text);
+    return '';
   } catch (fault) {
-    const [, row, column] = /line (\d+) column (\d+)/.exec(fault.message) ?? [];
-    if (row) return `, line ${row}, column ${column}`;
+    return fault.message;
   }
-  return '';
+}
+
+const isJson = text => !jsonFault(text);
+
+// Where a text stops to be JSON, if the browser tells it.
+function jsonPlace(text) {
+  const [, row, column] = /line (\d+) column (\d+)/.exec(jsonFault(text)) ?? [];
+  return row ? `, line ${row}, column ${column}` : '';
 }
 
 // Whether a text is a JSON object, which settings it lacks, and what it has that is none.
 function settingsLacks(text) {
-  let found = null;
-  try {
-    found = JSON.parse(text);
-  } catch {
-    // (the text is no JSON)
-  }
+  const found = isJson(text) ? JSON.parse(text) : null;
   const isObject = found !== null && typeof found === 'object' && !Array.isArray(found), names = isObject ? Object.keys(found) : [];
   return { isObject, lacking: Object.keys(RANGES).filter(it => !names.includes(it)), strange: names.filter(it => !Object.hasOwn(RANGES, it)) };
 }
 
 function settingsWords(cause, text) {
   const [, key] = /(?:missing|range of) (\w+)$/.exec(cause) ?? [];
+  if (cause === 'not json' && isJson(text)) return 'The program takes it for no JSON: a number in it is beyond what 64 bits hold (1e400), an escape is half a pair, brackets are nested deeper than 127, or it is not in UTF-8.';
   if (cause === 'not json') return 'It is not JSON (a comma, a quote or a bracket too many or too few).';
   if (cause === 'not an object') return 'It is JSON, but no object: the settings stand between { and }.';
   if (cause === 'unknown key') return `It has ${listed(settingsLacks(text).strange.map(quoted))}, which is no setting: the settings are ${listed(Object.keys(RANGES))}. Capital letters count.`;
@@ -121,10 +124,26 @@ function causesOf(finding, parts) {
   const isSecond = records(decoded(parts.catalogue.bytes))[0].length > 5 || records(decoded(parts.roll.bytes))[0].length > 4, first = `course-match ${isSecond ? 2 : 1}`;
   return [
     marks.length ? `${parts.text.name} ${marks.join(' and ')}. No published text does: an editor, a spreadsheet or the mail saved it anew. Take the file as it was published.` : '',
+    ...marks.length ? [] : formWords(finding, parts),
     finding === 'line 1 form' && !marks.length ? `By the headers of ${parts.catalogue.name} and ${parts.roll.name} the first line is to be “${first}”.` : '',
     ...strangersIn(decoded(bytes), 'budget', rollIn(parts), 'student', parts.roll.name),
     ...strangersIn(decoded(bytes), 'price', catalogueIn(parts), 'section', parts.catalogue.name),
   ].filter(Boolean);
+}
+
+// How a line begins that is due, and which of its sections are none; nothing where it begins so and has none such.
+function formWords(finding, parts) {
+  const [, number] = /^line (\d+) form$/.exec(finding) ?? [];
+  if (!number) return [];
+  const catalogue = catalogueIn(parts), roll = rollIn(parts), lines = decoded(parts.text.bytes).split('\n'), text = lines[number - 1] ?? '';
+  const at = linesOf(roll.length, catalogue.length, turnCount(lines, linesOf(roll.length, catalogue.length, 0).turns));
+  const named = [['budget', at.budgets, roll], ['start', at.starts, catalogue], ['price', at.prices, catalogue], ['bundle', at.bundles, roll], ['final', at.finals, roll], ['used', at.used, catalogue]];
+  const [word, from, table] = named.find(([, first, all]) => number >= first && number < first + all.length) ?? [], due = word && `${word} ${table[number - from].name} `;
+  const [, bundle = ''] = /\[([^\]]*)\]/.exec(text) ?? [], strange = bundle.split(',').filter(it => it && !catalogue.some(that => that.name === it));
+  return [
+    due && !text.startsWith(due) ? `The line that is due there begins with “${due.trim()}”.` : '',
+    strange.length ? `${parts.catalogue.name} has no section ${listed(strange)}.` : '',
+  ];
 }
 
 // How the names of a text's lines differ from those of a table, in words; nothing where they do not.

@@ -194,6 +194,17 @@ class Ways(unittest.TestCase):
         self.give(["published.txt"], {"published.txt": (TERM / "published.txt").read_bytes().replace(b"course-match 2", b"course-match 1")})
         self.assertIn("the first line is to be “course-match 2”", self.verdict("This text does not hold"))
 
+    def test_line_that_is_due_is_told(self) -> None:
+        text = (TERM / "published.txt").read_bytes()
+        for changed, words in (
+            (text.replace(b"budget n.jones ", b"budget n.johns "), "The line that is due there begins with “budget n.jones”."),
+            (text.replace(b"final n.jones [ACCT-611-B,", b"final n.jones [ACCT-611-X,"), "catalogue.csv has no section ACCT-611-X."),
+        ):
+            with self.subTest(words=words):
+                self.give(FILES, {"published.txt": changed})
+                self.tab.wait(f"$('verdict').textContent.includes({json.dumps(words)}) && !app.works")
+                self.assertIn("The line does not have the form that is due there.", self.verdict("This text does not hold"))
+
     def test_sessions_that_do_not_fit_are_told(self) -> None:
         web = (TERM / "web.session").read_bytes()
         for names, changed, words in (
@@ -273,6 +284,7 @@ class Ways(unittest.TestCase):
         ):
             self.assertIn(words, told)
         self.assertNotIn("costs", told)
+        self.assertIn("“Whole text” says what that means, and what it does not mean.", self.words("#verdict"))
         self.pictures("student")
 
     def test_trees_are_read_as_the_guide_reads_them(self) -> None:
@@ -552,6 +564,7 @@ class Ways(unittest.TestCase):
                 "settings.json: The setting spread is out of its range. Expected: a whole number, 0 to 49",
             ),
             ({"settings.json": settings.replace(b"7,", b"7")}, "settings.json, line 4, column 3: It is not JSON"),
+            ({"settings.json": settings.replace(b"7,", b"1e400,")}, "settings.json: The program takes it for no JSON: a number in it is beyond"),
         ):
             with self.subTest(words=words):
                 self.give(FILES, changed)
