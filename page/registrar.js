@@ -144,10 +144,10 @@ async function runMarket(parts, settings, told) {
 // What a run without prices says. What is wrong with a setting is told of the form, in which it stands.
 function refusedRun({ title, words, help }, answer, inputs) {
   const [, least] = /least error (\d+)\n$/.exec(answer.text ?? '') ?? [], [, number] = /^input (\d+) row/.exec(answer.text ?? '') ?? [];
-  if (inputs[number - 1]?.kind === 'settings') {
-    const [, name] = /The setting (\w+)/.exec(words) ?? [];
-    markField(name);
-    return [fault('A setting is out of its range', words.replace(/^settings\.json[^:]*: /, ''))];
+  const [, name] = inputs[number - 1]?.kind === 'settings' ? /The setting (\w+)/.exec(words) ?? [] : [];
+  if (name) {
+    markField(name, words.replace(/^settings\.json[^:]*: /, ''));
+    return [];
   }
   const set = () => {
     $('setting-accept').value = least;
@@ -157,12 +157,25 @@ function refusedRun({ title, words, help }, answer, inputs) {
   return [fault(title, words, help ? p(help) : '', least ? button(`Set “accept” to ${least}`, set) : '')];
 }
 
-// What went wrong with the settings that stand in the form: it goes when one of them is changed.
+// What a run says of the settings that stand in the form: it goes when one of them is changed.
 const fault = (title, words, ...more) => el('div', { class: 'fault' }, el('h3', {}, title), p(words), ...more);
 
-function markField(name) {
-  $(`setting-${name}`)?.setAttribute('aria-invalid', 'true');
-  $(`setting-${name}`)?.focus();
+// Says below a field of the form what is wrong with it.
+function markField(name, words) {
+  const field = $(`setting-${name}`);
+  field.after(el('p', { class: 'fault', id: `wrong-${name}` }, words));
+  field.setAttribute('aria-invalid', 'true');
+  field.setAttribute('aria-describedby', `wrong-${name} about-${name}`);
+  field.focus();
+}
+
+// Takes away what is told of settings, as one of them is changed or the market is run.
+function forgetFaults() {
+  document.querySelectorAll('#registrar .fault').forEach(it => it.remove());
+  for (const it of document.querySelectorAll('#registrar [aria-invalid]')) {
+    it.removeAttribute('aria-invalid');
+    it.setAttribute('aria-describedby', `about-${it.name}`);
+  }
 }
 
 const NUMBER = /^(0|[1-9]\d*)$/;
@@ -187,10 +200,8 @@ async function registrarView() {
   let isRunning = false;
   const run = async values => {
     const wrong = wrongField(values);
-    if (wrong) {
-      markField(wrong);
-      return looked.replaceChildren(fault('A setting is no number', `${wrong}: ${quoted(values[wrong])} stands there. Expected: ${wrong === 'steps' ? '' : 'a whole number, '}${RANGES[wrong]}, without point, exponent, sign or leading zeros.`));
-    }
+    forgetFaults();
+    if (wrong) return markField(wrong, `${quoted(values[wrong])} stands here. Expected: ${wrong === 'steps' ? '' : 'a whole number, '}${RANGES[wrong]}, without point, exponent, sign or leading zeros.`);
     looked.replaceChildren();
     told.replaceChildren();
     isRunning = app.isRunning = true;
@@ -200,9 +211,8 @@ async function registrarView() {
   };
   const form = el('form', {
     onsubmit: event => { event.preventDefault(); if (!isRunning) run(formValues(form)); },
-    oninput: event => {
-      event.target.removeAttribute('aria-invalid');
-      document.querySelectorAll('#run-answer .fault').forEach(it => it.remove());
+    oninput: () => {
+      forgetFaults();
       app.typed = { of, values: formValues(form) };
     },
   }, of ? settingsNotes(of).map(it => p(el('b', {}, it))) : '', settingsForm(app.typed && app.typed.of === of ? app.typed.values : of ? settingsIn(decoded(of.bytes)) : {}),

@@ -434,19 +434,23 @@ class Ways(unittest.TestCase):
         self.click("Run a market")
         self.tab.wait("$('setting-accept')")
         for name, value, words in (
-            ("accept", "1,000", "accept: “1,000” stands there. Expected: a whole number, 0 to 1000000000000"),
-            ("steps", "3; 12", "steps: “3; 12” stands there. Expected: a list of 1 to 16 numbers"),
+            ("accept", "1,000", "“1,000” stands here. Expected: a whole number, 0 to 1000000000000"),
+            ("steps", "3; 12", "“3; 12” stands here. Expected: a list of 1 to 16 numbers"),
             ("raise", "51", "The setting raise is out of its range. Expected: a whole number, 0 to 50"),
+            ("turns", "10001", "The setting turns is out of its range."),
         ):
             with self.subTest(name=name):
                 self.submit(**{name: value})
-                self.tab.wait(f"$('run-answer').textContent.includes({json.dumps(words)}) && !app.works")
-                self.assertNotIn("settings.json", self.words("#run-answer"))
+                self.tab.wait(f"$('wrong-{name}')?.textContent.includes({json.dumps(words)}) && !app.works")
+                self.assertNotIn("settings.json", self.words("#registrar form"))
+                self.assertIn(f"wrong-{name}", self.tab.evaluate("document.activeElement.getAttribute('aria-describedby')"))
                 self.assertEqual([f"setting-{name}", "true"], self.tab.evaluate("[document.activeElement.id, document.activeElement.getAttribute('aria-invalid')]"))
                 self.submit(accept="100000", turns="0", steps="3 12", **{"raise": "10"})
                 self.tab.wait("document.querySelector('#run-answer h3')?.textContent === 'The market has prices'")
                 self.assertIn("steps 3, 12;", self.words("#run-answer"))
-                self.assertEqual(0, self.tab.evaluate("document.querySelectorAll('[aria-invalid]').length"))
+                self.assertEqual(0, self.tab.evaluate("document.querySelectorAll('[aria-invalid], .fault').length"))
+        self.submit(seed="9" * 400)
+        self.tab.wait("document.querySelector('#run-answer h3')?.textContent === 'A file is refused'")
 
     def test_run_warns_of_wishes_without_effect(self) -> None:
         self.give(["catalogue.csv", "roll.csv", "desk.session", "web.session"], {"web.session": b"Student;Section;Points\nn.jones;FNCE-601-A;100\nrate\n"})
