@@ -108,15 +108,15 @@ function envyOfAll(market) {
     .filter(({ second, end }) => second.sees || end.sees);
   const sees = it => it ? `${it.other}${it.but ? `, but for ${it.but}` : ', for more than one section'}` : '';
   const words = (when, of) => p(`${when} students envy ${plural(sum(of, 0), 'time')} somebody of a budget no greater than their own, and ${plural(sum(of, 1), 'time')} somebody of a greater one.`);
-  return [words('In the second stage', settled), words('In the end', final), tableOf('Who envies whom', [
+  return [words('In the second stage', settled), words('In the end', final), p('Beside the first whom a student envies stands the first section, in the order of the catalogue, but for which it would not.'), tableOf('Who envies whom', [
     { head: 'Student', of: it => it.name, isText: true, show: it => button(it.name, () => app.showStudent(it.name), { class: 'link' }) },
     { head: 'Budget', of: it => it.budget },
     { head: 'Second stage: of no greater budget', of: it => it.second.counts[0] },
     { head: 'Second stage: of a greater budget', of: it => it.second.counts[1] },
-    { head: 'The first of these', of: it => sees(it.second.sees), isText: true },
+    { head: 'First envied, second stage', of: it => sees(it.second.sees), isText: true },
     { head: 'In the end: of no greater budget', of: it => it.end.counts[0] },
     { head: 'In the end: of a greater budget', of: it => it.end.counts[1] },
-    { head: 'The first of those', of: it => sees(it.end.sees), isText: true },
+    { head: 'First envied, in the end', of: it => sees(it.end.sees), isText: true },
   ], rows)];
 }
 
