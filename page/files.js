@@ -54,8 +54,10 @@ function kindOf(name, bytes) {
 // What was dropped can be asked for only before the first wait. To a page on a disk Chrome opens no entry, of a file or of a
 // folder; so files are taken as they come, and folders by their handles, and by entries where a browser has no handles.
 async function filesDropped(transfer) {
-  const items = [...transfer.items].filter(it => it.kind === 'file').map(it =>
-    ({ file: it.getAsFile(), entry: it.webkitGetAsEntry?.(), handle: it.getAsFileSystemHandle?.().catch(() => null) }));
+  const items = [...transfer.items].filter(it => it.kind === 'file').map(it => {
+    const entry = it.webkitGetAsEntry?.();
+    return { file: it.getAsFile(), entry, handle: entry?.isDirectory ? it.getAsFileSystemHandle?.().catch(() => null) : null };
+  });
   const isOne = items.filter(it => it.entry?.isDirectory).length < 2, found = [];
   for (const { file, entry, handle } of items) {
     if (!entry?.isDirectory) found.push({ name: file.name, file });
