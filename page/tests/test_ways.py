@@ -39,6 +39,22 @@ WALKS = """(market => {
   return [count, wrong.slice(0, 5)];
 })(app.market)"""
 
+# What stands on the page, also as the hint of a field, with a contrast to what is behind it of less than 4.5.
+FAINT = """(() => {
+  const numbers = it => it.match(/[\\d.]+/g).map(Number);
+  const light = ([red, green, blue]) => [red, green, blue].map(it => it / 255).map(it => it <= .03928 ? it / 12.92 : ((it + .055) / 1.055) ** 2.4)
+    .reduce((sum, it, at) => sum + it * [.2126, .7152, .0722][at], 0);
+  const behind = it => {
+    const ground = numbers(getComputedStyle(it).backgroundColor);
+    return ground.length === 3 || !it.parentElement ? ground : behind(it.parentElement);
+  };
+  const contrast = (color, ground) => (one => (Math.max(...one) + .05) / (Math.min(...one) + .05))([light(numbers(color)), light(ground)]);
+  const seen = [...document.querySelectorAll('body *')].filter(it => it.checkVisibility());
+  const words = seen.filter(it => [...it.childNodes].some(that => that.nodeType === 3 && that.textContent.trim())).map(it => [it, getComputedStyle(it).color]);
+  const hints = seen.filter(it => it.placeholder).map(it => [it, getComputedStyle(it, '::placeholder').color]);
+  return [...words, ...hints].filter(([it, color]) => contrast(color, behind(it)) < 4.5).map(([it, color]) => `${it.outerHTML.slice(0, 80)} ${color}`);
+})()"""
+
 
 @unittest.skipUnless(chromium() and PAGE.is_file(), "no Chromium, or no page is built")
 class Ways(unittest.TestCase):
@@ -660,6 +676,21 @@ class Ways(unittest.TestCase):
                 "(all => all.filter((it, at) => all.indexOf(it) !== at))([...document.querySelectorAll('[id]')].map(it => it.id))"
             ),
         )
+
+    def test_words_stand_out(self) -> None:
+        self.give(FILES)
+        self.verdict("This text holds")
+        self.show("n.jones")
+        self.tab.evaluate("$('files').open = true")
+        for dark in (False, True):
+            self.tab.look(*SIZES["desktop"], dark)
+            for view in ("One student", "Whole text", "Run a market"):
+                self.click(view)
+                self.assertEqual([], self.tab.evaluate(FAINT), (dark, view))
+            self.submit(turns="many")
+            self.tab.wait("$('wrong-turns')")
+            self.assertEqual([], self.tab.evaluate(FAINT))
+            self.assertEqual("3px", self.tab.evaluate("getComputedStyle(document.activeElement).outlineWidth"))
 
     def test_prints(self) -> None:
         self.click("Take the example term")
