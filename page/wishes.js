@@ -49,8 +49,8 @@ function sessionsWords(sessions, order) {
   const twice = sessions.flatMap((it, at) => sessions.slice(0, at).filter(other => it.bytes.length && isSame(it.bytes, other.bytes)).map(other => `${it.name} is the same as ${other.name}: remove one of them.`));
   return [
     `The order of the text takes ${shortList(wanted.map((size, at) => `${plural(size, 'command')} of session ${at + 1}`))}. Given are ${shortList(here.map(sized))}.`,
-    lacking.length ? `No session of ${shortList(lacking.map(it => plural(it, 'command')))} is left for it: one is missing, or was changed.` : '',
-    left.length ? `The text takes no session of so many commands as ${shortList(left.map(sized))}: it belongs to another text, or was changed.` : '',
+    lacking.length ? `No session of ${shortList(lacking.map(it => plural(it, 'command')))} is left for it: ${lacking.length > 1 ? 'these are missing, or were changed' : 'one is missing, or was changed'}.` : '',
+    left.length ? `The text takes no session of so many commands as ${shortList(left.map(sized))}: ${left.length > 1 ? 'they belong to another text, or were changed' : 'it belongs to another text, or was changed'}.` : '',
     ...twice,
     lacking.length || left.length ? '' : 'Each session has as many commands as the text takes, but they stand in another order: the school says in which.',
   ].filter(Boolean);
