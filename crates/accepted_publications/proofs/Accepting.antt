@@ -1,6 +1,6 @@
 -- What is published is accepted.
-use Rattle.std.proofs.Common.{ℕ, zero, suc, ◌≡◌, ◌<◌, ◌≤◌, ◌+◌, ◌-◌, ◌*◌, ◌∙◌, List, [], ◌∷◌, length, map, take, refl, ap, sym, subst, inl, inr, arith}
-use Rattle.std.specs.Prelude.{Some, slice_get, slice_index, slice_index_or, zip}
+use Rattle.std.proofs.Common.{ℕ, zero, suc, ◌≡◌, ◌<◌, ◌≤◌, ◌+◌, ◌-◌, ◌*◌, ◌∙◌, List, [], ◌∷◌, length, take, refl, ap, sym, subst, inl, inr, arith}
+use Rattle.std.specs.Prelude.{Some, slice_get, slice_index, slice_index_or}
 use Rattle.std.specs.List.{AllZip}
 use Rattle.std.proofs.Math.Nat.{mul-le-mul_right, suc-mul}
 use Rattle.std.proofs.lemmas.Bool.{cases_lt}
@@ -9,7 +9,6 @@ use Rattle.std.proofs.lemmas.Option.{get_or_from_slice_get, slice_get-get_or, sl
 use Rattle.std.proofs.lemmas.Slice.Zip.{AllZip-long}
 use Rattle.market_units.specs.declared.units.Tokens.{Tokens}
 use Rattle.bundle_rules.specs.Demand.{price_in}
-use Rattle.bundle_rules.specs.Places.{places_from}
 use Rattle.budget_draw.specs.Budgets.{raised_by}
 use Rattle.demand_api.specs.Crowds.{CrowdData, Student, holders}
 use Rattle.aftermarket_stage.specs.Turns.{IsQuiet, IsTurn, TurnData, after_turns}
@@ -28,16 +27,18 @@ use Rattle.published_market.specs.Turns.{IsPublishedTurn, no_turn, offer_at}
 use Rattle.published_market.proofs.Prices.{price_in_tokens}
 use Rattle.published_market.proofs.Publishable.{published_is_publication}
 use Rattle.published_market.proofs.Sentences.{stage_two_within}
-use Rattle.published_market.proofs.Turning.{made_each, same_held}
+use Rattle.published_market.proofs.Turning.{same_held}
 use Rattle.certificate_checker.specs.Certificates.{HoldsOf, IsAccepted, IsUseTold}
 use Rattle.certificate_checker.specs.Firsts.{AllBelow}
 use Rattle.certificate_checker.specs.Students.{IsProvedBundle, offer_in, proved_in}
 use Rattle.certificate_checker.specs.Terms.{TermsData}
 use Rattle.certificate_checker.specs.Turns.{EndsQuietly, HasQuietPass, IsDue, IsQuietTurn, IsRightTurn, held_before, order_in, turn_in, turn_offer}
 use Rattle.certificate_checker.proofs.Progressing.{next_pass}
-use Rattle.certificate_checker.proofs.Turning.{held_length}
 use Rattle.accepted_publications.specs.Laws.{CertificateOfPublished, PublishedIsAccepted}
 use Rattle.accepted_publications.proofs.Passing.{ArePassesOf, IsAt, each_at, passes_of, turn_at}
+use Rattle.certificate_checker.proofs.Optimal.{used_at}
+use Rattle.published_parts.proofs.HeldAfter.{length-held_after}
+use Rattle.aftermarket_stage.proofs.Passing.{made_each}
 
 -- the pass and the place in it of a number below so many passes
 pub record IsSplit (students passes k : ℕ) : Type 0 where
@@ -67,14 +68,6 @@ zip_take R (suc k) [] [] are = tt
 zip_take R (suc k) (x ∷ xs) (y ∷ ys) are = (are.0, zip_take R k xs ys are.1)
 zip_take R (suc k) [] (y ∷ ys) are = absurd are
 zip_take R (suc k) (x ∷ xs) [] are = absurd are
-
--- of each section the count and the seats
-used_at : (f : ℕ → ℕ) (first : ℕ) (seats : List ℕ) (k : ℕ) → k < length seats
-    → slice_index_or (zip (map f (places_from first (length seats))) seats) k (0, 0) ≡ (f (first + k), slice_index seats k)
-used_at f first [] k low = absurd (omega arith)
-used_at f first (seat ∷ seats) zero low = let here : first ≡ first + 0 = omega arith in ap (λ s. (f s, seat)) here
-used_at f first (seat ∷ seats) (suc k) low =
-    let there : suc first + k ≡ first + suc k = omega arith in used_at f (suc first) seats k (omega arith) ∙ ap (λ s. (f s, slice_index seats k)) there
 
 module _ (crowd : CrowdData) (seats : List ℕ) (settings : Settings) (lengths : Lengths) (p : Publication) (is : IsOutcome crowd seats settings lengths p) where
   abbrev terms : TermsData
@@ -118,7 +111,7 @@ module _ (crowd : CrowdData) (seats : List ℕ) (settings : Settings) (lengths :
       (passes_of (IsTurn (terms_at crowd seats prices settings.raise)) crowd 1 (demanded p) is.turns.made.by_pass is.turns.made.whole)
 
   held_each : (k : ℕ) → length (held_before p k) ≡ students
-  held_each k = held_length (demanded p) (take k p.turns) ∙ length-map p.bundles (λ (proved : Proved). proved.bundle) ∙ bundles_long
+  held_each k = length-held_after (demanded p) (take k p.turns) ∙ length-map p.bundles (λ (proved : Proved). proved.bundle) ∙ bundles_long
 
   -- a printed turn is without a change where the turn that was made is, and the other way round
   quiet_printed : (k : ℕ) → k < length p.turns → IsAt IsQuiet (demanded p) turns k → IsQuietTurn p k

@@ -14,6 +14,7 @@ use Rattle.certificate_checker.specs.Turns.{order_in}
 use Rattle.published_market.specs.Turns.{no_turn}
 use Rattle.certificate_checker.proofs.Reading.{moved}
 use Rattle.certificate_checker.proofs.Turning.{order_length}
+use Rattle.aftermarket_stage.proofs.Turning.{after_append}
 
 -- the turn of a number
 abbrev pub turn_at : List TurnData → ℕ → TurnData
@@ -35,10 +36,6 @@ each_of : (Wanted : List (List ℕ) → TurnData → Type 0) (held : List (List 
 each_of Wanted held [] all = tt
 each_of Wanted held (turn ∷ turns) all = (all 0 (omega arith), each_of Wanted (after_turn held turn) turns (λ k low. all (suc k) (omega arith)))
 
-after_both : (held : List (List ℕ)) (front later : List TurnData) → after_turns held (front ++ later) ≡ after_turns (after_turns held front) later
-after_both held [] later = refl
-after_both held (turn ∷ front) later = after_both (after_turn held turn) front later
-
 -- so it is of a turn in the front and in the whole, and of one behind the front
 module _ (Wanted : List (List ℕ) → TurnData → Type 0) (held : List (List ℕ)) (front later : List TurnData) where
   held_in_front : (k : ℕ) → k < length front → after_turns held (take k (front ++ later)) ≡ after_turns held (take k front)
@@ -51,7 +48,7 @@ module _ (Wanted : List (List ℕ) → TurnData → Type 0) (held : List (List �
   to_front k low is = moved Wanted _ _ _ _ (sym (held_in_front k low)) (sym (get_or_append_left front later no_turn k low)) is
 
   held_behind : (k : ℕ) → after_turns held (take (length front + k) (front ++ later)) ≡ after_turns (after_turns held front) (take k later)
-  held_behind k = ap (after_turns held) (take-append-add front later k) ∙ after_both held front (take k later)
+  held_behind k = ap (after_turns held) (take-append-add front later k) ∙ after_append held front (take k later)
 
   of_behind : (k : ℕ) → IsAt Wanted held (front ++ later) (length front + k) → IsAt Wanted (after_turns held front) later k
   of_behind k is = moved Wanted _ _ _ _ (held_behind k) (get_or-append-add front later k no_turn) is

@@ -3,6 +3,7 @@ use Rattle.std.proofs.Common.{◌≡◌, ◌<◌, ℕ, true, false, List, [], �
 use Rattle.std.specs.Prelude.{ℤ, ◌<ℤ◌, int_lt, IfSome, IfNone}
 use Rattle.std.proofs.lemmas.Int.{ints}
 use Rattle.std.proofs.lemmas.Bool.{cases_Bool}
+use Rattle.plain_facts.proofs.Numbers.{true_lt_signed}
 use Rattle.market_units.specs.Members.{has}
 use Rattle.bundle_rules.specs.Sets.{IsAscending}
 use Rattle.bundle_rules.proofs.Feasibility.{place_of_rated}
@@ -17,9 +18,6 @@ use Rattle.bundle_bounds.proofs.BelowLimit.{limit, below_prunes, prunes_below, f
 
 below_true : (a b : ℤ) → a <ℤ b → int_lt a b ≡ true
 below_true a b h = grind (arith, ints)
-
-true_below : (a b : ℤ) → int_lt a b ≡ true → a <ℤ b
-true_below a b h = grind (arith, ints)
 
 not_below : (a b : ℤ) → int_lt a b ≡ false → ¬ (a <ℤ b)
 not_below a b h = grind (arith, ints)
@@ -41,7 +39,7 @@ is_first : (most : ℤ) (bs : List (Leaf × ℤ)) (leaf : Leaf) → first_below 
 is_first most [] leaf is = cc is
 is_first most (b ∷ bs) leaf is =
     elim (cases_Bool (int_lt b.1 most)) [
-      | inl below ↦ let some : Some b.0 ≡ Some leaf = rw below at is in inl (true_below b.1 most below, (let same : b.0 ≡ leaf = cc some in same))
+      | inl below ↦ let some : Some b.0 ≡ Some leaf = rw below at is in inl (true_lt_signed b.1 most below, (let same : b.0 ≡ leaf = cc some in same))
       | inr above ↦ inr (not_below b.1 most above, is_first most bs leaf (rw above at is))
     ]
 

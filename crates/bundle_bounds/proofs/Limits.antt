@@ -82,7 +82,7 @@ pub if_none-next : (limit : ℤ) (b : Leaf × ℤ) (bs : List (Leaf × ℤ)) (r 
 if_none-next limit b bs None above h = (above, h)
 if_none-next limit b bs (Some leaf) above h = h
 
-all_tail : (P : Prospect → Type 0) (x : Prospect) (xs : List Prospect) → All P (x ∷ xs) → All P xs
+pub all_tail : (P : Prospect → Type 0) (x : Prospect) (xs : List Prospect) → All P (x ∷ xs) → All P xs
 all_tail P x xs all = λ k d low. all (suc k) d (omega arith)
 
 -- what holds of each holds of each but the first

@@ -1,9 +1,11 @@
 -- A place is open exactly where the chosen sections with its own may be taken.
-use Rattle.std.proofs.Common.{◌≡◌, ◌<◌, ◌≤◌, ◌+◌, ◌-◌, ◌++◌, ℕ, Bool, true, false, ◌&&◌, ◌⊎◌, List, [], ◌∷◌, length, refl, sym, ◌∙◌, ap, subst, inl, inr, arith, length-append}
+use Rattle.std.proofs.Common.{◌≡◌, ◌<◌, ◌≤◌, ◌+◌, ◌-◌, ◌++◌, ℕ, true, false, List, [], ◌∷◌, length, sym, ◌∙◌, ap, subst, inl, inr, arith, length-append}
 use Rattle.std.specs.Prelude.{nat_le, not}
 use Rattle.std.proofs.lemmas.Bool.{false≢true}
 use Rattle.std.proofs.lemmas.Bool.Decides.{nat_tests}
 use Rattle.std.proofs.lemmas.List.{map-append, length-map}
+use Rattle.plain_facts.proofs.Numbers.{le_true}
+use Rattle.plain_facts.proofs.Truths.{and_parts, not_true}
 use Rattle.market_units.specs.Totals.{total}
 use Rattle.market_units.proofs.Sums.{total-append}
 use Rattle.market_units.specs.Members.{has}
@@ -19,14 +21,7 @@ use Rattle.bundle_bounds.specs.Laws.{IsTakable, IsNode}
 use Rattle.bundle_bounds.proofs.Openness.{MayBeTaken, is_open-more}
 use Rattle.bundle_bounds.proofs.ByPlace.{place_in-section_at, places-has, has-places, on_menu, taken_places, prices_by_place}
 use Rattle.bundle_bounds.specs.PruningLaws.{OpensWhereTakable}
-
--- a member of a list with one more at its end
-pub has-last : (xs : List ℕ) (s t : ℕ) → has (xs ++ s ∷ []) t ≡ true → (has xs t ≡ true) ⊎ (s ≡ t)
-has-last [] s t is = elim (has-cases s [] t is) [ inl here ↦ inr here | inr there ↦ absurd (false≢true there) ]
-has-last (x ∷ xs) s t is = elim (has-cases x (xs ++ s ∷ []) t is) [
-  | inl here ↦ inl (rw here (has-here t xs))
-  | inr there ↦ elim (has-last xs s t there) [ inl is' ↦ inl (has-there x xs t is') | inr last ↦ inr last ]
-]
+use Rattle.market_units.proofs.Memberships.{has_push}
 
 -- what the test of a place says
 pub record IsOpen (offer : OfferData) (places : List ℕ) (k : ℕ) : Type 0 where
@@ -36,30 +31,22 @@ pub record IsOpen (offer : OfferData) (places : List ℕ) (k : ℕ) : Type 0 whe
   pub credits : credits_at offer.menu.places k ≤ credits_left offer places
   pub courses : 1 ≤ courses_left offer places
 
-pub both : (a b : Bool) → (a && b) ≡ true → (a ≡ true) × (b ≡ true)
-both true b is = (refl, is)
-both false b is = absurd (false≢true is)
-
 le_of : (a b : ℕ) → nat_le a b ≡ true → a ≤ b
 le_of a b h = grind (arith, nat_tests)
 
 pub open_facts : (offer : OfferData) (places : List ℕ) (k : ℕ) → is_open offer places k ≡ true → IsOpen offer places k
 open_facts offer places k is =
-    let a = both (allowed_at offer k) _ is in
-    let b = both (is_apart offer places k) _ a.1 in
-    let c = both (nat_le (price_at offer k) (budget_left offer places)) _ b.1 in
-    let d = both (nat_le (credits_at offer.menu.places k) (credits_left offer places)) _ c.1 in
+    let a = and_parts (allowed_at offer k) _ is in
+    let b = and_parts (is_apart offer places k) _ a.1 in
+    let c = and_parts (nat_le (price_at offer k) (budget_left offer places)) _ b.1 in
+    let d = and_parts (nat_le (credits_at offer.menu.places k) (credits_left offer places)) _ c.1 in
     record { allowed = a.0; apart = b.0; price = le_of _ _ c.0; credits = le_of _ _ d.0; courses = le_of _ _ d.1 }
-
-not_true : (b : Bool) → not b ≡ true → b ≡ false
-not_true true is = absurd (false≢true is)
-not_true false is = refl
 
 apart_from_each : (offer : OfferData) (places : List ℕ) (k : ℕ) → is_apart offer places k ≡ true → (p : ℕ) → has places p ≡ true
     → clash_in offer.menu.clashes k p ≡ false
 apart_from_each offer [] k apart p is = absurd (false≢true is)
 apart_from_each offer (q ∷ places) k apart p is =
-    let parts = both (not (clash_in offer.menu.clashes k q)) _ apart in
+    let parts = and_parts (not (clash_in offer.menu.clashes k q)) _ apart in
     elim (has-cases q places p is) [
       | inl here ↦ ap (clash_in offer.menu.clashes k) (sym here) ∙ not_true _ parts.0
       | inr there ↦ apart_from_each offer places k parts.1 p there
@@ -104,19 +91,19 @@ module _ (offer : OfferData) (menu : IsMenu offer.menu) (k : ℕ) (chosen : List
       record {
         feasible = record {
           set = ascending-last chosen (section_at offer.menu.places k) node.takable.feasible.set chosen_below;
-          rated = λ t in_it. elim (has-last chosen (section_at offer.menu.places k) t in_it) [
+          rated = λ t in_it. elim (has_push chosen (section_at offer.menu.places k) t in_it) [
             | inl before ↦ node.takable.feasible.rated t before
             | inr last ↦ rw (← last, place_of_next) (on_menu_rated offer.menu.places k menu.places.each low)
           ];
-          apart = λ t u in_t in_u other. elim (has-last chosen (section_at offer.menu.places k) t in_t) [
-            | inl before ↦ elim (has-last chosen (section_at offer.menu.places k) u in_u) [
+          apart = λ t u in_t in_u other. elim (has_push chosen (section_at offer.menu.places k) t in_t) [
+            | inl before ↦ elim (has_push chosen (section_at offer.menu.places k) u in_u) [
               | inl before' ↦ node.takable.feasible.apart t u before before' other
               | inr last ↦
                   rw (← last, place_of_next)
                   (sym (menu.clashes.each k (place_in offer.menu.places t) low (on_menu offer chosen node.takable t before)).both_ways
                   ∙ apart_next t before)
             ]
-            | inr last ↦ elim (has-last chosen (section_at offer.menu.places k) u in_u) [
+            | inr last ↦ elim (has_push chosen (section_at offer.menu.places k) u in_u) [
               | inl before' ↦ rw (← last, place_of_next) (apart_next u before')
               | inr last' ↦ absurd (other (sym last ∙ last'))
             ]
@@ -133,7 +120,7 @@ module _ (offer : OfferData) (menu : IsMenu offer.menu) (k : ℕ) (chosen : List
         affordable = fits _ (total offer.price chosen) _ 0 _ (total-append offer.price chosen (section_at offer.menu.places k ∷ []))
             (subst (λ n. price_at offer k ≤ offer.budget - n) (prices_by_place offer chosen (on_menu offer chosen node.takable)) open_.price)
             node.takable.affordable;
-        within = λ t in_it. elim (has-last chosen (section_at offer.menu.places k) t in_it) [
+        within = λ t in_it. elim (has_push chosen (section_at offer.menu.places k) t in_it) [
           | inl before ↦ node.takable.within t before
           | inr last ↦ ap offer.allowed (sym last) ∙ open_.allowed
         ];
@@ -158,7 +145,7 @@ pub node_with : (offer : OfferData) (k : ℕ) (chosen : List ℕ) → IsMenu off
     → IsTakable offer (chosen ++ section_at offer.menu.places k ∷ []) → IsNode offer (k + 1) (chosen ++ section_at offer.menu.places k ∷ [])
 node_with offer k chosen menu low node takable = record {
   takable = takable;
-  decided = λ s is. elim (has-last chosen (section_at offer.menu.places k) s is) [
+  decided = λ s is. elim (has_push chosen (section_at offer.menu.places k) s is) [
     | inl before ↦ let below : place_in offer.menu.places s < k = node.decided s before in omega arith
     | inr last ↦
         let at : place_in offer.menu.places s ≡ k =
@@ -180,12 +167,9 @@ pub node_later : (offer : OfferData) (k place : ℕ) (chosen : List ℕ) → k �
 node_later offer k place chosen later node =
     record { takable = node.takable; decided = λ s is. (let below : place_in offer.menu.places s < k = node.decided s is in omega arith) }
 
-pub le_to : (a b : ℕ) → a ≤ b → nat_le a b ≡ true
-le_to a b h = grind (arith, nat_tests)
-
 pub open_of : (offer : OfferData) (places : List ℕ) (k : ℕ) → IsOpen offer places k → is_open offer places k ≡ true
 open_of offer places k is =
-    rw (is.allowed, is.apart, le_to _ _ is.price, le_to _ _ is.credits) (le_to _ _ is.courses)
+    rw (is.allowed, is.apart, le_true _ _ is.price, le_true _ _ is.credits) (le_true _ _ is.courses)
 
 pub opens_where_takable : OpensWhereTakable
 opens_where_takable offer k place chosen menu node later low =

@@ -1,20 +1,23 @@
 -- What completes the chosen places is a choice of open ones.
 use Rattle.std.proofs.Common.{◌≡◌, ◌≢◌, ℕ, zero, suc, ◌+◌, ◌-◌, ◌≤◌, ◌<◌, Bool, true, false, ◌==◌, List, [], ◌∷◌, ◌++◌, length, refl, sym, ap, ◌∙◌, arith, inl, inr, length-append}
 use Rattle.std.specs.Prelude.{nat_le}
-use Rattle.std.proofs.lemmas.Bool.{cases_Bool, cases_order, cases_lt, ne_eqb, false≢true, true≢false}
+use Rattle.std.proofs.lemmas.Bool.{cases_Bool, cases_order, cases_lt, false≢true, true≢false}
 use Rattle.std.proofs.lemmas.Bool.Decides.{nat_tests}
+use Rattle.plain_facts.proofs.Numbers.{le_true}
 use Rattle.market_units.specs.Totals.{total}
 use Rattle.market_units.specs.Subsets.{chosen}
 use Rattle.market_units.proofs.Sums.{total-append}
 use Rattle.market_units.specs.Members.{has}
 use Rattle.bundle_rules.specs.Sets.{AllAbove, IsAscending}
-use Rattle.bundle_rules.specs.Existence.Members.{has-here, has-there, has-cases, has-above}
+use Rattle.bundle_rules.specs.Existence.Members.{has-here, has-there, has-cases, has-above, has-append_left}
 use Rattle.bundle_rules.specs.declared.menu.Rated.{Rated}
 use Rattle.bundle_rules.specs.Menus.{course_at, IsMenu, clash_in, credits_at}
 use Rattle.bundle_bounds.specs.Offers.{OfferData, price_at, allowed_at}
 use Rattle.bundle_bounds.specs.Courses.{has_course}
 use Rattle.bundle_bounds.specs.Opens.{budget_left, credits_left, courses_left, is_apart, is_open, opens_from, first_of_course, prospects}
 use Rattle.bundle_bounds.proofs.Courses.{AreApartCourses}
+use Rattle.bundle_rules.proofs.FirstDifference.{strip}
+use Rattle.market_units.proofs.Memberships.{member_total}
 
 -- places that may be taken together
 pub record MayBeTaken (offer : OfferData) (ps : List ℕ) : Type 0 where
@@ -32,9 +35,6 @@ not_below s ss t above low =
       | inl is ↦ let high = has-above s ss t above is in absurd (omega arith)
       | inr none ↦ none
     ]
-
-pub strip : (c : ℕ) (ss : List ℕ) (t : ℕ) → c ≢ t → has (c ∷ ss) t ≡ has ss t
-strip c ss t apart = rw (ne_eqb c t apart) refl
 
 -- two ascending lists with the same members below k, all of the one below k: the other begins with it
 pub front_of : (k : ℕ) (cs ps : List ℕ) → IsAscending cs → IsAscending ps → ((c : ℕ) → has cs c ≡ true → c < k) → ((p : ℕ) → p < k → has ps p ≡ has cs p)
@@ -61,18 +61,6 @@ front_of k (c ∷ cs) (p ∷ ps) up up' low same =
           absurd (false≢true (sym none ∙ same c c_low ∙ has-here c cs))
     ]
 
-member_total : (f : ℕ → ℕ) (ds : List ℕ) (d : ℕ) → has ds d ≡ true → f d ≤ total f ds
-member_total f [] d is = absurd (false≢true is)
-member_total f (x ∷ ds) d is =
-    elim (has-cases x ds d is) [
-      | inl here ↦ rw here (omega arith)
-      | inr there ↦
-          let rest = member_total f ds d there in
-          let t : ℕ = total f ds in
-          let rest' : f d ≤ t = rest in
-          let goal : f d ≤ f x + t = omega arith in goal
-    ]
-
 member_length : (ds : List ℕ) (d : ℕ) → has ds d ≡ true → 1 ≤ length ds
 member_length [] d is = absurd (false≢true is)
 member_length (x ∷ ds) d is = omega arith
@@ -83,19 +71,6 @@ none_clash offer (c ∷ cs) d none = rw (none c (has-here c cs)) (none_clash off
 
 pub le_false : (a b : ℕ) → b < a → nat_le a b ≡ false
 le_false a b h = grind (arith, nat_tests)
-
-pub le_true : (a b : ℕ) → a ≤ b → nat_le a b ≡ true
-le_true a b h = grind (arith, nat_tests)
-
--- the rest of an ascending list ascends
-pub ascending_rest : (xs ys : List ℕ) → IsAscending (xs ++ ys) → IsAscending ys
-ascending_rest [] ys up = up
-ascending_rest (x ∷ xs) ys up = ascending_rest xs ys up.1
-
-has-append_left : (xs ys : List ℕ) (s : ℕ) → has xs s ≡ true → has (xs ++ ys) s ≡ true
-has-append_left [] ys s is = absurd (false≢true is)
-has-append_left (x ∷ xs) ys s is =
-    elim (has-cases x xs s is) [ inl here ↦ rw here (has-here s (xs ++ ys)) | inr there ↦ has-there x (xs ++ ys) s (has-append_left xs ys s there) ]
 
 pub has-append_right : (xs ys : List ℕ) (s : ℕ) → has ys s ≡ true → has (xs ++ ys) s ≡ true
 has-append_right [] ys s is = is

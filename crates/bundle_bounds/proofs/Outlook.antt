@@ -17,10 +17,7 @@ use Rattle.bundle_rules.specs.Existence.Places.{rating_at-is, credits_at-is}
 use Rattle.bundle_bounds.specs.declared.prospects.Prospect.{Prospect}
 use Rattle.bundle_bounds.specs.Offers.{OfferData, offer_of, allowed_at, price_at}
 use Rattle.bundle_bounds.specs.Opens.{above_zero, is_apart, is_open, budget_left, credits_left, courses_left, opens_from, open_places, first_of_course, prospect, prospects}
-
-pub total-map : {A B : Type 0} (f : B → ℕ) (g : A → B) (xs : List A) → total f (map g xs) ≡ total (λ x. f (g x)) xs
-total-map f g [] = refl
-total-map f g (x ∷ xs) = ap (λ n. f (g x) + n) (total-map f g xs)
+use Rattle.market_units.proofs.Sums.{total-map}
 
 course_at-is : (places : List Rated) (k : ℕ) (rated : Rated) → slice_get places k ≡ Some rated → course_at places k ≡ rated.course
 course_at-is [] k rated is = cc is

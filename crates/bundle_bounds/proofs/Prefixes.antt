@@ -1,5 +1,5 @@
 -- Bounds of a resource, looked at one after another.
-use Rattle.std.proofs.Common.{◌≡◌, ◌≤◌, ◌<◌, ◌+◌, ℕ, suc, ◌*◌, ◌/◌, ◌&&◌, List, [], ◌∷◌, ◌++◌, length, get_or, take, drop, refl, sym, ◌∙◌, ap, subst, arith, inl, inr}
+use Rattle.std.proofs.Common.{◌≡◌, ◌≤◌, ◌<◌, ◌+◌, ℕ, ◌*◌, ◌/◌, ◌&&◌, List, [], ◌∷◌, ◌++◌, length, get_or, take, drop, refl, sym, ◌∙◌, ap, subst, arith, inl, inr}
 use Rattle.std.specs.Prelude.{ℤ, pos, ◌+ℤ◌, ◌≤ℤ◌, ◌<ℤ◌, nat_lt, All}
 use Rattle.std.proofs.Math.Nat.{div-le_self}
 use Rattle.std.proofs.lemmas.Int.{ints}
@@ -14,13 +14,10 @@ use Rattle.bundle_bounds.specs.Limits.{NoneBelow, IsFirstBelow}
 use Rattle.bundle_bounds.specs.Known.{IsKnown}
 use Rattle.bundle_bounds.specs.Modest.{IsModest}
 use Rattle.bundle_bounds.proofs.Adding.{drop_here}
-use Rattle.bundle_bounds.proofs.Limits.{Below, first_here, none_later, none-append, first-append_right}
+use Rattle.bundle_bounds.proofs.Limits.{Below, first_here, none_later, none-append, first-append_right, all_tail}
 
 head_of : (P : Prospect → Type 0) (x : Prospect) (xs : List Prospect) → All P (x ∷ xs) → P x
 head_of P x xs all = all 0 x (omega arith)
-
-tail_of : (P : Prospect → Type 0) (x : Prospect) (xs : List Prospect) → All P (x ∷ xs) → All P xs
-tail_of P x xs all = λ k d low. all (suc k) d (omega arith)
 
 module _ (base : ℤ) (limit : ℤ) (rest : ℕ) (resource : Resource) (all : List Prospect) where
   resource_bounds-append : (ps qs : List Prospect)
@@ -69,4 +66,4 @@ module _ (base : ℤ) (limit : ℤ) (rest : ℕ) (resource : Resource) (all : Li
       ] in
       none_later base limit rest resource all p ps
       (λ below. let low : (base +ℤ pos (at_price resource rest (1000 * p.worth / takes_of resource p) all)) <ℤ limit = below.1 in omega (arith, ints))
-      (none_where_known known is covers ps (tail_of IsModest p ps modest))
+      (none_where_known known is covers ps (all_tail IsModest p ps modest))

@@ -3,6 +3,7 @@ use Rattle.std.proofs.Common.{◌≡◌, ℕ, ◌+◌, ◌*◌, ◌-◌, ◌/◌
 use Rattle.std.specs.Prelude.{ℤ, pos, ◌+ℤ◌, ◌*ℤ◌, ◌≤ℤ◌, nat_lt}
 use Rattle.std.proofs.lemmas.Bool.{cases_Bool, cases_lt}
 use Rattle.std.proofs.lemmas.Int.{ints}
+use Rattle.plain_facts.proofs.Numbers.{rest_fits}
 use Rattle.market_units.specs.Totals.{total}
 use Rattle.market_units.specs.Subsets.{chosen}
 use Rattle.market_units.proofs.Sums.{total-append}
@@ -22,8 +23,9 @@ use Rattle.bundle_bounds.specs.Bounds.{base_of, over_price, at_price, resource_b
 use Rattle.bundle_bounds.specs.Laws.{IsTakable, Completes, EachAtLeast, BoundSoundness}
 use Rattle.bundle_bounds.proofs.Courses.{AreApartCourses, chosen_by_course, priced_within}
 use Rattle.bundle_bounds.proofs.Gains.{gain, utility-append, gain_bound}
-use Rattle.bundle_bounds.proofs.Openness.{MayBeTaken, ascending_rest, has-append_right, front_of, is_open-more, among_opens, prices_of, credits_of, count_of, courses_apart, other_course}
+use Rattle.bundle_bounds.proofs.Openness.{MayBeTaken, has-append_right, front_of, is_open-more, among_opens, prices_of, credits_of, count_of, courses_apart, other_course}
 use Rattle.bundle_bounds.proofs.ByPlace.{has_by_place, on_menu, taken_places, has-places}
+use Rattle.bundle_rules.specs.Existence.Members.{IsAscending-rest}
 
 each-append : (least : ℤ) (as' bs : List (Leaf × ℤ)) → EachAtLeast least as' → EachAtLeast least bs → EachAtLeast least (as' ++ bs)
 each-append least [] bs first second = second
@@ -82,16 +84,13 @@ module _ (offer : OfferData) (cs : List ℕ) (u : ℤ) (ps : List Prospect) (bs 
         (resource_sound Count ps (fits Count))),
   )
 
-rest_of : (whole front more cap : ℕ) → whole ≡ front + more → whole ≤ cap → more ≤ cap - front
-rest_of whole front more cap split fits = omega arith
-
 -- what completes the chosen places takes no more than they leave
 fits_of : (offer : OfferData) (cs : List ℕ) (bs : List Bool) (opens ds : List ℕ) → chosen bs opens ≡ ds → MayBeTaken offer (cs ++ ds) → (resource : Resource)
     → total (takes_of resource) (chosen bs (prospects offer cs opens)) ≤ left_of offer cs resource
-fits_of offer cs bs opens ds same may Money = rw (prices_of offer cs bs opens, same) (rest_of _ _ _ _ (total-append (price_at offer) cs ds) may.affordable)
+fits_of offer cs bs opens ds same may Money = rw (prices_of offer cs bs opens, same) (rest_fits _ _ _ _ (total-append (price_at offer) cs ds) may.affordable)
 fits_of offer cs bs opens ds same may Credits =
-    rw (credits_of offer cs bs opens, same) (rest_of _ _ _ _ (total-append (credits_at offer.menu.places) cs ds) may.credits)
-fits_of offer cs bs opens ds same may Count = rw (count_of offer cs bs opens, same) (rest_of _ _ _ _ (length-append cs ds) may.courses)
+    rw (credits_of offer cs bs opens, same) (rest_fits _ _ _ _ (total-append (credits_at offer.menu.places) cs ds) may.credits)
+fits_of offer cs bs opens ds same may Count = rw (count_of offer cs bs opens, same) (rest_fits _ _ _ _ (length-append cs ds) may.courses)
 
 -- the bounds are sound for what completes chosen places by further ones
 places_sound : (offer : OfferData) (k : ℕ) (cs ds : List ℕ) → IsMenu offer.menu → MayBeTaken offer (cs ++ ds) → ((c : ℕ) → has cs c ≡ true → c < k)
@@ -102,10 +101,10 @@ places_sound offer k cs ds menu may low high =
     let opens = open_places offer k cs in
     let within : (d : ℕ) → has ds d ≡ true → d < k + (n - k) =
     λ d is. let on = may.on_menu d (has-append_right cs ds d is) in let above = high d is in omega arith in
-    let picked = among_opens offer cs k (n - k) ds (ascending_rest cs ds may.ascending) high within (is_open-more offer k cs ds may low high) in
+    let picked = among_opens offer cs k (n - k) ds (IsAscending-rest cs ds may.ascending) high within (is_open-more offer k cs ds may low high) in
     let bs = picked.0 in
     let same : chosen bs opens ≡ ds = picked.1 in
-    let up : IsAscending (chosen bs opens) = rw same (ascending_rest cs ds may.ascending) in
+    let up : IsAscending (chosen bs opens) = rw same (IsAscending-rest cs ds may.ascending) in
     let among : (p : ℕ) → has (chosen bs opens) p ≡ true → has (cs ++ ds) p ≡ true = λ p is. has-append_right cs ds p (rw same at is) in
     let apart : AreApartCourses (chosen bs (prospects offer cs opens)) =
     courses_apart offer cs bs opens up

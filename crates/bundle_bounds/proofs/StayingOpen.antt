@@ -6,17 +6,18 @@ use Rattle.std.specs.Ordering.{nat_cmp}
 use Rattle.std.specs.FinSet as fin
 use Rattle.std.proofs.lemmas.Bool.{cases_Bool}
 use Rattle.std.proofs.lemmas.List.Folds.{list_all-append}
+use Rattle.plain_facts.proofs.Truths.{and_parts}
 use Rattle.market_units.specs.declared.units.Tokens.{Tokens}
 use Rattle.market_units.specs.Totals.{total, signed_total}
-use Rattle.market_units.proofs.Sums.{total-append}
+use Rattle.market_units.proofs.Sums.{total-append, total-map}
 use Rattle.bundle_rules.specs.declared.menu.Rated.{Rated}
 use Rattle.bundle_rules.specs.Menus.{MenuData, rating_at, credits_at, adjustment_in, clash_in}
 use Rattle.bundle_rules.specs.Existence.Places.{rating_at-is}
 use Rattle.bundle_bounds.specs.declared.prospects.Prospect.{Prospect}
 use Rattle.bundle_bounds.specs.Offers.{OfferData, offer_of, price_at}
 use Rattle.bundle_bounds.specs.Opens.{above_zero, is_apart, is_open, budget_left, credits_left, courses_left, opens_from, prospect, prospects}
-use Rattle.bundle_bounds.proofs.Openings.{open_facts, open_of, both}
-use Rattle.bundle_bounds.proofs.Outlook.{total-map, places-prospects, put_front}
+use Rattle.bundle_bounds.proofs.Openings.{open_facts, open_of}
+use Rattle.bundle_bounds.proofs.Outlook.{places-prospects, put_front}
 use Rattle.bundle_bounds.proofs.Steps.{no_prospect}
 
 -- an open place beside other chosen ones and before other open ones
@@ -85,7 +86,7 @@ module _ (offer : OfferData) (before : List ℕ) (place : ℕ) where
       let facts = open_facts offer (before ++ place ∷ []) t is in
       open_of offer before t record {
         allowed = facts.allowed;
-        apart = (both (is_apart offer before t) _ (sym (apart_split t) ∙ facts.apart)).0;
+        apart = (and_parts (is_apart offer before t) _ (sym (apart_split t) ∙ facts.apart)).0;
         price = less_left (price_at offer t) (budget_left offer before) (price_at offer place) (subst (λ n. price_at offer t ≤ n) budget_less facts.price);
         credits =
             less_left (credits_at offer.menu.places t) (credits_left offer before) (credits_at offer.menu.places place)

@@ -1,11 +1,11 @@
 -- Ascending places.
 use Rattle.std.proofs.Common.{◌≡◌, ◌↔◌, ◌<◌, ◌≤◌, ◌-◌, ℕ, List, [], ◌∷◌, length, get_or, take, drop, IsTrue, Bool, arith, ap, sym, subst, ◌∙◌}
+use Rattle.plain_facts.proofs.Lists.{first_rest}
 use Rattle.bundle_rules.specs.declared.menu.Rated.{Rated}
 use Rattle.bundle_rules.specs.Sets.{AllAbove, IsAscending}
 use Rattle.bundle_rules.proofs.Later.{no_place, sections}
-use Rattle.bundle_rules.proofs.Firsts.{first_rest}
 
-above_all : (x y : ℕ) (ys : List ℕ) → x < y → AllAbove y ys → AllAbove x ys
+pub above_all : (x y : ℕ) (ys : List ℕ) → x < y → AllAbove y ys → AllAbove x ys
 above_all x y [] low above = tt
 above_all x y (z ∷ zs) low above = (let h : y < z = above.0 in omega arith, above_all x y zs low above.1)
 

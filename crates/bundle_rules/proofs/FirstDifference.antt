@@ -1,8 +1,8 @@
 -- The test of the first difference decides it.
 use Rattle.std.proofs.Common.{◌≡◌, ◌≢◌, ℕ, ◌≤◌, ◌<◌, true, false, ◌==◌, List, [], ◌∷◌, refl, sym, ap, ◌∙◌, arith, inl, inr}
-use Rattle.std.specs.Prelude.{nat_lt}
 use Rattle.std.proofs.lemmas.Bool.{cases_Bool, cases_order, eq-eqb, ne_eqb, false≢true, true≢false}
 use Rattle.std.proofs.lemmas.Bool.Decides.{nat_tests}
+use Rattle.plain_facts.proofs.Numbers.{lt_true, true_lt}
 use Rattle.market_units.specs.Members.{has}
 use Rattle.bundle_rules.specs.Sets.{AllAbove, IsAscending}
 use Rattle.bundle_rules.specs.Existence.Members.{has-here, has-there, has-cases, has-above}
@@ -12,12 +12,6 @@ use Rattle.bundle_rules.specs.Laws.{AheadIsTheFirstDifference}
 
 pub strip : (c : ℕ) (ss : List ℕ) (t : ℕ) → c ≢ t → has (c ∷ ss) t ≡ has ss t
 strip c ss t apart = rw (ne_eqb c t apart) refl
-
-lt_true : (a b : ℕ) → a < b → nat_lt a b ≡ true
-lt_true a b h = grind (arith, nat_tests)
-
-true_lt : (a b : ℕ) → nat_lt a b ≡ true → a < b
-true_lt a b h = grind (arith, nat_tests)
 
 pub ahead_to : (k : ℕ) (ps cs : List ℕ) → IsAscending ps → IsAscending cs → ((c : ℕ) → has cs c ≡ true → c < k) → is_ahead k ps cs ≡ true → IsAhead k ps cs
 ahead_to k [] cs up up' low is = absurd (false≢true is)

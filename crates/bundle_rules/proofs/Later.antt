@@ -1,8 +1,8 @@
 -- The sections of later places.
 use Rattle.std.proofs.Common.{◌≡◌, ◌<◌, ◌≤◌, ◌-◌, ◌++◌, ℕ, List, [], ◌∷◌, length, get_or, take, drop, map, refl, arith, ap, subst, append_assoc}
+use Rattle.plain_facts.proofs.Lists.{first_rest}
 use Rattle.bundle_rules.specs.declared.menu.Rated.{Rated}
 use Rattle.bundle_rules.specs.Sets.{IsAscending}
-use Rattle.bundle_rules.proofs.Firsts.{first_rest}
 use Rattle.bundle_rules.specs.Existence.Members.{IsAscending-front, IsAscending-middle}
 
 abbrev pub no_place : Rated

@@ -5,7 +5,6 @@ pub mod BestBits
 pub mod Bundled
 pub mod EqualBundles
 pub mod Ends
-pub mod Firsts
 pub mod FirstDifference
 pub mod ClashTests
 pub mod Later
@@ -13,6 +12,7 @@ pub mod Ascents
 pub mod Feasibility
 pub mod Choices
 pub mod Tables
+pub mod PlaceLists
 pub mod PlacesFirst
 pub mod Parts
 pub mod GivenBest

@@ -2,13 +2,13 @@
 use Rattle.std.proofs.Common.{ℕ, ◌≡◌, ◌<◌, ◌∙◌, true, false, true≢false, List, [], length, map, get_or, ap, sym, arith}
 use Rattle.std.specs.Prelude.{◌↔◌, nat_eq, not, slice_index, slice_index_or}
 use Rattle.std.specs.Cmp.Lexicographic.{pointwise}
+use Rattle.plain_facts.proofs.Truths.{not_false, not_true}
 use Rattle.bundle_rules.specs.Bundles.{sections_of}
 use Rattle.bundle_rules.specs.declared.bundle.Bundle.{Bundle}
 use Rattle.demand_api.specs.Counting.{AreCounts}
 use Rattle.demand_api.specs.Crowds.{holders}
 use Rattle.held_seats.proofs.Holding.{equal_lists, listed_at, same_lists}
 use Rattle.certificate_checker.proofs.ByPass.{any_default}
-use Rattle.certificate_checker.proofs.Reading.{not_false, not_true}
 
 -- two bundles at a place, by the test of their sections
 pub are_equal : (final held : List Bundle) (after : List (List ℕ)) (k : ℕ) (a b : Bundle) → k < length final → k < length held → a ≡ get_or final k a

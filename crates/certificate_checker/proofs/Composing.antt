@@ -1,6 +1,7 @@
 -- The parts of a check put together.
 use Rattle.std.proofs.Common.{ℕ, suc, ◌≡◌, ◌<◌, ◌≤◌, ◌∙◌, List, [], ◌∷◌, length, map, get_or, refl, ap, sym, subst, arith}
 use Rattle.std.specs.Prelude.{Result, Ok, Err, IfErr, IfOk, IsErrAnd, OnOk}
+use Rattle.std.proofs.lemmas.List.{length-map}
 use Rattle.course_catalog.specs.Sections.{Section}
 use Rattle.student_roll.specs.Students.{Student}
 use Rattle.demand_api.specs.Crowds.{CrowdData, Student as Asked}
@@ -25,14 +26,14 @@ use Rattle.certificate_checker.specs.Orders.{IsOrderFinding}
 use Rattle.certificate_checker.specs.Parts.{CanCheck, nameless}
 use Rattle.certificate_checker.specs.Terms.{TermsData, terms_in}
 use Rattle.certificate_checker.specs.Views.{terms_of}
-use Rattle.certificate_checker.proofs.Reading.{length_map, nameless_sections, nameless_students}
+use Rattle.certificate_checker.proofs.Reading.{nameless_sections, nameless_students}
 pub use Rattle.proof_tree.proofs.Following.{err_from}
 
 -- as many students as the roll has
 pub crowd_length : (market : Market) (streams : List (List Command)) (order : List ℕ) (crowd : CrowdData) → IsCrowdAfter market streams order crowd
     → length crowd.students ≡ length market.roll.students
 crowd_length market streams order crowd is =
-    sym (length_map (λ (student : Asked). student.menu) crowd.students)
+    sym (length-map crowd.students (λ (student : Asked). student.menu))
     ∙ menus_length market.catalog.sections market.roll.students (wanted_in market is.journal) (map (λ (student : Asked). student.menu) crowd.students)
     is.is_crowd.menus
 
@@ -79,10 +80,10 @@ pub can_check : (market : Market) (streams : List (List Command)) (terms : Terms
 can_check market streams terms p is crowd same low = record {
   is_publication =
       renamed (tables_in market) (nameless terms) p
-      (length_map (λ (student : Student). student.name) market.roll.students ∙ sym (crowd_length market streams p.order (terms_of terms).crowd crowd)
+      (length-map market.roll.students (λ (student : Student). student.name) ∙ sym (crowd_length market streams p.order (terms_of terms).crowd crowd)
       ∙ students_length terms.crowd ∙ sym (nameless_students terms))
-      (length_map (λ (section : Section). section.name) market.catalog.sections ∙ sym crowd.is_crowd.sections ∙ sym (nameless_sections terms)) is;
-  seats = ap (λ (t : TermsData). length t.seats) same ∙ length_map (λ (section : Section). section.seats) market.catalog.sections ∙ sym crowd.is_crowd.sections;
+      (length-map market.catalog.sections (λ (section : Section). section.name) ∙ sym crowd.is_crowd.sections ∙ sym (nameless_sections terms)) is;
+  seats = ap (λ (t : TermsData). length t.seats) same ∙ length-map market.catalog.sections (λ (section : Section). section.seats) ∙ sym crowd.is_crowd.sections;
   raise = subst (λ n. n ≤ 50) (sym (ap (λ (t : TermsData). t.raise) same)) low;
 }
 

@@ -1,8 +1,8 @@
 -- Whom a finding names.
-use Rattle.std.proofs.Common.{ℕ, zero, suc, ◌≡◌, ◌<◌, List, [], ◌∷◌, Some, length, sym, arith}
+use Rattle.std.proofs.Common.{ℕ, zero, suc, ◌≡◌, ◌<◌, List, [], ◌∷◌, Some, length, arith}
 use Rattle.std.specs.Prelude.{option_map, slice_get}
-use Rattle.std.proofs.lemmas.List.{get_or-map}
-use Rattle.course_catalog.specs.Sections.{Section, no_section, section_at, section_names}
+use Rattle.std.proofs.lemmas.List.{length-map}
+use Rattle.course_catalog.specs.Sections.{Section}
 use Rattle.student_roll.specs.Students.{Student, names_of}
 use Rattle.market_certificate.specs.Tables.{name_at}
 use Rattle.utility_language.specs.declared.commands.Command.{Command}
@@ -14,7 +14,6 @@ use Rattle.certificate_checker.specs.declared.findings.Finding.TheVariants.{Allo
 use Rattle.certificate_checker.specs.Findings.{IsFirstFinding}
 use Rattle.certificate_checker.specs.Words.{IsNamedIn}
 use Rattle.certificate_checker.proofs.Composing.{crowd_length}
-use Rattle.certificate_checker.proofs.Reading.{length_map}
 
 -- the name of a student and of a section
 pub student_name : (students : List Student) (n : ℕ) (name : List ℕ) → option_map (λ (s : Student). s.name) (slice_get students n) ≡ Some name
@@ -23,16 +22,13 @@ student_name [] n name e = cc
 student_name (s ∷ students) zero name e = cc
 student_name (s ∷ students) (suc n) name e = student_name students n name e
 
-pub section_name : (sections : List Section) (n : ℕ) → n < length sections → (section_at sections n).name ≡ name_at (section_names sections) n
-section_name sections n low = sym (get_or-map (λ (s : Section). s.name) sections n no_section [] low)
-
 -- a student of the crowd is on the roll, and a section of the crowd is in the catalogue
 module _ (market : Market) (streams : List (List Command)) (order : List ℕ) (crowd : CrowdData) (n : ℕ) (is : IsCrowdAfter market streams order crowd) where
   on_roll : n < length crowd.students → n < length (tables_in market).students
-  on_roll low = let same = crowd_length market streams order crowd is in let all = length_map (λ (s : Student). s.name) market.roll.students in omega arith
+  on_roll low = let same = crowd_length market streams order crowd is in let all = length-map market.roll.students (λ (s : Student). s.name) in omega arith
 
   in_catalog : n < crowd.sections → n < length (tables_in market).sections
-  in_catalog low = let same = is.is_crowd.sections in let all = length_map (λ (s : Section). s.name) market.catalog.sections in omega arith
+  in_catalog low = let same = is.is_crowd.sections in let all = length-map market.catalog.sections (λ (s : Section). s.name) in omega arith
 
 -- whom the first finding names is one of the tables
 pub named_in : (market : Market) (streams : List (List Command)) (text : List ℕ) (finding : Finding) → IsFirstFinding market streams text finding

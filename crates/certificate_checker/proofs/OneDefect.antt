@@ -3,10 +3,9 @@ use Rattle.std.proofs.Common.{ℕ, ◌≡◌, ◌≢◌, ◌<◌, ◌⊎◌, ◌
 use Rattle.std.proofs.lemmas.Bool.{cases_lt}
 use Rattle.bundle_bounds.specs.Offers.{OfferData, places_of}
 use Rattle.proof_tree.specs.declared.signs.Sign.{Sign}
-use Rattle.proof_tree.specs.declared.signs.Sign.TheVariants.{Champion, Shut, Pruned, Forced, Open, Passed}
 use Rattle.proof_tree.specs.declared.defects.TreeDefect.{TreeDefect}
 use Rattle.proof_tree.specs.declared.defects.TreeDefect.TheVariants.{Syntax, NotClosed, Redundant, WrongLeaf, WrongBranch, Rest}
-use Rattle.proof_tree.specs.Defects.{Differs, IsCanonical, IsDefect, IsLeaf, Reads, offset}
+use Rattle.proof_tree.specs.Defects.{Differs, IsDefect, IsLeaf, Reads, offset}
 use Rattle.proof_tree.specs.Mismatches.{offset_in}
 use Rattle.proof_tree.specs.Texts.{Stands, symbol}
 use Rattle.proof_tree.specs.Trees.{HasNoSign, IsSign}
@@ -14,6 +13,7 @@ use Rattle.proof_tree.specs.Walks.{ComesTo, HasCome, below}
 use Rattle.proof_tree.proofs.OneSymbol.{one_symbol}
 use Rattle.proof_tree.proofs.Spelling.{cancel, no_sign}
 use Rattle.proof_tree.proofs.Uniqueness.{one_sign}
+use Rattle.proof_tree.proofs.NoDefects.{canonical_sign}
 
 module _ (offer : OfferData) (required : Option ℕ) (champion : List ℕ) where
   -- the symbol of the next node's canonical sign stands first
@@ -41,15 +41,6 @@ module _ (offer : OfferData) (required : Option ℕ) (champion : List ℕ) where
       (subst (λ t. ComesTo offer required champion signs (below also node.0 node.1 ++ nodes) t here rest) behind
       (subst (λ s. ComesTo offer required champion signs (below s node.0 node.1 ++ nodes) one.1.0 here rest) same one.1.2))
       other.1.2
-
--- the signs of canonical trees
-canonical_sign : (offer : OfferData) (champion : List ℕ) (k : ℕ) (chosen : List ℕ) (sign : Sign) → IsSign offer None champion k chosen sign → IsCanonical sign
-canonical_sign offer champion k chosen Champion is = tt
-canonical_sign offer champion k chosen Shut is = absurd (cc is.1.1)
-canonical_sign offer champion k chosen (Pruned leaf) is = tt
-canonical_sign offer champion k chosen Forced is = absurd (cc is.1)
-canonical_sign offer champion k chosen Open is = tt
-canonical_sign offer champion k chosen Passed is = tt
 
 -- the kinds of defects, by number
 abbrev kind : TreeDefect → ℕ

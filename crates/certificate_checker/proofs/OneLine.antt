@@ -9,13 +9,9 @@ use Rattle.market_certificate.specs.Lines.{Lacks, joined}
 use Rattle.market_certificate.specs.Tables.{Tables, AreTables}
 use Rattle.market_certificate.specs.Texts.{ArePublished}
 use Rattle.market_certificate.proofs.Cuts.{cut_once, lacks_not}
-use Rattle.market_certificate.proofs.Defects.{no_defect}
+use Rattle.market_certificate.proofs.Defects.{no_defect, front_of}
 use Rattle.market_certificate.proofs.Joins.{joined_append}
 use Rattle.market_certificate.proofs.OneText.{lines_lack}
-
-front_lacks : (front rest : List (List ℕ)) → AllByRecursion (Lacks 10) (front ++ rest) → AllByRecursion (Lacks 10) front
-front_lacks [] rest free = tt
-front_lacks (x ∷ front) rest free = (free.0, front_lacks front rest free.1)
 
 next_lacks : (front more : List (List ℕ)) (line : List ℕ) → AllByRecursion (Lacks 10) (front ++ line ∷ more) → Lacks 10 line
 next_lacks [] more line free = free.0
@@ -63,7 +59,7 @@ module _ (tables : Tables) (are : AreTables tables) where
   begins_of front tail faults.Rest stop = ([], subst Is (sym (append-nil front)) stop.0)
 
   lacks_of : (front : List (List ℕ)) → Begins Is front → AllByRecursion (Lacks 10) front
-  lacks_of front begins = front_lacks front begins.0 (subst (AllByRecursion (Lacks 10)) (sym begins.1.2) (lines_lack tables are begins.1.0 begins.1.1))
+  lacks_of front begins = front_of front begins.0 (subst (AllByRecursion (Lacks 10)) (sym begins.1.2) (lines_lack tables are begins.1.0 begins.1.1))
 
   -- where reading stops, no text goes on with the next line
   not_longer : (front more : List (List ℕ)) (line tail rest : List ℕ) (fault : LineFault) → Stops Is front tail fault → tail ≡ joined (line ∷ more) ++ rest

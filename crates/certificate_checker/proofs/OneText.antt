@@ -1,7 +1,7 @@
 -- An accepted text is fixed by its order, its prices and its error.
 use Rattle.std.proofs.Common.{ℕ, zero, suc, ◌≡◌, ◌<◌, ◌≤◌, ◌+◌, ◌*◌, ◌∙◌, add-one, List, [], ◌∷◌, ◌++◌, Some, length, map, take, get_or, refl, ap, sym, subst, arith}
 use Rattle.std.specs.Prelude.{slice_get, slice_index, slice_index_or}
-use Rattle.std.proofs.lemmas.List.{take_all, take_more}
+use Rattle.std.proofs.lemmas.List.{length-map, take_all, take_more}
 use Rattle.budget_draw.specs.Budgets.{raised_by}
 use Rattle.bundle_bounds.specs.Offers.{OfferData}
 use Rattle.demand_api.specs.Crowds.{CrowdData, Student as Asked, holders}
@@ -23,7 +23,6 @@ use Rattle.certificate_checker.specs.Turns.{HasQuietPass, IsDue, IsQuietTurn, he
 use Rattle.certificate_checker.proofs.Optimal.{allocated, best_at, best_in_stage_two, budgets_are_those, printed, sections, students}
 use Rattle.certificate_checker.proofs.Progressing.{next_pass}
 use Rattle.certificate_checker.proofs.Turning.{got_below, one_place, order_length}
-use Rattle.certificate_checker.proofs.Reading.{length_map}
 
 -- lists with the same items are one
 same_lists : {A : Type 0} (xs ys : List A) (d : A) → length xs ≡ length ys → ((k : ℕ) → k < length xs → get_or xs k d ≡ get_or ys k d) → xs ≡ ys
@@ -44,7 +43,7 @@ one_due : (crowd : CrowdData) (p q : Publication) (k : ℕ) → IsDue crowd p k 
     → ((turn_in p k).pass ≡ (turn_in q k).pass) × ((turn_in p k).student ≡ (turn_in q k).student)
 one_due crowd p q k is so =
     let long : length (order_in crowd) ≡ length crowd.students =
-    order_length (map (λ (student : Asked). student.budget) crowd.students) ∙ length_map (λ (student : Asked). student.budget) crowd.students in
+    order_length (map (λ (student : Asked). student.budget) crowd.students) ∙ length-map crowd.students (λ (student : Asked). student.budget) in
     let first : is.place < length (order_in crowd) = got_below (order_in crowd) is.place (turn_in p k).student is.next in
     let second : so.place < length (order_in crowd) = got_below (order_in crowd) so.place (turn_in q k).student so.next in
     let same = one_place (length crowd.students) is.pass is.place so.pass so.place (omega arith) (omega arith) (sym is.number ∙ so.number) in
@@ -69,7 +68,7 @@ get_of_take (suc j) (suc k) (x ∷ xs) d low = get_of_take j k xs d (omega arith
 some_student : (crowd : CrowdData) (p : Publication) (k : ℕ) → IsDue crowd p k → 0 < length crowd.students
 some_student crowd p k is =
     let long : length (order_in crowd) ≡ length crowd.students =
-    order_length (map (λ (student : Asked). student.budget) crowd.students) ∙ length_map (λ (student : Asked). student.budget) crowd.students in
+    order_length (map (λ (student : Asked). student.budget) crowd.students) ∙ length-map crowd.students (λ (student : Asked). student.budget) in
     let low : is.place < length (order_in crowd) = got_below (order_in crowd) is.place (turn_in p k).student is.next in
     omega arith
 

@@ -3,10 +3,10 @@ use Rattle.std.proofs.Common.{ℕ, zero, suc, ◌≡◌, ◌<◌, ◌≤◌, ◌
 use Rattle.std.specs.Prelude.{None, nat_lt, slice_index, slice_index_or, slice_set, zip}
 use Rattle.std.proofs.Math.Seq.{get_or-append_seam, take-append_seam}
 use Rattle.std.proofs.lemmas.Bool.{cases_Bool, cases_lt, lt-ltb}
-use Rattle.std.proofs.lemmas.Bool.Decides.{nat_tests}
 use Rattle.std.proofs.lemmas.Grind.{same_number_lists}
-use Rattle.std.proofs.lemmas.List.{append-nil, get_or-map, same_lists, take_all}
+use Rattle.std.proofs.lemmas.List.{length-map, append-nil, get_or-map, same_lists, take_all}
 use Rattle.std.proofs.lemmas.Option.{slice_get-get_or}
+use Rattle.plain_facts.proofs.Numbers.{true_lt}
 use Rattle.budget_draw.specs.AfterOrder.{after_order_of}
 use Rattle.budget_draw.specs.Budgets.{raised_by}
 use Rattle.bundle_bounds.specs.Offers.{OfferData}
@@ -41,9 +41,10 @@ use Rattle.certificate_checker.specs.Terms.{terms_in}
 use Rattle.certificate_checker.specs.Turns.{held_before, order_in, turn_in, turn_offer}
 use Rattle.certificate_checker.proofs.Composing.{allocation_is, crowd_length}
 use Rattle.certificate_checker.proofs.ByPass.{any_default, due_in_passes}
-use Rattle.certificate_checker.proofs.Reading.{length_map, moved, so_of_has}
+use Rattle.certificate_checker.proofs.Reading.{moved, so_of_has}
 use Rattle.certificate_checker.proofs.Refusing.{menu_sound}
-use Rattle.certificate_checker.proofs.Turning.{held_length, held_next, order_length}
+use Rattle.certificate_checker.proofs.Turning.{held_next, order_length}
+use Rattle.published_parts.proofs.HeldAfter.{length-held_after}
 
 -- what has a tree is the best of the offer
 pub best_of_tree : (offer : OfferData) (bundle tree : List ℕ) → IsMenu offer.menu → IsAffordable offer bundle → MayTake offer bundle → IsOffered offer bundle
@@ -57,9 +58,6 @@ best_moved : (wishes : Wishes) (price : ℕ → ℕ) (b c : ℕ) (allowed among 
 best_moved wishes price b c allowed among bundle same budget sections alike is =
     subst (λ n. IsBest wishes price n among same) budget (subst (λ a. IsBest wishes price b a same) sections (subst (IsBest wishes price b allowed) alike is))
 
-below_of : (a b : ℕ) → nat_lt a b ≡ true → a < b
-below_of a b e = grind (arith, nat_tests)
-
 -- a turn to held and free sections keeps within the seats
 within_set : (seats : List ℕ) (held : List (List ℕ)) (i : ℕ) (bundle : List ℕ) (s : ℕ) → i < length held → holders s held ≤ slice_index seats s
     → (has bundle s ≡ true → may_choose seats held i s ≡ true) → holders s (slice_set held i bundle) ≤ slice_index seats s
@@ -71,14 +69,14 @@ within_set seats held i bundle s low within offered =
         | inl had ↦ (let now = rw (had, taken) at counted in omega arith)
         | inr new ↦
             let free : nat_lt (holders s held) (slice_index seats s) ≡ true = rw new at (offered taken) in
-            let room : holders s held < slice_index seats s = below_of (holders s held) (slice_index seats s) free in
+            let room : holders s held < slice_index seats s = true_lt (holders s held) (slice_index seats s) free in
             (let now = rw (new, taken) at counted in omega arith)
       ]
       | inr left ↦ (let now = rw left at counted in omega arith)
     ]
 
 -- of each section the count and the seats
-used_at : (f : ℕ → ℕ) (first : ℕ) (seats : List ℕ) (k : ℕ) → k < length seats
+pub used_at : (f : ℕ → ℕ) (first : ℕ) (seats : List ℕ) (k : ℕ) → k < length seats
     → slice_index_or (zip (map f (places_from first (length seats))) seats) k (0, 0) ≡ (f (first + k), slice_index seats k)
 used_at f first [] k low = absurd (omega arith)
 used_at f first (seat ∷ seats) zero low = let here : first ≡ first + 0 = omega arith in ap (λ s. (f s, seat)) here
@@ -112,17 +110,17 @@ module _ (market : Market) (streams : List (List Command)) (text : List ℕ) (ac
   count = crowd_length market streams p.order crowd accepted.holds.is_crowd
 
   pub students : length (tables_in market).students ≡ length crowd.students
-  students = length_map (λ (student : Student). student.name) market.roll.students ∙ sym count
+  students = length-map market.roll.students (λ (student : Student). student.name) ∙ sym count
 
   pub sections : length (tables_in market).sections ≡ crowd.sections
-  sections = length_map (λ (section : Section). section.name) market.catalog.sections ∙ sym accepted.holds.is_crowd.is_crowd.sections
+  sections = length-map market.catalog.sections (λ (section : Section). section.name) ∙ sym accepted.holds.is_crowd.is_crowd.sections
 
   pub sound : (k : ℕ) → IsMenu (student_in crowd k).menu
   sound k = menu_sound market streams p.order crowd k accepted.holds.is_crowd
 
   pub budgets_are_those : p.budgets ≡ map (λ (student : Asked). student.budget) crowd.students
   budgets_are_those =
-      let long = length_map (λ (student : Asked). student.budget) crowd.students in
+      let long = length-map crowd.students (λ (student : Asked). student.budget) in
       let many = accepted.is_text.is_publication.budgets.count in
       let same = students in
       same_number_lists p.budgets (map (λ (student : Asked). student.budget) crowd.students) (omega arith)
@@ -210,8 +208,7 @@ module _ (market : Market) (streams : List (List Command)) (text : List ℕ) (ac
     | inr none ↦
         let no_order : order_in crowd ≡ [] =
         none_of (order_in crowd)
-        (let n = order_length (map (λ (student : Asked). student.budget) crowd.students) in let m = length_map (λ (student : Asked). student.budget)
-        crowd.students in let h = none in omega arith) in
+        (let n = order_length (map (λ (student : Asked). student.budget) crowd.students) in let m = length-map crowd.students (λ (student : Asked). student.budget) in let h = none in omega arith) in
         let no_turns : p.turns ≡ [] = none_of p.turns (elim (cases_lt 0 (length p.turns)) [
           | inl one ↦ absurd (let low : (turn_in p 0).student < length crowd.students = turn_listed 0 one in let h = none in omega arith)
           | inr not ↦ let h = not in omega arith
@@ -231,8 +228,8 @@ module _ (market : Market) (streams : List (List Command)) (text : List ℕ) (ac
         let next : held_before p (suc k) ≡ slice_set (held_before p k) (turn_in p k).student (turn_in p k).bundle =
         ap (held_before p) (sym (add-one k)) ∙ held_next p k more in
         let who : (turn_in p k).student < length crowd.students = turn_listed k more in
-        let size : length (held_before p k) ≡ length (demanded p) = held_length (demanded p) (take k p.turns) in
-        let bundles = length_map (λ (one : Proved). one.bundle) p.bundles in
+        let size : length (held_before p k) ≡ length (demanded p) = length-held_after (demanded p) (take k p.turns) in
+        let bundles = length-map p.bundles (λ (one : Proved). one.bundle) in
         let many = accepted.is_text.is_publication.bundles.count in
         let same = students in
         subst (λ held. holders s held ≤ slice_index (seats_in market) s) (sym next)
@@ -253,8 +250,8 @@ module _ (market : Market) (streams : List (List Command)) (text : List ℕ) (ac
   allocated =
       let many = accepted.is_text.is_publication.allocation.count in
       let bundles = accepted.is_text.is_publication.bundles.count in
-      let size = held_length (demanded p) p.turns in
-      let mapped = length_map (λ (one : Proved). one.bundle) p.bundles in
+      let size = length-held_after (demanded p) p.turns in
+      let mapped = length-map p.bundles (λ (one : Proved). one.bundle) in
       let same = students in
       allocation_is p (length crowd.students) (omega arith) (omega arith) printed.allocation
 
@@ -264,7 +261,7 @@ module _ (market : Market) (streams : List (List Command)) (text : List ℕ) (ac
       let many = accepted.is_text.is_publication.used.count in
       let same = sections in
       let seats : length (seats_in market) ≡ crowd.sections =
-      length_map (λ (section : Section). section.seats) market.catalog.sections ∙ sym accepted.holds.is_crowd.is_crowd.sections in
+      length-map market.catalog.sections (λ (section : Section). section.seats) ∙ sym accepted.holds.is_crowd.is_crowd.sections in
       used_is (seats_in market) p.allocation p.used (omega arith) (λ k low. printed.used k (omega arith))
 
   pub is_allocated : IsAllocation market accepted.holds.is_crowd.journal p

@@ -3,18 +3,12 @@ use Rattle.std.proofs.Common.{ℕ, ◌≡◌, ◌≤◌, List, [], ◌∷◌, �
 use Rattle.std.specs.Fmt.{decimal}
 use Rattle.std.specs.List.{flat_map}
 use Rattle.std.specs.Prelude.{codes}
-use Rattle.std.proofs.lemmas.List.{length-append}
+use Rattle.std.proofs.lemmas.List.{length-map, length-append}
 use Rattle.market_certificate.specs.Lines.{joined}
 use Rattle.market_certificate.specs.Publications.{Publication}
 use Rattle.market_certificate.specs.Tables.{Tables}
 use Rattle.market_certificate.specs.Texts.{lines_of, order_line, text_of, turn_line}
-use Rattle.market_certificate.proofs.Joins.{spaced_numbers}
-use Rattle.certificate_checker.proofs.Reading.{length_map}
-
--- a text has a byte for each line
-lines_long : (lines : List (List ℕ)) → length lines ≤ length (joined lines)
-lines_long [] = omega arith
-lines_long (line ∷ lines) = let rest = lines_long lines in let long = length-append line (10 ∷ joined lines) in omega arith
+use Rattle.market_certificate.proofs.Joins.{spaced_numbers, lines_few}
 
 numbers_long : (ns : List ℕ) → length ns ≤ length (flat_map (λ n. 32 ∷ decimal n) ns)
 numbers_long [] = omega arith
@@ -37,7 +31,7 @@ order_in_text tables p text is =
 pub turns_in_text : (tables : Tables) (p : Publication) (text : List ℕ) → text ≡ text_of tables p → length p.turns ≤ length text
 turns_in_text tables p text is =
     let same : length text ≡ length (joined (lines_of tables p)) = ap length is in
-    let lines = lines_long (lines_of tables p) in
-    let turns = length_map (turn_line tables.students tables.sections) p.turns in
+    let lines = lines_few (lines_of tables p) in
+    let turns = length-map p.turns (turn_line tables.students tables.sections) in
     let among : length (map (turn_line tables.students tables.sections) p.turns) ≤ length (lines_of tables p) = simp length-append (omega arith) in
     omega arith

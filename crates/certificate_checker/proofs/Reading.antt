@@ -1,10 +1,10 @@
 -- What stands at a place of the terms and of a publication.
-use Rattle.std.proofs.Common.{ℕ, suc, ◌≡◌, ◌≢◌, ◌<◌, ◌≤◌, ◌∙◌, Bool, true, false, true≢false, nat_eq, List, [], ◌∷◌, length, map, get_or, refl, ap, sym, subst, inl, inr, arith}
+use Rattle.std.proofs.Common.{ℕ, suc, ◌≡◌, ◌≢◌, ◌<◌, ◌≤◌, ◌∙◌, Bool, true, false, true≢false, nat_eq, List, [], ◌∷◌, length, map, get_or, ap, sym, subst, inl, inr, arith}
 use Rattle.std.specs.Prelude.{All, IsTrue, nat_lt, not, slice_index}
 use Rattle.std.specs.FinSet as set
 use Rattle.std.specs.Ordering.{nat_cmp}
 use Rattle.std.proofs.lemmas.Bool.Decides.{nat_tests}
-use Rattle.std.proofs.lemmas.List.{get_or-map, length-replicate}
+use Rattle.std.proofs.lemmas.List.{length-map, get_or-map, length-replicate}
 use Rattle.market_units.specs.declared.units.Tokens.{Tokens}
 use Rattle.bundle_bounds.specs.Offers.{offer_of}
 use Rattle.bundle_rules.specs.Bundles.{sections_of}
@@ -32,14 +32,6 @@ are_apart x y e = grind (arith, nat_tests)
 pub are_same : (x y : ℕ) → not (nat_eq x y) ≡ false → x ≡ y
 are_same x y e = grind (arith, nat_tests)
 
-pub not_true : (b : Bool) → not b ≡ true → b ≡ false
-not_true true e = absurd (true≢false (sym e))
-not_true false e = refl
-
-pub not_false : (b : Bool) → not b ≡ false → b ≡ true
-not_false true e = refl
-not_false false e = absurd (true≢false e)
-
 -- what a test denies
 pub denied : {P : Type 0} (test : Bool) → ((IsTrue test → P) × (P → IsTrue test)) → test ≡ false → ¬ P
 denied test tells e = λ is. true≢false (sym (tells.1 is) ∙ e)
@@ -51,11 +43,6 @@ moved {A} {B} P a a' b b' e f is = subst {A = A × B} (λ both. P both.0 both.1)
 -- so of fewer
 pub fewer : (count more : ℕ) (Is : ℕ → Type 0) → count ≤ more → AllBelow more Is → AllBelow count Is
 fewer count more Is low all = λ n small. all n (omega arith)
-
--- as many as before
-pub length_map : {A B : Type 0} (f : A → B) (xs : List A) → length (map f xs) ≡ length xs
-length_map f [] = refl
-length_map f (x ∷ xs) = let more = length_map f xs in omega arith
 
 -- as many as the terms have
 pub nameless_students : (terms : Terms) → length (nameless terms).students ≡ length terms.crowd.menus.items
@@ -84,10 +71,10 @@ lengths terms publication is = record {
   students = students_length terms.crowd;
   few = menus_few terms.crowd;
   few_sections = few_sections terms.crowd;
-  budgets = sym (length_map (λ (t : Tokens). t.0) publication.budgets.items) ∙ is.is_publication.budgets.count ∙ nameless_students terms;
-  prices = sym (length_map (λ (t : Tokens). t.0) publication.prices.items) ∙ is.is_publication.prices.count ∙ nameless_sections terms;
-  bundles = sym (length_map proved_of publication.bundles.items) ∙ is.is_publication.bundles.count ∙ nameless_students terms;
-  allocation = sym (length_map sections_of publication.allocation.items) ∙ is.is_publication.allocation.count ∙ nameless_students terms;
+  budgets = sym (length-map publication.budgets.items (λ (t : Tokens). t.0)) ∙ is.is_publication.budgets.count ∙ nameless_students terms;
+  prices = sym (length-map publication.prices.items (λ (t : Tokens). t.0)) ∙ is.is_publication.prices.count ∙ nameless_sections terms;
+  bundles = sym (length-map publication.bundles.items proved_of) ∙ is.is_publication.bundles.count ∙ nameless_students terms;
+  allocation = sym (length-map publication.allocation.items sections_of) ∙ is.is_publication.allocation.count ∙ nameless_students terms;
   used = is.is_publication.used.count ∙ nameless_sections terms;
 }
 
@@ -142,7 +129,7 @@ pub stage_two_below : (terms : Terms) (publication : declared.Publication) (k : 
     → All (λ s. s < terms.crowd.sections) (sections_of item.bundle)
 stage_two_below terms publication k item is low read =
     let proved : IsProved (nameless terms).sections (get_or (map proved_of publication.bundles.items) k (proved_of item)) =
-    is.is_publication.bundles.each k (proved_of item) (let long = length_map proved_of publication.bundles.items in omega arith) in
+    is.is_publication.bundles.each k (proved_of item) (let long = length-map publication.bundles.items proved_of in omega arith) in
     let same : get_or (map proved_of publication.bundles.items) k (proved_of item) ≡ proved_of item =
     get_or-map proved_of publication.bundles.items k item (proved_of item) low ∙ ap proved_of (sym read) in
     let mine : IsProved (nameless terms).sections (proved_of item) = subst (IsProved (nameless terms).sections) same proved in

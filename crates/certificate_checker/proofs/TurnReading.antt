@@ -3,6 +3,7 @@ use Rattle.std.proofs.Common.{ℕ, ◌≡◌, ◌<◌, ◌≤◌, ◌∙◌, Boo
 use Rattle.std.specs.Prelude.{All, None}
 use Rattle.std.specs.FinSet as set
 use Rattle.std.specs.Ordering.{nat_cmp}
+use Rattle.std.proofs.lemmas.List.{length-map}
 use Rattle.market_units.specs.Totals.{total}
 use Rattle.market_units.specs.declared.units.Tokens.{Tokens}
 use Rattle.bundle_bounds.specs.Offers.{OfferData, offer_of}
@@ -36,7 +37,7 @@ use Rattle.certificate_checker.specs.Students.{IsAffordable, IsOffered, MayTake}
 use Rattle.certificate_checker.specs.Turns.{EndsQuietly, HasQuietPass, IsDue, IsRightTurn, held_before, order_in, turn_in, turn_offer}
 use Rattle.certificate_checker.specs.Views.{terms_of}
 use Rattle.certificate_checker.proofs.Bundling.{all_priced}
-use Rattle.certificate_checker.proofs.Reading.{HasLengths, length_map, lengths, moved, nameless_sections}
+use Rattle.certificate_checker.proofs.Reading.{HasLengths, lengths, moved, nameless_sections}
 use Rattle.certificate_checker.proofs.Turning.{is_due_turn, no_due_turn, turn_below, turn_is, turn_offer_is, turn_student}
 
 -- a turn is read where the passes have come so far
@@ -211,7 +212,7 @@ pub ends_quietly : (terms : Terms) (publication : declared.Publication) (place :
 ends_quietly terms publication place progress can at is over = λ some.
     moved (λ (n t : ℕ). HasQuietPass n (publication_of publication) t) (length terms.crowd.menus.items)
     (length (data_of terms.crowd).students) place (length (publication_of publication).turns)
-    (sym (students_length terms.crowd)) (at ∙ sym (length_map turn_of publication.turns.items))
+    (sym (students_length terms.crowd)) (at ∙ sym (length-map publication.turns.items turn_of))
     (is.is_over over)
 
 -- and not where they go on
@@ -223,7 +224,7 @@ ends_early terms publication place progress can at is some over = λ ends.
     let students = students_length terms.crowd in
     is.goes_on some over
     (moved (λ (n t : ℕ). HasQuietPass n (publication_of publication) t) (length (data_of terms.crowd).students) (length terms.crowd.menus.items) (length (publication_of publication).turns) place
-    students (length_map turn_of publication.turns.items ∙ sym at) (ends (omega arith)))
+    students (length-map publication.turns.items turn_of ∙ sym at) (ends (omega arith)))
 
 -- what is found on a turn is the first finding, where what comes before it is right
 pub first_turn : (terms : TermsData) (p : Publication) (place : ℕ) (finding : Finding) → HoldsToSeats terms p → place < length p.turns

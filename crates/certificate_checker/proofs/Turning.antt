@@ -5,7 +5,7 @@ use Rattle.std.specs.List.{enumerate_from}
 use Rattle.std.proofs.Math.Nat.{mul-le-mul_right}
 use Rattle.std.proofs.lemmas.Bool.{cases_Bool}
 use Rattle.std.proofs.lemmas.Bool.Decides.{eqb_tells}
-use Rattle.std.proofs.lemmas.List.{get_or-map, get_or-set_other, get_or-set_same, length-set, take_all, take_more}
+use Rattle.std.proofs.lemmas.List.{length-map, get_or-map, get_or-set_other, get_or-set_same, length-set, take_all, take_more}
 use Rattle.std.proofs.lemmas.List.Elements.{All-take}
 use Rattle.std.proofs.lemmas.Option.{get_or_from_slice_get, slice_get-get_or}
 use Rattle.market_units.specs.declared.units.StudentNo.{StudentNo}
@@ -16,10 +16,9 @@ use Rattle.bundle_rules.specs.declared.bundle.Bundle.{Bundle}
 use Rattle.bundle_rules.specs.Menus.{MenuData}
 use Rattle.market_units.specs.Members.{has}
 use Rattle.budget_draw.specs.AfterOrder.{after_order_of, goes_before, ordered, placed}
-use Rattle.budget_draw.specs.Budgets.{amounts, raised_by}
+use Rattle.budget_draw.specs.Budgets.{raised_by}
 use Rattle.demand_api.specs.Crowds.{CrowdData, Student}
 use Rattle.demand_api.specs.declared.crowd.Crowd.{Crowd}
-use Rattle.demand_api.specs.Parts.{students_of}
 use Rattle.demand_api.specs.Views.{data_of}
 use Rattle.demand_api.proofs.Parts.{menus_few, students_length}
 use Rattle.held_seats.specs.Floors.{AreBelow}
@@ -36,7 +35,8 @@ use Rattle.published_parts.specs.Offers.{student_in}
 use Rattle.certificate_checker.specs.Turns.{IsDue, held_before, order_in, turn_in, turn_offer}
 use Rattle.certificate_checker.specs.Views.{terms_of}
 use Rattle.certificate_checker.proofs.Progressing.{next_pass}
-use Rattle.certificate_checker.proofs.Reading.{length_map, so_of_has, student_is, nameless_students, nameless_sections}
+use Rattle.certificate_checker.proofs.Reading.{so_of_has, student_is, nameless_students, nameless_sections}
+use Rattle.published_parts.proofs.HeldAfter.{length-held_after}
 
 -- the printed turn at a place
 pub turn_is : (publication : declared.Publication) (k : ℕ) (item : declared_turn.ProvedTurn) → k < length publication.turns.items
@@ -70,7 +70,7 @@ pub turn_form : (terms : Terms) (publication : declared.Publication) (k : ℕ) (
     → k < length publication.turns.items → item ≡ get_or publication.turns.items k item → IsTurn (nameless terms).students (nameless terms).sections (turn_of item)
 turn_form terms publication k item is low read =
     let one : IsTurn (nameless terms).students (nameless terms).sections (get_or (map turn_of publication.turns.items) k (turn_of item)) =
-    is.is_publication.turns k (turn_of item) (let long = length_map turn_of publication.turns.items in omega arith) in
+    is.is_publication.turns k (turn_of item) (let long = length-map publication.turns.items turn_of in omega arith) in
     let same : get_or (map turn_of publication.turns.items) k (turn_of item) ≡ turn_of item =
     get_or-map turn_of publication.turns.items k item (turn_of item) low ∙ ap turn_of (sym read) in
     subst (IsTurn (nameless terms).students (nameless terms).sections) same one
@@ -94,11 +94,6 @@ held_more held (first ∷ turns) turn = held_more (slice_set held first.student 
 
 pub held_next : (p : Publication) (k : ℕ) → k < length p.turns → held_before p (k + 1) ≡ slice_set (held_before p k) (turn_in p k).student (turn_in p k).bundle
 held_next p k low = ap (held_after (demanded p)) (take_more p.turns k _ low) ∙ held_more (demanded p) (take k p.turns) (turn_in p k)
-
--- as many bundles as before
-pub held_length : (held : List (List ℕ)) (turns : List ProvedTurn) → length (held_after held turns) ≡ length held
-held_length held [] = refl
-held_length held (turn ∷ turns) = held_length (slice_set held turn.student turn.bundle) turns ∙ length-set held turn.student turn.bundle
 
 -- what is held stays within the catalogue
 set_below : (sections : ℕ) (held : List (List ℕ)) (i : ℕ) (bundle : List ℕ) → AreBelow sections held → ((s : ℕ) → has bundle s ≡ true → s < sections)
@@ -129,7 +124,7 @@ before_below terms publication k is = held_below terms.crowd.sections (demanded 
     start : AreBelow terms.crowd.sections (demanded (publication_of publication))
     start = λ j d low.
         let inside : j < length (publication_of publication).bundles =
-        (let long = length_map (λ (proved : Proved). proved.bundle) (publication_of publication).bundles in omega arith) in
+        (let long = length-map (publication_of publication).bundles (λ (proved : Proved). proved.bundle) in omega arith) in
         let none : Proved = record { bundle = d; tree = [] } in
         let one = is.is_publication.bundles.each j none inside in
         let same : get_or (demanded (publication_of publication)) j d ≡ (get_or (publication_of publication).bundles j none).bundle =
@@ -148,7 +143,7 @@ before_below terms publication k is = held_below terms.crowd.sections (demanded 
 pub after_length : (terms : Terms) (publication : declared.Publication) (turns : List ProvedTurn) → CanCheck terms (publication_of publication)
     → length (held_after (demanded (publication_of publication)) turns) ≡ length terms.crowd.menus.items
 after_length terms publication turns is =
-    held_length (demanded (publication_of publication)) turns ∙ length_map (λ (proved : Proved). proved.bundle) (publication_of publication).bundles
+    length-held_after (demanded (publication_of publication)) turns ∙ length-map (publication_of publication).bundles (λ (proved : Proved). proved.bundle)
     ∙ is.is_publication.bundles.count ∙ nameless_students terms
 
 pub before_length : (terms : Terms) (publication : declared.Publication) (k : ℕ) → CanCheck terms (publication_of publication)
@@ -187,7 +182,7 @@ stage_two_few terms publication i bundles lent is same made all =
     let whole : map sections_of lent ≡ demanded (publication_of publication) =
     stage_two_held publication i bundles lent same made all in
     let each : length (map sections_of lent) ≡ length terms.crowd.menus.items = ap length whole ∙ after_length terms publication [] is in
-    omega (arith, length_map sections_of lent, each, menus_few terms.crowd)
+    omega (arith, length-map lent sections_of, each, menus_few terms.crowd)
 
 -- the order has every student
 placed_length : (one : ℕ × ℕ) (xs : List (ℕ × ℕ)) → length (placed one xs) ≡ length xs + 1
@@ -207,23 +202,15 @@ enumerated_length (x ∷ xs) n = ap (λ k. suc k) (enumerated_length xs (n + 1))
 
 pub order_length : (budgets : List ℕ) → length (after_order_of budgets) ≡ length budgets
 order_length budgets =
-    length_map (λ (one : ℕ × ℕ). one.0) (ordered (enumerate_from 0 budgets)) ∙ ordered_length (enumerate_from 0 budgets) ∙ enumerated_length budgets 0
-
--- the budgets of a crowd are those that it was made of
-pub budgets_are : (menus : List MenuData) (budgets : List Tokens) → length budgets ≡ length menus
-    → map (λ (student : Student). student.budget) (students_of menus budgets) ≡ amounts budgets
-budgets_are [] [] same = refl
-budgets_are [] (b ∷ budgets) same = absurd (omega arith)
-budgets_are (m ∷ menus) [] same = absurd (omega arith)
-budgets_are (m ∷ menus) (b ∷ budgets) same = ap (λ rest. b.0 ∷ rest) (budgets_are menus budgets (omega arith))
+    length-map (ordered (enumerate_from 0 budgets)) (λ (one : ℕ × ℕ). one.0) ∙ ordered_length (enumerate_from 0 budgets) ∙ enumerated_length budgets 0
 
 -- the order is as long as there are students
 pub order_is_long : (terms : Terms) (order : List StudentNo)
     → map (λ (student : StudentNo). student.0) order ≡ order_in (terms_of terms).crowd → length order ≡ length terms.crowd.menus.items
 order_is_long terms order same =
     let students : List Student = (data_of terms.crowd).students in
-    sym (length_map (λ (student : StudentNo). student.0) order) ∙ ap length same ∙ order_length (map (λ (student : Student). student.budget) students)
-    ∙ length_map (λ (student : Student). student.budget) students ∙ students_length terms.crowd
+    sym (length-map order (λ (student : StudentNo). student.0)) ∙ ap length same ∙ order_length (map (λ (student : Student). student.budget) students)
+    ∙ length-map students (λ (student : Student). student.budget) ∙ students_length terms.crowd
 
 -- a number has one pass and one place in it
 same_pass : (n pass place other spot : ℕ) → place < n → spot < n → pass * n + place ≡ other * n + spot → ¬ (pass < other)
@@ -262,7 +249,7 @@ pub no_due_turn : (crowd : CrowdData) (p : Publication) (k : ℕ) (progress : Pr
     → 0 < length crowd.students → ¬ IsDueTurn (order_in crowd) progress (turn_in p k) → ¬ IsDue crowd p k
 no_due_turn crowd p k progress is some other = λ due.
     let students : length (order_in crowd) ≡ length crowd.students =
-    order_length (map (λ (student : Student). student.budget) crowd.students) ∙ length_map (λ (student : Student). student.budget) crowd.students in
+    order_length (map (λ (student : Student). student.budget) crowd.students) ∙ length-map crowd.students (λ (student : Student). student.budget) in
     let spot : due.place < length (order_in crowd) = got_below (order_in crowd) due.place (turn_in p k).student due.next in
     let small : due.place < length crowd.students = omega arith in
     let same = one_place (length crowd.students) progress.pass progress.place due.pass due.place (is.in_pass some) small (sym is.number ∙ due.number) in

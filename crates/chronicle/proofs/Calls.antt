@@ -1,6 +1,7 @@
 -- A call from its parts: a ticket drawn, the turn, the object's step, and the turn passed on.
 use Rattle.std.proofs.Common.{◌≡◌, ◌+◌, ◌-◌, ◌≤◌, ◌<◌, ◌++◌, ◌∷◌, [], ℕ, List, Bool, true, refl, sym, ap, subst, ◌∙◌, arith}
 use Rattle.std.specs.Prelude.{Some}
+use Rattle.plain_facts.proofs.Outcomes.{same_some}
 use Rattle.market_units.specs.Beginnings.{BeginsWith}
 use Rattle.atomic_table.specs.Seated.{TableId}
 use Rattle.chronicle.specs.declared.journal.StepOf.{StepOf}
@@ -11,7 +12,6 @@ use Rattle.chronicle.specs.History.{IsLegal, calls_by, step_of, Extends}
 use Rattle.chronicle.specs.Seats.{origin, origin_of, standing, standing_of, IsAtRest}
 use Rattle.chronicle.specs.Turn.{Place, At, MayCall, IsWaiting, Draws, Serves, MayStep, Steps, HasToPass, Passes}
 use Rattle.chronicle.specs.Views.{waiting, in_turn, done}
-use Rattle.chronicle.proofs.ViewLists.{same_view}
 use Rattle.chronicle.proofs.HistoryLaws.{legal_with_step, calls_by-own, none_between}
 
 module _ {T B S Q A : Type 0} (base_of : T → B) (state_of : T → S) (room : T → ℕ) (sound : B → Q → Bool) (after : B → S → ℕ → Q → S)
@@ -26,7 +26,7 @@ module _ {T B S Q A : Type 0} (base_of : T → B) (state_of : T → S) (room : T
       → standing_of table number me.0 ≡ old → old.chronicle ≡ Some self
       → origin table rest.view.base rest.view.opening rest.view.allotments ≡ self
   told_origin table self number me old rest is ours =
-      same_view (origin table rest.view.base rest.view.opening rest.view.allotments) self
+      same_some (origin table rest.view.base rest.view.opening rest.view.allotments) self
       (ap (λ (s : Standing B S Q A). s.chronicle) (told table number me old rest is) ∙ ours)
 
   -- a seat of the chronicle has its place at the chronicle's table

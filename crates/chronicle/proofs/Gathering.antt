@@ -2,11 +2,11 @@
 use Rattle.std.proofs.Common.{◌≡◌, ◌+◌, ◌≤◌, ◌<◌, ◌++◌, ◌∷◌, [], ℕ, List, length, map, Bool, sym, ap, subst, ◌∙◌, ⊎_elim, inl, inr, arith, length-append, slice_index_or}
 use Rattle.std.specs.Prelude.{Option, Some, None}
 use Rattle.std.specs.List.{All, Any, AllByRecursion as Each}
-use Rattle.std.proofs.lemmas.List.{get_or_append_left}
 use Rattle.std.proofs.lemmas.List.Elements.{All-from_recursion}
 use Rattle.std.proofs.Math.Seq.{get_or-append_seam}
 use mathlib.Core.Option.{some}
 use lib.ListN.{get_elem?}
+use Rattle.plain_facts.proofs.Outcomes.{same_some}
 use Rattle.atomic_table.specs.Seated.{TableId}
 use Rattle.atomic_table.specs.Table.{State, Joins}
 use Rattle.market_units.specs.Beginnings.{BeginsWith}
@@ -23,14 +23,7 @@ use Rattle.chronicle.specs.Turn.{Place}
 use Rattle.chronicle.specs.Views.{with_seat, joined, numbers}
 use Rattle.chronicle.proofs.HistoryLaws.{none_after}
 use Rattle.chronicle.proofs.SeatSteps.{joins, nobody_else}
-use Rattle.chronicle.proofs.ViewLists.{same_view, each_so, each_in, in_front, in_back}
-
--- what holds of each item holds of each of a beginning, and of the last
-pub all_front : {X : Type 0} (P : X → Type 0) (xs ys : List X) → All P (xs ++ ys) → All P xs
-all_front P xs ys all k d below =
-    let m : ℕ = length xs in
-    let long : length (xs ++ ys) ≡ m + length ys = length-append xs ys in
-    subst P (get_or_append_left xs ys d k below) (all k d (let n : ℕ = length ys in let goal : k < length (xs ++ ys) = omega arith in goal))
+use Rattle.chronicle.proofs.ViewLists.{each_so, each_in, in_front, in_back}
 
 pub all_last : {X : Type 0} (P : X → Type 0) (xs : List X) (x : X) → All P (xs ++ x ∷ []) → P x
 all_last P xs x all =
@@ -78,7 +71,7 @@ module _ {T B S Q A : Type 0} where
       let v : View B S Q A = rest.view in
       let telling : standing (Some (origin table v.base v.opening v.allotments)) number v.left v.seen v.own ≡ seat =
       sym (ap (λ (m : Place T B S Q A). standing_of table number m.0) rest.is) ∙ is in
-      let origin_is : origin table v.base v.opening v.allotments ≡ o = same_view (origin table v.base v.opening v.allotments) o (ap (λ (s : Standing B S Q A). s.chronicle) telling ∙ ours) in record {
+      let origin_is : origin table v.base v.opening v.allotments ≡ o = same_some (origin table v.base v.opening v.allotments) o (ap (λ (s : Standing B S Q A). s.chronicle) telling ∙ ours) in record {
         view = v;
         is = rest.is;
         same_base = ap (λ (x : Origin B S). x.base) origin_is;

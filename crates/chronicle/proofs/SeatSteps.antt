@@ -7,6 +7,7 @@ use mathlib.Core.Option.{none, some, some-injective, some-ne-none}
 use native.Mathlib.Decide.{ℕ_discrete}
 use lib.ListN.{get_elem?}
 use Rattle.std.specs.Vec.{vec_capacity}
+use Rattle.plain_facts.proofs.Outcomes.{same_some}
 use Rattle.atomic_table.specs.Table.{State, opening, Splits, Joins}
 use Rattle.atomic_table.proofs.Lists.{set_here, set_else, at_longer, at_last}
 use Rattle.market_units.specs.Beginnings.{BeginsWith}
@@ -22,7 +23,7 @@ use Rattle.chronicle.specs.Views.{sum_of, first_of, rest_of, fresh, first_view, 
 use Rattle.chronicle.specs.Members.{IsIn}
 use Rattle.chronicle.specs.Rule.{HasTicket, NobodyInTurn, Fits, Keeps}
 use Rattle.chronicle.proofs.HistoryLaws.{calls_by-unmade}
-use Rattle.chronicle.proofs.ViewLists.{total-set, at_below, each_so, each-append, in_images, in_images_front, in_images_back, same_view, same_place, fits_set, fits_spent, there_set}
+use Rattle.chronicle.proofs.ViewLists.{total-set, at_below, each_so, each-append, in_images, in_images_front, in_images_back, same_place, fits_set, fits_spent, there_set}
 use Rattle.chronicle.proofs.TurnSteps.{nobody_before}
 
 pub plan_parts : (plan : List ℕ) → sum_of plan ≡ first_of plan + sum_of (rest_of plan)
@@ -46,7 +47,7 @@ fits_last : {W : Type 0} (P : ℕ → W → Type 0) (vs : List (Option W)) (m : 
     → (j : ℕ) (u : W) → get_elem? (vs ++ Some w ∷ []) j ≡ some (Some u) → P j u
 fits_last P vs m w long before last j u e =
     ⊎_elim (λ h. before j u h)
-    (λ (h : (j ≡ length vs) × (Some w ≡ Some u)). subst (λ (y : ℕ × _). P y.0 y.1) (λ i. (sym (h.0 ∙ long) i, same_view w u h.1 i)) last)
+    (λ (h : (j ≡ length vs) × (Some w ≡ Some u)). subst (λ (y : ℕ × _). P y.0 y.1) (λ i. (sym (h.0 ∙ long) i, same_some w u h.1 i)) last)
     (at_snoc vs (Some w) (Some u) j e)
 
 -- a view that is there is there in a longer list

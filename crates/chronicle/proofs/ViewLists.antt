@@ -1,10 +1,11 @@
 -- Lists of which one place changes, and what holds of each view after one of them has changed.
 use Rattle.std.proofs.Common.{◌≡◌, ◌≢◌, ◌+◌, ◌≤◌, ◌<◌, ◌++◌, ◌∷◌, [], ℕ, zero, suc, List, length, map, set, sym, ap, subst, ◌∙◌, ◌⊎◌, ⊎_elim, inl, inr, arith}
-use Rattle.std.specs.Prelude.{Option, Some, None, unwrap_or}
+use Rattle.std.specs.Prelude.{Option, Some, None}
 use mathlib.Core.Logic.{dite}
 use mathlib.Core.Option.{some, some-injective, some-ne-none}
 use native.Mathlib.Decide.{ℕ_discrete}
 use lib.ListN.{get_elem?}
+use Rattle.plain_facts.proofs.Outcomes.{same_some}
 use Rattle.atomic_table.proofs.Lists.{at_set, set_here, set_else}
 use Rattle.market_units.specs.Totals.{total}
 use Rattle.std.specs.List.{AllByRecursion as Each}
@@ -73,18 +74,15 @@ in_images_back f (x ∷ xs) ys y h = inr (in_images_back f xs ys y h)
 
 -- the views of seats, of which a spent one has none
 module _ {W : Type 0} where
-  pub same_view : (v w : W) → Some v ≡ Some w → v ≡ w
-  same_view v w e = ap (λ o. unwrap_or o v) e
-
   pub same_place : (vs : List (Option W)) (i j : ℕ) (v w : W) → get_elem? vs i ≡ some (Some v) → get_elem? vs j ≡ some (Some w) → j ≡ i → w ≡ v
-  same_place vs i j v w at there same = sym (same_view v w (some-injective (Some v) (Some w) (sym at ∙ ap (λ k. get_elem? vs k) (sym same) ∙ there)))
+  same_place vs i j v w at there same = sym (same_some v w (some-injective (Some v) (Some w) (sym at ∙ ap (λ k. get_elem? vs k) (sym same) ∙ there)))
 
   -- each view meets what it has to, after one has changed
   pub fits_set : (P : ℕ → W → Type 0) (vs : List (Option W)) (id : ℕ) (w : W) → P id w → ((j : ℕ) (u : W) → j ≢ id → get_elem? vs j ≡ some (Some u) → P j u)
       → (j : ℕ) (u : W) → get_elem? (set vs id (Some w)) j ≡ some (Some u) → P j u
   fits_set P vs id w mine others j u e =
       ⊎_elim
-      (λ (x : (j ≡ id) × (Some w ≡ Some u)). subst (λ (y : ℕ × W). P y.0 y.1) (λ i. (sym x.0 i, same_view w u x.1 i)) mine)
+      (λ (x : (j ≡ id) × (Some w ≡ Some u)). subst (λ (y : ℕ × W). P y.0 y.1) (λ i. (sym x.0 i, same_some w u x.1 i)) mine)
       (λ (x : (j ≢ id) × (get_elem? vs j ≡ some (Some u))). others j u x.0 x.1)
       (at_set vs id j (Some w) (Some u) e)
 

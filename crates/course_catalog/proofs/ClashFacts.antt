@@ -4,10 +4,11 @@ use Rattle.std.specs.List.{list_any}
 use Rattle.std.specs.Str.{bytes_eq}
 use Rattle.std.specs.Ordering.{nat_cmp}
 use Rattle.std.specs.FinSet as set
-use Rattle.std.proofs.lemmas.Bool.Decides.{nat_tests, same_from_decides}
+use Rattle.std.proofs.lemmas.Bool.Decides.{nat_tests}
 use Rattle.std.proofs.lemmas.List.{get_or-map, length-map}
 use Rattle.std.proofs.lemmas.List.Folds.{list_any_at}
 use Rattle.std.proofs.lemmas.Slice.Eq.{bytes_eq-Decides}
+use Rattle.plain_facts.proofs.Lists.{bytes_eq-other_way}
 use Rattle.timetable_rules.specs.Overlap.{some_overlap}
 use Rattle.timetable_rules.specs.Clash.{IsClashTable, tells}
 use Rattle.timetable_rules.specs.Parts.{no_part, share_part}
@@ -84,11 +85,6 @@ sections_clash-relation sections a b =
           shared met clash.different clash.cause,
     )
 
-course-other_way : (ones others : List ℕ) → bytes_eq ones others ≡ bytes_eq others ones
-course-other_way ones others =
-    same_from_decides (bytes_eq ones others) (bytes_eq others ones) (bytes_eq-Decides ones others)
-    (λ t. sym ((bytes_eq-Decides others ones).0 t), λ e. (bytes_eq-Decides others ones).1 (sym e))
-
 -- two sections clash whichever is named first, and none with itself
 pub clashes_mutual : (sections : List Section) (a b : ℕ) → AreMutual sections a b
 clashes_mutual sections a b =
@@ -98,7 +94,7 @@ clashes_mutual sections a b =
       other_way =
           rw (
             eqb-other_way a b,
-            course-other_way one.course other.course,
+            bytes_eq-other_way one.course other.course,
             share_part-other_way one.parts other.parts,
             some_overlap-other_way one.meetings other.meetings,
           )

@@ -1,10 +1,11 @@
 -- Course numbers, section after section.
-use Rattle.std.proofs.Common.{ℕ, ◌+◌, ◌≤◌, ◌≡◌, ◌∙◌, ◌++◌, Bool, true, false, cond, ◌||◌, ◌&&◌, List, [], ◌∷◌, length, map, refl, sym, ap, inl, inr, arith, length-append}
+use Rattle.std.proofs.Common.{ℕ, ◌+◌, ◌≤◌, ◌≡◌, ◌∙◌, ◌++◌, Bool, true, false, cond, ◌||◌, List, [], ◌∷◌, length, map, refl, sym, ap, inl, inr, arith, length-append}
 use Rattle.std.specs.List.{list_any, list_all, position_or_len}
 use Rattle.std.specs.Str.{bytes_eq}
 use Rattle.std.proofs.lemmas.Bool.{cases_Bool}
 use Rattle.std.proofs.lemmas.List.{map-append}
 use Rattle.std.proofs.lemmas.List.Folds.{list_all-append, list_any-append}
+use Rattle.plain_facts.proofs.Truths.{and_parts}
 use Rattle.market_units.specs.declared.names.Name.{Name}
 use Rattle.market_units.specs.Name.{name_bytes}
 use Rattle.table_records.specs.Reading.{bytes_of}
@@ -21,11 +22,6 @@ pub record Numbered (sections : List Section) (courses : List (List ℕ)) (numbe
 
 pub none_numbered : Numbered [] [] []
 none_numbered = record { firsts = refl; each = refl; known = refl; few = omega arith }
-
-and_parts : (a b : Bool) → (a && b) ≡ true → (a ≡ true) × (b ≡ true)
-and_parts true true t = (refl, refl)
-and_parts true false t = absurd (cc)
-and_parts false b t = absurd (cc)
 
 -- numbers stay after one more course
 kept_numbers : (sections : List Section) (courses : List (List ℕ)) (y : List ℕ) → list_all (λ s. list_any (bytes_eq s.course) courses) sections ≡ true

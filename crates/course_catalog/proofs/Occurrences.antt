@@ -8,6 +8,7 @@ use Rattle.std.proofs.lemmas.Bool.Decides.{same_from_decides, Decides-eqb}
 use Rattle.std.proofs.lemmas.List.{append-nil}
 use Rattle.std.proofs.lemmas.List.Elements.{filter-append}
 use Rattle.std.proofs.lemmas.Slice.Eq.{bytes_eq-Decides}
+use Rattle.plain_facts.proofs.Lists.{bytes_eq-other_way}
 use Rattle.course_catalog.specs.Courses.{first_occurrences}
 
 pub bytes_eq-same : (x y : List ℕ) → bytes_eq x y ≡ true → x ≡ y
@@ -15,9 +16,6 @@ bytes_eq-same x y t = (bytes_eq-Decides x y).0 t
 
 pub same-bytes_eq : (x y : List ℕ) → x ≡ y → bytes_eq x y ≡ true
 same-bytes_eq x y e = (bytes_eq-Decides x y).1 e
-
-bytes_eq-other_way : (x y : List ℕ) → bytes_eq x y ≡ bytes_eq y x
-bytes_eq-other_way x y = same_from_decides (bytes_eq x y) (bytes_eq y x) (bytes_eq-Decides x y) (λ t. sym (bytes_eq-same y x t), λ e. same-bytes_eq y x (sym e))
 
 -- among the first occurrences without one name are the others
 any-without : (x y : List ℕ) (names : List (List ℕ)) → bytes_eq x y ≡ false

@@ -4,12 +4,12 @@ use Rattle.std.specs.Prelude.{slice_index, slice_index_or, slice_set, if◌then�
 use Rattle.std.proofs.lemmas.Bool.{cases_Bool}
 use Rattle.std.proofs.lemmas.Bool.Decides.{nat_tests}
 use Rattle.std.proofs.lemmas.List.{get_or-set_same, get_or-set_other}
+use Rattle.plain_facts.proofs.Lists.{first_rest}
 use Rattle.market_units.specs.declared.units.SectionNo.{SectionNo}
 use Rattle.market_units.specs.Members.{has}
 use Rattle.bundle_rules.specs.Sets.{IsAscending}
 use Rattle.bundle_rules.specs.Ordinals.{ordinals}
 use Rattle.bundle_rules.specs.Existence.Orders.{none_below}
-use Rattle.bundle_rules.proofs.Firsts.{first_rest}
 use Rattle.demand_api.specs.Counting.{HasCounted}
 
 counted_first : (before after : List ℕ) (x : SectionNo) (rest : List SectionNo) (s : ℕ) → IsAscending (ordinals (x ∷ rest)) → x.0 < length before

@@ -1,23 +1,27 @@
 -- How many students take a section.
-use Rattle.std.proofs.Common.{ℕ, zero, suc, Bool, ◌≡◌, ◌<◌, ◌≤◌, min, true, if◌then◌else◌, List, [], ◌∷◌, All, length, arith, refl, ◌∙◌, ap, inl, inr}
+use Rattle.std.proofs.Common.{ℕ, zero, suc, Bool, ◌≡◌, ◌<◌, ◌≤◌, min, if◌then◌else◌, List, [], ◌∷◌, All, length, arith, refl, ◌∙◌, ap, inl, inr, sym, vec_len}
 use Rattle.std.specs.Prelude.{nat_lt, map}
-use Rattle.std.proofs.lemmas.Bool.{cases_Bool, false≢true}
+use Rattle.std.proofs.lemmas.Bool.{cases_Bool}
 use Rattle.std.proofs.lemmas.List.Elements.{All-cons}
 use Rattle.market_units.specs.declared.units.Tokens.{Tokens}
 use Rattle.clearing_error.specs.Errors.{error}
 use Rattle.clearing_error.proofs.Sections.{error_by_top}
 use Rattle.market_units.specs.Totals.{total}
-use Rattle.market_units.proofs.Sums.{total-le}
+use Rattle.market_units.proofs.Sums.{total-le, total-map}
 use Rattle.market_units.specs.Members.{has}
 use Rattle.bundle_rules.specs.Menus.{wishes_of}
 use Rattle.bundle_rules.specs.Places.{places_from}
 use Rattle.bundle_rules.specs.Demand.{price_in, IsBest}
-use Rattle.bundle_rules.specs.Existence.Members.{has-cases}
 use Rattle.bundle_rules.proofs.BestValue.{best-is, best-only}
 use Rattle.demand_api.specs.Crowds.{Student, CrowdData, top, greatest_budget, demand, demands, holders, count, counts}
 use Rattle.demand_api.specs.Prices.{IsRaised}
 use Rattle.demand_api.proofs.Keeping.{best_without_stays}
 use Rattle.demand_api.proofs.Tops.{best_too}
+use Rattle.market_units.proofs.Memberships.{member_total}
+use Rattle.std.proofs.lemmas.List.{length-map}
+use Rattle.demand_api.specs.declared.crowd.Crowd.{Crowd}
+use Rattle.demand_api.specs.Views.{data_of}
+use Rattle.demand_api.proofs.Parts.{students_length}
 
 -- 1 where the student takes the section, 0 where not
 abbrev pub taken : ℕ → (ℕ → ℕ) → ℕ → Student → ℕ
@@ -34,10 +38,6 @@ top_above crowd = above (suc (greatest_budget crowd.students)) crowd.students (o
     above : (least : ℕ) (students : List Student) → greatest_budget students < least → IsAboveBudgets least students
     above least [] low = λ i d none. absurd (omega arith)
     above least (x ∷ xs) low = All-cons (λ student. student.budget < least) x xs (omega arith) (above least xs (omega arith))
-
-pub total-map : {A B : Type 0} (f : B → ℕ) (g : A → B) (xs : List A) → total f (map g xs) ≡ total (λ x. f (g x)) xs
-total-map f g [] = refl
-total-map f g (x ∷ xs) = omega (arith, total-map f g xs)
 
 -- the count as a sum over the students
 pub count_taken : (crowd : CrowdData) (price : ℕ → ℕ) (s : ℕ) → count crowd price s ≡ total (taken crowd.sections price s) crowd.students
@@ -67,14 +67,6 @@ count_falls crowd s before after is =
     total-le (taken crowd.sections after s) (taken crowd.sections before s) crowd.students (taken_falls crowd.sections s before after is) in
     omega (arith, falls, count_taken crowd after s, count_taken crowd before s)
 
--- a member's price is at most the sum
-pub member_le : (price : ℕ → ℕ) (ss : List ℕ) (s : ℕ) → has ss s ≡ true → price s ≤ total price ss
-member_le price [] s is = absurd (false≢true is)
-member_le price (t ∷ ts) s is = elim (has-cases t ts s is) [
-  | inl here ↦ let e : price t ≡ price s = ap price here in omega arith
-  | inr there ↦ let h : price s ≤ total price ts = member_le price ts s there in omega arith
-]
-
 -- a student takes nothing whose price is above the budget
 pub not_taken : (sections s : ℕ) (price : ℕ → ℕ) (student : Student) → student.budget < price s → taken sections price s student ≡ 0
 not_taken sections s price student high = elim (cases_Bool (has (demand sections price student) s)) [
@@ -82,7 +74,7 @@ not_taken sections s price student high = elim (cases_Bool (has (demand sections
       let best : IsBest (wishes_of student.menu) price student.budget (λ t. nat_lt t sections) (demand sections price student) =
       best-is student.menu price student.budget (λ t. nat_lt t sections) in
       let cost : total price (demand sections price student) ≤ student.budget = best.choice.affordable in
-      let part : price s ≤ total price (demand sections price student) = member_le price (demand sections price student) s has_it in
+      let part : price s ≤ total price (demand sections price student) = member_total price (demand sections price student) s has_it in
       absurd (omega arith)
   | inr lacks ↦ rw lacks refl
 ]
@@ -150,3 +142,12 @@ pub errors_by_top : (crowd : CrowdData) (seats : List ℕ) (one other : List Tok
 errors_by_top crowd seats one other same =
     ap (λ found. error found seats one) (counts_by_top crowd (price_in one) (price_in other) (same_up_to (top crowd) one other same))
     ∙ error_by_top (counts crowd (price_in other)) seats one other (top crowd) (top_some crowd) same
+
+-- what each student takes is one bundle for each
+pub length-demands : (crowd : CrowdData) (price : ℕ → ℕ) → length (demands crowd price) ≡ length crowd.students
+unfolding demands
+length-demands crowd price = length-map crowd.students (demand crowd.sections price)
+
+-- a student for each menu
+pub crowd_counted : (n : ℕ) (crowd seen : Crowd) → n ≡ vec_len seen.menus → seen ≡ crowd → n ≡ length (data_of crowd).students
+crowd_counted n crowd seen is same = is ∙ ap (λ (x : Crowd). vec_len x.menus) same ∙ crowd.menus.ok.0 ∙ sym (students_length crowd)

@@ -1,7 +1,6 @@
 -- Prices tried by halving.
-use Rattle.std.proofs.Common.{ℕ, zero, suc, ◌≡◌, ◌≢◌, ◌<◌, ◌≤◌, ◌+◌, ◌-◌, ◌/◌, ◌*◌, ◌^◌, ◌==◌, true, false, List, length, arith, refl, sym, ◌∙◌, min}
+use Rattle.std.proofs.Common.{ℕ, zero, suc, ◌≡◌, ◌≢◌, ◌<◌, ◌≤◌, ◌+◌, ◌-◌, ◌/◌, ◌*◌, ◌^◌, ◌==◌, true, false, List, length, arith, refl, sym, ◌∙◌, min, ap, subst, inl, inr}
 use Rattle.std.specs.Prelude.{map, slice_index, slice_index_or, slice_set}
-use Rattle.std.proofs.Common.{ap, subst, inl, inr}
 use Rattle.std.proofs.lemmas.Bool.{cases_Bool, cases_lt, ne_eqb}
 use Rattle.std.proofs.lemmas.Bool.Decides.{nat_tests}
 use Rattle.std.proofs.lemmas.List.{get_or-map, get_or-set_same, get_or-set_other, map-set, length-set}
@@ -269,3 +268,10 @@ halved crowd prices trial s limit low high is met =
     let ordered : low ≤ high = is.ordered in
     let e : high ≡ low = omega arith in
     record { from = is.from; within = subst (λ p. count crowd (with_price (price_in prices) s p) s ≤ limit) e is.within; lower = is.lower }
+
+-- one price that is written over a lower one
+pub is_raised : (prices : List Tokens) (s : ℕ) (price : Tokens) → s < length prices → price_in prices s ≤ price.0
+    → IsRaised s (price_in prices) (price_in (slice_set prices s price))
+is_raised prices s price low up =
+    let here : price_in (slice_set prices s price) s ≡ price.0 = price_written prices s price.0 low in
+    record { others = λ t apart. price_kept prices s price.0 t apart; raised = omega (arith, here, up) }

@@ -12,16 +12,16 @@ use Rattle.bundle_rules.specs.declared.bundle.Bundle.{Bundle}
 use Rattle.bundle_rules.specs.Bundles.{sections_of}
 use Rattle.bundle_rules.specs.Wishes.{AllRated, utility}
 use Rattle.bundle_rules.specs.Menus.{IsMenu, MenuData, wishes_of, adjustment_in, rating_at, credits_at, section_at, place_in}
-use Rattle.bundle_rules.specs.Existence.Places.{on_menu_rated}
+use Rattle.bundle_rules.specs.Existence.Places.{on_menu_rated, section_at-place_in}
 use Rattle.bundle_rules.proofs.Feasibility.{place_of_rated}
 use Rattle.bundle_bounds.specs.Offers.{places_of}
 use Rattle.bundle_bounds.proofs.Gains.{utility-append}
 use Rattle.bundle_rules.proofs.PlacesFirst.{section_at-rises}
 use Rattle.bundle_bounds.proofs.ByPlace.{place_in-section_at}
-use Rattle.bundle_rules.specs.Existence.Places.{section_at-place_in}
 use Rattle.demand_oracle.specs.declared.summed_node.SummedNode.{SummedNode}
 use Rattle.demand_oracle.specs.SummedNodes.{chosen_of, with_place_of, AreSmallSums, IsSummed}
-use Rattle.bundle_bounds.proofs.Openings.{has-last, ascending-last}
+use Rattle.bundle_bounds.proofs.Openings.{ascending-last}
+use Rattle.market_units.proofs.Memberships.{has_push}
 
 -- what is added up to the utility with one more section is small
 pub record AreSmallParts (u adjustments : ℤ) (n rating : ℕ) : Type 0 where
@@ -104,13 +104,13 @@ module _ (m : MenuData) (menu : IsMenu m) (price : ℕ → ℕ) (summed : Summed
 
   pub rated_next : AllRated (wishes_of m) (with_place_of m summed place)
   unfolding wishes_of
-  rated_next t in_it = elim (has-last (chosen_of summed) (section_at m.places place) t in_it) [
+  rated_next t in_it = elim (has_push (chosen_of summed) (section_at m.places place) t in_it) [
     | inl before ↦ is.rated t before
     | inr last ↦ rw (← last, place_of_next) (on_menu_rated m.places place menu.places.each low)
   ]
 
   pub decided_next : (s : ℕ) → has (with_place_of m summed place) s ≡ true → place_in m.places s < place + 1
-  decided_next s in_it = elim (has-last (chosen_of summed) (section_at m.places place) s in_it) [
+  decided_next s in_it = elim (has_push (chosen_of summed) (section_at m.places place) s in_it) [
     | inl before ↦ let at = is.decided s before in omega arith
     | inr last ↦ let at : place_in m.places s ≡ place = ap (place_in m.places) (sym last) ∙ place_of_next in omega arith
   ]

@@ -6,6 +6,7 @@ use Rattle.std.proofs.lemmas.Bool.{cases_eq, cases_lt, true≢false, cases_Bool}
 use Rattle.std.proofs.lemmas.List.{map-append}
 use Rattle.std.proofs.lemmas.Nat.{and_le_l}
 use Rattle.std.proofs.lemmas.Nat.Bits.{bit_at-lt, bit_at-trailing_zeros, bit_at_clear_same, bit_at_clear_other, bit_at_above, bit_at_and, bit_at_not}
+use Rattle.plain_facts.proofs.Truths.{and_parts}
 use Rattle.market_units.specs.Members.{has}
 use Rattle.bundle_rules.specs.Existence.Members.{has-here, has-there}
 use Rattle.bundle_rules.specs.Menus.{IsMenu, wishes_of, section_at, place_in, clash_in}
@@ -16,7 +17,7 @@ use Rattle.bundle_bounds.specs.Opens.{is_apart}
 use Rattle.bundle_bounds.specs.Laws.{IsTakable, IsNode}
 use Rattle.bundle_bounds.specs.Prunings.{MayPrune}
 use Rattle.bundle_bounds.proofs.ByPlace.{place_in-section_at}
-use Rattle.bundle_bounds.proofs.Openings.{both, node_later, open_where_takable}
+use Rattle.bundle_bounds.proofs.Openings.{node_later, open_where_takable}
 use Rattle.demand_oracle.specs.OpenWords.{IsAlone, IsWordOf, Clashes, StaysOpen, IsOpenWord}
 use Rattle.demand_oracle.specs.Search.{IsSearched}
 use Rattle.demand_oracle.proofs.SummedNodes.{pruned_here, shut_here}
@@ -208,7 +209,7 @@ module _ (offer : OfferData) (menu : IsMenu offer.menu) (k place : ℕ) (chosen 
       | inr high ↦ absurd (let none : bit_at word p ≡ 0 = bit_at_above word 64 p fits high in let split = bit_at_and word (bit_not w64 clashes) p in omega arith)
     ],
     λ stays.
-        let parts = both (is_apart offer (places_of offer.menu chosen) p) _ (sym (apart_now p) ∙ stays.apart) in
+        let parts = and_parts (is_apart offer (places_of offer.menu chosen) p) _ (sym (apart_now p) ∙ stays.apart) in
         let within : p < 64 = (let cap : length offer.menu.places ≤ 60 = menu.places.few in let on = stays.on_menu in omega arith) in
         let first : bit_at word p ≡ 1 =
         (is p).1 record { undecided = stays.undecided; on_menu = stays.on_menu; alone = stays.alone; apart = parts.0 } in

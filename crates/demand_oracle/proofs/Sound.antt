@@ -5,10 +5,11 @@ use Rattle.std.proofs.Math.Nat.{add-mul, div-mul-le_self, le-div_iff_mul-le}
 use Rattle.std.specs.Prelude.{ℤ, pos, ◌+ℤ◌, ◌*ℤ◌, ◌≤ℤ◌}
 use Rattle.std.proofs.lemmas.Int.{ints}
 use Rattle.std.proofs.lemmas.List.{append-nil, length-map}
+use Rattle.plain_facts.proofs.Numbers.{rest_fits}
 use Rattle.market_units.specs.Totals.{total}
 use Rattle.market_units.proofs.Sums.{total-append}
 use Rattle.market_units.specs.Members.{has}
-use Rattle.bundle_rules.specs.Existence.Members.{has-here}
+use Rattle.bundle_rules.specs.Existence.Members.{has-here, IsAscending-rest}
 use Rattle.bundle_rules.specs.Wishes.{utility}
 use Rattle.bundle_rules.specs.Menus.{IsMenu, by_place, credits_at, place_in, wishes_of}
 use Rattle.bundle_rules.proofs.Feasibility.{utility_by_place}
@@ -17,7 +18,7 @@ use Rattle.bundle_bounds.specs.Opens.{budget_left, credits_left}
 use Rattle.bundle_bounds.specs.Laws.{IsTakable, IsNode, Completes}
 use Rattle.bundle_bounds.proofs.Gains.{gain, utility-append}
 use Rattle.bundle_bounds.proofs.Soundness.{same_below}
-use Rattle.bundle_bounds.proofs.Openness.{MayBeTaken, ascending_rest, has-append_right, front_of}
+use Rattle.bundle_bounds.proofs.Openness.{MayBeTaken, has-append_right, front_of}
 use Rattle.bundle_bounds.proofs.ByPlace.{taken_places, has-places}
 use Rattle.demand_oracle.specs.declared.multipliers.Multipliers.{Multipliers}
 use Rattle.demand_oracle.specs.Values.{hopes_from, most_added, value, units_at}
@@ -35,9 +36,6 @@ pub record AreAdded (offer : OfferData) (k : ℕ) (cs ps ds : List ℕ) : Type 0
   pub count : length ps ≡ length cs + length ds
   pub few : length ps ≤ offer.menu.courses
 
-rest_of : (whole front more cap : ℕ) → whole ≡ front + more → whole ≤ cap → more ≤ cap - front
-rest_of whole front more cap split fits = omega arith
-
 pub added_places : (offer : OfferData) (k : ℕ) (chosen bundle : List ℕ) → IsMenu offer.menu → IsNode offer k chosen → IsTakable offer bundle
     → Completes offer k chosen bundle → (ds : List ℕ) × AreAdded offer k (places_of offer.menu chosen) (places_of offer.menu bundle) ds
 added_places offer k chosen bundle menu node may completes =
@@ -53,14 +51,14 @@ added_places offer k chosen bundle menu node may completes =
       record {
         split = front.1;
         free = record {
-          ascending = ascending_rest cs ds taken.ascending;
+          ascending = IsAscending-rest cs ds taken.ascending;
           later = front.2;
           on_menu = λ p is. taken.on_menu p (has-append_right cs ds p is);
           allowed = λ p is. taken.allowed p (has-append_right cs ds p is);
           apart = λ p q is is' other. taken.apart p q (has-append_right cs ds p is) (has-append_right cs ds q is') other;
         };
-        affordable = rest_of _ _ _ _ (total-append (price_at offer) cs ds) taken.affordable;
-        credits = rest_of _ _ _ _ (total-append (credits_at offer.menu.places) cs ds) taken.credits;
+        affordable = rest_fits _ _ _ _ (total-append (price_at offer) cs ds) taken.affordable;
+        credits = rest_fits _ _ _ _ (total-append (credits_at offer.menu.places) cs ds) taken.credits;
         count = ap length front.1 ∙ length-append cs ds;
         few = second.courses;
       },

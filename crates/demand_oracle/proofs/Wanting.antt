@@ -11,8 +11,9 @@ use Rattle.bundle_bounds.specs.Offers.{OfferData}
 use Rattle.bundle_bounds.specs.Laws.{IsTakable, IsNode, Completes}
 use Rattle.bundle_bounds.specs.Prunings.{MayPrune}
 use Rattle.bundle_bounds.proofs.ByPlace.{on_menu, place_in-section_at}
-use Rattle.bundle_bounds.proofs.Openings.{has-last, ascending-last}
+use Rattle.bundle_bounds.proofs.Openings.{ascending-last}
 use Rattle.demand_oracle.specs.Search.{IsSearched}
+use Rattle.market_units.proofs.Memberships.{has_push}
 
 module _ (offer : OfferData) (wanted : List ℕ → Bool) where
   -- such a node changes no champion
@@ -48,7 +49,7 @@ module _ (offer : OfferData) (menu : IsMenu offer.menu) (place : ℕ) (on : plac
     -- a bundle that completes a node and has the section of an undecided place has all of the chosen ones with it
     part : (bundle : List ℕ) → Completes offer k chosen bundle → has bundle (section_at offer.menu.places place) ≡ true
         → IsPart (chosen ++ section_at offer.menu.places place ∷ []) bundle
-    part bundle completes has_it t is = elim (has-last chosen (section_at offer.menu.places place) t is) [
+    part bundle completes has_it t is = elim (has_push chosen (section_at offer.menu.places place) t is) [
       | inl before ↦
           let listed = on_menu offer chosen node.takable t before in
           let at : section_at offer.menu.places (place_in offer.menu.places t) ≡ t = section_at-place_in offer.menu.places t listed in

@@ -1,24 +1,17 @@
 -- Lines of names, one more of them.
 use Rattle.std.proofs.Common.{ℕ, ◌≡◌, ◌+◌, ◌<◌, List, [], ◌∷◌, ◌++◌, length, map, take, get_or, ap, sym, arith, ◌∙◌, append_assoc}
 use Rattle.std.specs.Prelude.{Some, option_map, slice_get}
-use Rattle.std.proofs.lemmas.List.{get_or-map, get_or_default, length-map}
+use Rattle.std.proofs.lemmas.List.{get_or_default, length-map}
 use Rattle.bundle_rules.specs.Bundles.{sections_of}
 use Rattle.bundle_rules.specs.declared.bundle.Bundle.{Bundle}
 use Rattle.course_catalog.specs.Sections.{Section, section_at, section_names}
 use Rattle.market_certificate.specs.Lines.{joined}
 use Rattle.market_certificate.specs.Texts.{each_line}
 use Rattle.market_certificate.proofs.Joins.{each_more, joined_append, text_more, value_at}
-use Rattle.market_units.proofs.NameLists.{read_at}
-use Rattle.student_roll.specs.Students.{Student, names_of, no_student}
+use Rattle.student_roll.specs.Students.{Student, names_of}
 use Rattle.market_certificate.proofs.SectionNames.{section_name}
 use Rattle.demand_text.specs.Texts.{count_line, taken_line}
-
--- the name of a student is that of its place
-student_name : (students : List Student) (n : ℕ) (name : List ℕ) → n < length students
-    → option_map (λ (student : Student). student.name) (slice_get students n) ≡ Some name → name ≡ get_or (names_of students) n []
-student_name students n name inside named =
-    read_at (λ (student : Student). student.name) students n name no_student named
-    ∙ sym (get_or-map (λ (student : Student). student.name) students n no_student [] inside)
+use Rattle.student_roll.proofs.RollNames.{student_name}
 
 -- a text with the line of one name more
 line_more : {V : Type 0} (line : List ℕ → V → List ℕ) (names : List (List ℕ)) (values : List V) (n : ℕ) (name : List ℕ) (value : V) (begun text new : List ℕ)

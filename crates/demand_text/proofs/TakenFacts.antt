@@ -1,21 +1,22 @@
 -- What a crowd takes at prices that are cut to the top.
-use Rattle.std.proofs.Common.{ℕ, zero, suc, ◌≡◌, ◌<◌, ◌≤◌, ◌+◌, ◌∙◌, true, List, [], ◌∷◌, ◌++◌, length, map, get_or, refl, ap, sym, subst, arith}
+use Rattle.std.proofs.Common.{ℕ, ◌≡◌, ◌<◌, ◌≤◌, ◌+◌, ◌∙◌, List, [], ◌∷◌, ◌++◌, length, map, get_or, refl, ap, sym, subst, arith}
 use Rattle.std.specs.Prelude.{All, min}
 use Rattle.std.proofs.lemmas.List.{get_or_default, length-map, map-append}
 use Rattle.std.proofs.lemmas.List.Elements.{All-map}
 use Rattle.bundle_rules.specs.Demand.{price_in}
 use Rattle.bundle_rules.specs.Places.{places_from}
 use Rattle.market_units.specs.Members.{has}
-use Rattle.bundle_rules.specs.Existence.Members.{has-here, has-there}
 use Rattle.clearing_error.specs.Errors.{error}
 use Rattle.demand_api.specs.Asking.{ArePricesFor}
 use Rattle.demand_api.specs.Crowds.{CrowdData, counts, demands, holders, top}
-use Rattle.demand_api.proofs.Counts.{demands_by_top, same_up_to}
+use Rattle.demand_api.proofs.Counts.{demands_by_top, same_up_to, length-demands}
 use Rattle.demand_api.proofs.Takers.{demand_within}
 use Rattle.market_units.specs.declared.units.Tokens.{Tokens}
 use Rattle.own_price.specs.Holding.{HeldData, Holds}
-use Rattle.own_price.proofs.Raising.{places_more, students_demands}
+use Rattle.own_price.proofs.Raising.{places_more}
 use Rattle.demand_text.specs.Taken.{IsTakenBy, TakenData, taken_at}
+use Rattle.market_units.proofs.Memberships.{has_at}
+use Rattle.bundle_rules.proofs.PlaceLists.{length-places_from}
 
 -- prices, each cut to this one
 abbrev pub cut_to : ℕ → List Tokens → List Tokens
@@ -50,12 +51,8 @@ counts_more bundles n count found more are put is =
     (ap (map (λ s. holders s bundles)) (places_more 0 n) ∙ map-append (λ s. holders s bundles) (places_from 0 n) ((0 + n) ∷ [])
     ∙ ap (λ m. map (λ s. holders s bundles) (places_from 0 n) ++ holders m bundles ∷ []) (let e : 0 + n ≡ n = omega arith in e))
 
-places_long : (first n : ℕ) → length (places_from first n) ≡ n
-places_long first zero = refl
-places_long first (suc n) = omega (arith, places_long (suc first) n)
-
 pub counts_long : (bundles : List (List ℕ)) (n : ℕ) → length (map (λ s. holders s bundles) (places_from 0 n)) ≡ n
-counts_long bundles n = length-map (places_from 0 n) (λ s. holders s bundles) ∙ places_long 0 n
+counts_long bundles n = length-map (places_from 0 n) (λ s. holders s bundles) ∙ length-places_from 0 n
 
 -- what is held at cut prices is what is taken at the prices as they are
 pub held_bundles : (crowd : CrowdData) (prices asked : List Tokens) (held : HeldData) (most : ℕ) → most ≡ top crowd → asked ≡ cut_to most prices
@@ -79,24 +76,18 @@ taken_whole crowd seats prices bundles found e are count is =
     let last : e ≡ error (counts crowd (price_in prices)) seats prices = is ∙ ap (λ (cs : List ℕ). error cs seats prices) count in
     cc
 
--- a member of a set is in it
-member_in : (set : List ℕ) (k d : ℕ) → k < length set → has set (get_or set k d) ≡ true
-member_in [] k d low = absurd (omega arith)
-member_in (x ∷ xs) zero d low = has-here x xs
-member_in (x ∷ xs) (suc k) d low = has-there x xs (get_or xs k d) (member_in xs k d (omega arith))
-
 -- students take sections of their market
 demands_within : (crowd : CrowdData) (price : ℕ → ℕ) → All (λ (bundle : List ℕ). All (λ s. s < crowd.sections) bundle) (demands crowd price)
 demands_within crowd price k d inside n e low =
     demand_within crowd price k (get_or (get_or (demands crowd price) k d) n e)
     (ap (λ bundle. has bundle (get_or (get_or (demands crowd price) k d) n e)) (get_or_default (demands crowd price) k [] d inside)
-    ∙ member_in (get_or (demands crowd price) k d) n e low)
+    ∙ has_at (get_or (demands crowd price) k d) n e low)
 
 pub taken_by_crowd : (crowd : CrowdData) (seats : List ℕ) (prices : List Tokens) (taken : TakenData) → taken ≡ taken_at crowd seats prices
     → IsTakenBy (length crowd.students) crowd.sections taken
 taken_by_crowd crowd seats prices taken is =
     subst (IsTakenBy (length crowd.students) crowd.sections) (sym is) (record {
-      each = students_demands crowd (price_in prices);
+      each = length-demands crowd (price_in prices);
       within = demands_within crowd (price_in prices);
       count = counts_long (demands crowd (price_in prices)) crowd.sections;
     })

@@ -5,7 +5,6 @@ use Rattle.std.proofs.lemmas.List.{length-append}
 use Rattle.std.proofs.lemmas.Nat.{mul-le}
 use Rattle.std.proofs.Math.Nat.{pow-le-pow_right}
 use Rattle.demand_api.specs.Asking.{RoseAtMost}
-use Rattle.demand_api.specs.Crowds.{CrowdData, top}
 use Rattle.demand_workers.specs.Allowances.{HasSpent}
 
 -- one part after another
@@ -60,11 +59,6 @@ digits_least place number digits low high = elim (cases_lt place digits) [
   | inl inside ↦ omega (arith, inside)
   | inr past ↦ let more : 2 ^ digits ≤ 2 ^ place = pow-le-pow_right {n = 2} (omega arith) past in absurd (omega (arith, more))
 ]
-
--- the top is some price
-pub top_some : (crowd : CrowdData) → 1 ≤ top crowd
-unfolding top
-top_some crowd = omega arith
 
 -- with two rounds, walks ask no more than one student for each of these digits, and one more, for each pair and student
 pub walks_within : (pairs own digits n students : ℕ) → 1 ≤ pairs → 1 ≤ own → own ≤ digits → n ≡ students

@@ -1,12 +1,5 @@
 -- What each student takes, as lists of one length.
 use Rattle.std.proofs.Common.{ℕ, suc, ◌≡◌, ◌<◌, ◌∙◌, List, [], ◌∷◌, length, map, slice_index_or, refl, ap, arith}
-use Rattle.std.proofs.lemmas.List.{length-map}
-use Rattle.demand_api.specs.Crowds.{CrowdData, demand, demands}
-
--- what each student takes is one bundle for each
-pub as_many_demands : (crowd : CrowdData) (price : ℕ → ℕ) → length (demands crowd price) ≡ length crowd.students
-unfolding demands
-as_many_demands crowd price = length-map crowd.students (demand crowd.sections price)
 
 -- lists of as many items are mapped to the same where each item is
 pub maps_same : {A B C : Type 0} (f : A → C) (g : B → C) (xs : List A) (ys : List B) (e : B) → length xs ≡ length ys

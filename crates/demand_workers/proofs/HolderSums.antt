@@ -11,9 +11,8 @@ use Rattle.market_units.specs.Members.{has}
 use Rattle.bundle_rules.specs.Places.{places_from}
 use Rattle.demand_api.specs.Crowds.{CrowdData, demands, count}
 use Rattle.demand_api.specs.Prices.{with_price}
-use Rattle.demand_api.proofs.Counts.{total_none}
+use Rattle.demand_api.proofs.Counts.{total_none, length-demands}
 use Rattle.demand_workers.specs.Leaving.{takes, listed}
-use Rattle.demand_workers.proofs.Counting.{as_many_demands}
 
 -- a sum of sums, number by number
 total_split : (f g h : ℕ → ℕ) (ns : List ℕ) → ((i : ℕ) → f i ≡ g i + h i) → total f ns ≡ total g ns + total h ns
@@ -79,7 +78,7 @@ module _ (crowd : CrowdData) (price : ℕ → ℕ) (s p : ℕ) (hs : List (ℕ �
   counted : count crowd (with_price price s p) s ≡ total ind places
   counted =
       total_by_place (λ bundle. if has bundle s then 1 else 0) (demands crowd (with_price price s p))
-      ∙ ap (λ n. total ind (places_from 0 n)) (as_many_demands crowd (with_price price s p))
+      ∙ ap (λ n. total ind (places_from 0 n)) (length-demands crowd (with_price price s p))
 
   -- if each holder takes the section, and each is listed once, at least as many students take it
   pub count_at_least : ((i : ℕ) → listed i hs ≤ 1) → All (λ (h : ℕ × ℕ). takes crowd price s p h.1 ≡ true) hs → length hs ≤ count crowd (with_price price s p) s

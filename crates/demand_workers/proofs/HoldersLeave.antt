@@ -10,7 +10,7 @@ use Rattle.std.proofs.lemmas.List.Elements.{All-append, All-cons, All-nil, All-t
 use Rattle.std.proofs.lemmas.List.Sums.{sum_by-cons, sum_by_more, sum_by_push}
 use Rattle.market_units.specs.declared.units.SectionNo.{SectionNo}
 use Rattle.bundle_rules.specs.Ordinals.{ordinals}
-use Rattle.demand_workers.specs.Leaving.{AreListed}
+use Rattle.demand_workers.specs.Leaving.{AreListed, takes, leaves, listed, Keeps, AreLeft}
 use Rattle.demand_workers.specs.Views.{crowd_of, price_before}
 use Rattle.demand_workers.specs.declared.remembered.Remembered.{Remembered}
 use Rattle.std.proofs.lemmas.List.Sorted.{All-permutation, IsPermutation-sym, sum_by-IsPermutation, sum_by_popped, sum_by_pushed}
@@ -25,14 +25,14 @@ use Rattle.demand_api.specs.Asking.{ArePricesFor}
 use Rattle.demand_api.specs.Crowds.{Student, CrowdData, greatest_budget, top, demand, demands, demand_of, count}
 use Rattle.demand_api.specs.Views.{data_of}
 use Rattle.demand_api.specs.Prices.{with_price, IsRaised, IsLeastFrom}
-use Rattle.demand_api.proofs.Counts.{taken_falls, member_le, demands_by_top}
+use Rattle.demand_api.proofs.Counts.{taken_falls, demands_by_top}
 use Rattle.demand_api.proofs.Halving.{with_here, with_there, with_raised, price_at, price_kept, price_written, tried}
 use Rattle.demand_api.proofs.Keeping.{same_cost, none_falls}
 use Rattle.demand_api.proofs.Parts.{top_high}
-use Rattle.demand_workers.specs.Leaving.{takes, leaves, listed, Keeps, AreLeft}
 use Rattle.demand_workers.proofs.HolderSums.{one_at, count_at_least, count_at_most}
 use Rattle.demand_workers.specs.Notes.{budget_of}
 use Rattle.demand_workers.proofs.Recalling.{budget_is, kept_bundle, taken_affordable}
+use Rattle.market_units.proofs.Memberships.{member_total}
 
 -- at the same prices a student takes the same
 pub demand_same : (crowd : CrowdData) (one other : ℕ → ℕ) (i : ℕ) → ((t : ℕ) → one t ≡ other t) → demand_of crowd one i ≡ demand_of crowd other i
@@ -134,7 +134,7 @@ holder_told crowd prices s i place cost budget bundle are within low has_it told
     let price : ℕ → ℕ = price_in prices in
     let own : budget_of (data_of crowd) i ≡ budget.0 = budget_is crowd i budget low has_it in
     let paid : total price bundle ≤ budget_of (data_of crowd) i = taken_affordable (data_of crowd) price i bundle told in
-    let part : price s ≤ total price bundle = member_le price bundle s holds in
+    let part : price s ≤ total price bundle = member_total price bundle s holds in
     let high : budget_of (data_of crowd) i < top (data_of crowd) = budget_below_top (data_of crowd) i in
     let length_is : length prices ≡ crowd.sections = are.same in
     let here : (slice_index_or prices place (record { 0 = 0 })).0 ≡ price s =

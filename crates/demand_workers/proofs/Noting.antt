@@ -16,7 +16,7 @@ use Rattle.demand_api.specs.Views.{data_of}
 use Rattle.demand_api.specs.Prices.{IsRaised}
 use Rattle.price_board.specs.Terms.{same_sections}
 use Rattle.price_board.proofs.Numbering.{same_sections-is, same_sections-own}
-use Rattle.demand_api.proofs.Halving.{price_at, price_kept, price_written}
+use Rattle.demand_api.proofs.Halving.{price_at, price_kept, price_written, is_raised}
 use Rattle.demand_api.proofs.Keeping.{none_falls, same_cost}
 use Rattle.demand_api.proofs.Parts.{students_length}
 use Rattle.demand_api.proofs.Takers.{demand_within}
@@ -112,13 +112,6 @@ right_noted crowd note right =
       within = λ s is. demand_within crowd noted note.student.0 s (subst (λ (b : List ℕ). has b s ≡ true) told is);
       taken = λ after none paid. kept_bundle crowd noted after note.student.0 (sections_of note.bundle) (λ k d _. none _) paid told;
     }
-
--- one price that is written over a lower one
-pub is_raised : (prices : List Tokens) (s : ℕ) (price : Tokens) → s < length prices → price_in prices s ≤ price.0
-    → IsRaised s (price_in prices) (price_in (slice_set prices s price))
-is_raised prices s price low up =
-    let here : price_in (slice_set prices s price) s ≡ price.0 = price_written prices s price.0 low in
-    record { others = λ t apart. price_kept prices s price.0 t apart; raised = omega (arith, here, up) }
 
 -- a bundle without the section stays where only the section's price rises
 pub lacking_stays : (crowd : Crowd) (prices raised : List Tokens) (s i : ℕ) (least : Tokens) (bundle : List ℕ)

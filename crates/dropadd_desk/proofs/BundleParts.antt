@@ -1,10 +1,11 @@
 -- The parts of a bundle around a section.
-use Rattle.std.proofs.Common.{ℕ, suc, ◌≡◌, ◌<◌, ◌≤◌, ◌+◌, ◌++◌, ◌∙◌, Bool, true, false, List, [], ◌∷◌, length, take, drop, arith, refl, sym, ap, subst, map, None, Some, cond, get_or}
+use Rattle.std.proofs.Common.{ℕ, suc, ◌≡◌, ◌<◌, ◌≤◌, ◌+◌, ◌++◌, ◌∙◌, Bool, true, false, List, [], ◌∷◌, length, take, drop, arith, sym, ap, subst, map, None, Some, cond, get_or}
 use Rattle.std.specs.Prelude.{nat_lt, nat_le, not}
 use Rattle.std.proofs.lemmas.Bool.{ltb-false}
 use Rattle.std.specs.List.{All, filter, position, position_or_len}
 use Rattle.std.proofs.lemmas.List.Elements.{All-map}
 use Rattle.std.proofs.lemmas.List.{append_assoc, length-append, get_or-map, length-map, map-append, map_more, take-append-drop}
+use Rattle.plain_facts.proofs.Outcomes.{cond_some, cond_none}
 use Rattle.market_units.specs.declared.units.SectionNo.{SectionNo}
 use Rattle.bundle_rules.specs.declared.bundle.Bundle.{Bundle}
 use Rattle.bundle_rules.specs.Bundles.{sections_of}
@@ -90,13 +91,8 @@ narrowed s xs is there =
       bundle = bundle;
     }
 
--- the place that was found, and none
-position_cases : (b : Bool) (n i : ℕ) → cond b (Some n) None ≡ Some i → i ≡ n
-position_cases true n i e = cc
-position_cases false n i e = cc
-
 pub found_place : (p : SectionNo → Bool) (xs : List SectionNo) (i : ℕ) → position p xs ≡ Some i → i ≡ position_or_len p xs
-found_place p xs i e = position_cases (nat_lt (position_or_len p xs) (length xs)) (position_or_len p xs) i e
+found_place p xs i e = cond_some (nat_lt (position_or_len p xs) (length xs)) (position_or_len p xs) i e
 
 -- how far a front can be cut off
 pub place_most : (s : ℕ) (xs : List SectionNo) → place_in s xs ≤ length xs
@@ -107,13 +103,9 @@ place_most s (x ∷ xs) = most (nat_le s x.0) (place_in s xs) (length xs) (place
     most true n k h = omega arith
     most false n k h = omega arith
 
-none_cases : (b : Bool) (n : ℕ) → cond b (Some n) None ≡ None → b ≡ false
-none_cases true n e = cc
-none_cases false n e = refl
-
 pub no_place : (s : ℕ) (xs : List SectionNo) → position (λ (other : SectionNo). nat_le s other.0) xs ≡ None → length xs ≡ place_in s xs
 no_place s xs e =
-    let past = ltb-false (place_in s xs) (length xs) (none_cases (nat_lt (place_in s xs) (length xs)) (place_in s xs) e) in
+    let past = ltb-false (place_in s xs) (length xs) (cond_none (nat_lt (place_in s xs) (length xs)) (place_in s xs) e) in
     let most = place_most s xs in
     omega (arith, past, most)
 

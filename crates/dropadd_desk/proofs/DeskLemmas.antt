@@ -1,6 +1,6 @@
 -- What the desk's calls find and make.
 use Rattle.std.proofs.Common.{ℕ, zero, suc, ◌≡◌, ◌<◌, ◌≤◌, ◌+◌, ◌++◌, ◌==◌, ◌&&◌, ◌∙◌, Bool, true, false, List, [], ◌∷◌, length, take, drop, get_or, arith, refl, sym, ap, subst, inl, inr, Some, None}
-use Rattle.std.specs.Prelude.{position, slice_get, nat_lt, not, is_some, option_map, Option, All}
+use Rattle.std.specs.Prelude.{position, slice_get, nat_lt, not, is_some, option_map, Option}
 use Rattle.std.specs.List.{before_first, after_first, find, list_any, position_or_len, remove_range}
 use Rattle.std.proofs.lemmas.Bool.{cases_Bool, true≢false, lt-ltb, le-ltb, ltb-true, ltb-false, eqb-true}
 use Rattle.std.proofs.lemmas.List.{length-take-le, drop_all, take_all}
@@ -11,7 +11,6 @@ use Rattle.market_units.specs.declared.names.Name.{Name}
 use Rattle.market_units.specs.declared.units.SectionNo.{SectionNo}
 use Rattle.market_units.specs.declared.units.StudentNo.{StudentNo}
 use Rattle.market_units.specs.Members.{has}
-use Rattle.bundle_rules.specs.Existence.Members.{has-here, has-there}
 use Rattle.dropadd_desk.specs.declared.command.HallCommand.TheVariants.{Add, Drop, Leave, Unreadable}
 use Rattle.dropadd_desk.specs.declared.reply.HallReply.{HallReply}
 use Rattle.dropadd_desk.specs.declared.reply.HallReply.TheVariants as reply
@@ -28,20 +27,6 @@ use Rattle.dropadd_desk.proofs.Queues.{lacks_times}
 pub any_has : (p : ℕ → Bool) (i : ℕ) → ((y : ℕ) → p y ≡ (y == i)) → (list : List ℕ) → list_any p list ≡ has list i
 any_has p i same [] = refl
 any_has p i same (x ∷ xs) = rw (same x, any_has p i same xs) refl
-
--- who stands at a place of a list stands in it
-pub has_get : (list : List ℕ) (k : ℕ) → k < length list → has list (get_or list k 0) ≡ true
-has_get [] k low = absurd (omega arith)
-has_get (x ∷ xs) zero low = has-here x xs
-has_get (x ∷ xs) (suc k) low = has-there x xs (get_or xs k 0) (has_get xs k (omega arith))
-
-pub all_within : (n : ℕ) (list : List ℕ) → ((i : ℕ) → has list i ≡ true → i < n) → All (λ i. i < n) list
-all_within n list within = λ k d low. within (get_or list k d) (at list k d low)
-  where
-    at : (xs : List ℕ) (k d : ℕ) → k < length xs → has xs (get_or xs k d) ≡ true
-    at [] k d low = absurd (omega arith)
-    at (x ∷ xs) zero d low = has-here x xs
-    at (x ∷ xs) (suc k) d low = has-there x xs (get_or xs k d) (at xs k d (omega arith))
 
 -- the first place where a test passes, and none
 pub position_found : (p : ℕ → Bool) (list : List ℕ) (i : ℕ) → i < length list → ((k : ℕ) → k < i → p (get_or list k 0) ≡ false) → p (get_or list i 0) ≡ true

@@ -2,11 +2,9 @@
 use Rattle.std.proofs.Common.{ℕ, ◌≡◌, ◌<◌, Bool, true, false, List, [], ◌∷◌, length, refl, sym, subst, inl, inr, Some, None}
 use Rattle.std.specs.Prelude.{option_map, if◌then◌else◌, Option}
 use Rattle.std.specs.List.{before_first, find}
-use Rattle.std.proofs.lemmas.Bool.{cases_Bool}
 use Rattle.std.proofs.lemmas.List.Elements.{All-cons, All-nil}
 use Rattle.course_catalog.specs.Sections.{sections_clash}
 use Rattle.market_units.specs.Members.{has}
-use Rattle.bundle_rules.specs.Existence.Members.{has-here, has-there}
 use Rattle.dropadd_desk.specs.declared.command.HallCommand.{HallCommand}
 use Rattle.dropadd_desk.specs.declared.command.HallCommand.TheVariants.{Add, Drop, Leave, Unreadable}
 use Rattle.dropadd_desk.specs.declared.reply.HallReply.{HallReply}
@@ -23,18 +21,12 @@ use Rattle.dropadd_desk.specs.Shared.{state_after}
 use Rattle.dropadd_desk.specs.Step.{add, answered, drop as drop_section, first_of, has_free_seat, held_by, leave, pass_on, refusal, step as step_of, waiting_for, where_so, with_held}
 use Rattle.dropadd_desk.proofs.Conserved.{hall_after, names_or_quiet}
 use Rattle.dropadd_desk.proofs.Steps.{within_at}
+use Rattle.market_units.proofs.Memberships.{found_in}
 
 -- a reply that is there names what is there
 abbrev pub InRangeOrNone : Market → Option HallReply → Type 0
 InRangeOrNone market None = Unit {0}
 InRangeOrNone market (Some answer) = NamesInRange market answer
-
-found_in : (p : ℕ → Bool) (xs : List ℕ) (t : ℕ) → find p xs ≡ Some t → has xs t ≡ true
-found_in p [] t e = absurd (cc e)
-found_in p (x ∷ xs) t e = elim (cases_Bool (p x)) [
-  | inl is ↦ let here : Some x ≡ Some t = rw is at e in let same : x ≡ t = cc in subst (λ n. has (x ∷ xs) n ≡ true) same (has-here x xs)
-  | inr other ↦ let rest : find p xs ≡ Some t = rw other at e in has-there x xs t (found_in p xs t rest)
-]
 
 module _ (market : Market) where
   first_named : (o : Option HallReply) (more : List (Option HallReply)) → InRangeOrNone market o → InRangeOrNone market (first_of more)

@@ -1,13 +1,14 @@
 -- Lists in which nobody stands twice.
-use Rattle.std.proofs.Common.{ℕ, zero, suc, ◌≡◌, ◌≢◌, ◌<◌, ◌≤◌, ◌+◌, ◌++◌, ◌==◌, ◌&&◌, ◌∙◌, ◌⊎◌, Bool, true, false, not, List, [], ◌∷◌, length, take, drop, arith, refl, sym, subst, inl, inr, Some}
+use Rattle.std.proofs.Common.{ℕ, zero, suc, ◌≡◌, ◌≢◌, ◌<◌, ◌≤◌, ◌+◌, ◌++◌, ◌==◌, ◌&&◌, ◌∙◌, Bool, true, false, not, List, [], ◌∷◌, length, take, drop, arith, refl, sym, subst, inl, inr, Some}
 use Rattle.std.specs.Prelude.{slice_get, if◌then◌else◌}
 use Rattle.std.proofs.lemmas.Bool.{cases_Bool, cases_eq, eq-eqb, eqb-true, false≢true, true≢false}
 use Rattle.market_units.proofs.Sums.{total-append}
 use Rattle.market_units.specs.Members.{has}
-use Rattle.bundle_rules.specs.Existence.Members.{has-cases, has-there, has-here}
+use Rattle.bundle_rules.specs.Existence.Members.{has-there, has-here}
 use Rattle.dropadd_desk.specs.Halls.{times, IsQueue}
 use Rattle.bundle_rules.specs.Sets.{without_section}
 use Rattle.dropadd_desk.proofs.SetChanges.{has-without}
+use Rattle.market_units.proofs.Memberships.{has_push}
 
 -- who does not stand in a list stands there no time
 pub times_lacks : (i : ℕ) (list : List ℕ) → has list i ≡ false → times i list ≡ 0
@@ -78,13 +79,6 @@ none_behind students i n list is at =
         let rest = counted xs m e in
         let next : suc m + 1 ≡ suc (m + 1) = omega arith in
         rw next (omega (arith, rest))
-
-pub has_push : (list : List ℕ) (i j : ℕ) → has (list ++ i ∷ []) j ≡ true → (has list j ≡ true) ⊎ (i ≡ j)
-has_push [] i j is = elim (has-cases i [] j is) [ inl here ↦ inr here | inr none ↦ absurd (false≢true none) ]
-has_push (x ∷ xs) i j is = elim (has-cases x (xs ++ i ∷ []) j is) [
-  | inl here ↦ inl (subst (λ n. has (x ∷ xs) n ≡ true) here (has-here x xs))
-  | inr there ↦ elim (has_push xs i j there) [ inl before ↦ inl (has-there x xs j before) | inr same ↦ inr same ]
-]
 
 -- somebody new behind the others
 pub queue_more : (students i : ℕ) (list : List ℕ) → IsQueue students list → i < students → has list i ≡ false → IsQueue students (list ++ i ∷ [])

@@ -1,5 +1,5 @@
 -- What is kept of a market, as it is looked up.
-use Rattle.std.proofs.Common.{ℕ, zero, suc, ◌≡◌, ◌<◌, ◌≤◌, ◌+◌, ◌++◌, ◌&&◌, ◌∙◌, Bool, true, false, cond, not, List, [], ◌∷◌, length, map, take, get_or, arith, refl, sym, ap, subst, Some, None, inl, inr, All}
+use Rattle.std.proofs.Common.{ℕ, zero, suc, ◌≡◌, ◌<◌, ◌≤◌, ◌+◌, ◌++◌, ◌&&◌, ◌∙◌, Bool, true, cond, not, List, [], ◌∷◌, length, map, take, get_or, arith, refl, sym, ap, subst, Some, None, inl, inr, All}
 use Rattle.std.specs.Prelude.{position, nat_lt}
 use Rattle.std.specs.List.{find, position_or_len}
 use Rattle.std.specs.Str.{bytes_eq}
@@ -7,7 +7,6 @@ use Rattle.std.specs.Ordering.{nat_cmp}
 use Rattle.std.specs.FinSet as set
 use Rattle.std.proofs.lemmas.Bool.{cases_Bool, lt-ltb}
 use Rattle.std.proofs.lemmas.List.{get_or-map, get_or_default, length-map, map_more}
-use Rattle.std.proofs.lemmas.List.Folds.{find-append}
 use Rattle.market_units.proofs.Sums.{total-append}
 use Rattle.market_units.specs.declared.names.Name.{Name}
 use Rattle.market_units.specs.declared.units.SectionNo.{SectionNo}
@@ -66,12 +65,6 @@ found_first p (x ∷ xs) (suc i) d low none passes = elim (cases_Bool (p x.0)) [
   | inl is ↦ let some : Some x.0 ≡ None = rw is at none in cc
   | inr other ↦ let rest : find p (ordinals (take i xs)) ≡ None = rw other at none in rw other (found_first p xs i d (omega arith) rest passes)
 ]
-
-pub none_more : (p : ℕ → Bool) (xs : List SectionNo) (i : ℕ) (d : SectionNo) → i < length xs → find p (ordinals (take i xs)) ≡ None
-    → p (get_or xs i d).0 ≡ false → find p (ordinals (take (i + 1) xs)) ≡ None
-none_more p xs i d low none fails =
-    ap (find p) (map_more (λ (section : SectionNo). section.0) xs i d low) ∙ find-append p (ordinals (take i xs)) ((get_or xs i d).0 ∷ [])
-    ∙ rw (none, fails) refl
 
 -- tests that agree on all of a list find the same
 pub find_agree : (p q : ℕ → Bool) (xs : List ℕ) → ((t : ℕ) → has xs t ≡ true → p t ≡ q t) → find p xs ≡ find q xs

@@ -9,10 +9,7 @@ use Rattle.bundle_rules.specs.Sets.{AllAbove, IsAscending, without_section}
 use Rattle.bundle_rules.specs.Ordinals.{ordinals}
 use Rattle.bundle_rules.specs.Existence.Members.{has-above}
 use Rattle.dropadd_desk.specs.Sets.{place_in, with_section}
-
-above_all : (x y : ℕ) (ys : List ℕ) → x < y → AllAbove y ys → AllAbove x ys
-above_all x y [] low above = tt
-above_all x y (z ∷ zs) low above = (let h : y < z = above.0 in omega arith, above_all x y zs low above.1)
+use Rattle.bundle_rules.proofs.Ascents.{above_all}
 
 -- nothing above a section that is not below another is below it
 none_lower : (s x : ℕ) (xs : List ℕ) → s ≤ x → AllAbove x xs → filter (λ t. nat_lt t s) xs ≡ []

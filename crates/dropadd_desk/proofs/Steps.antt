@@ -15,7 +15,8 @@ use Rattle.dropadd_desk.specs.Sets.{with_section}
 use Rattle.dropadd_desk.specs.Halls.{IsHall, IsQueue}
 use Rattle.dropadd_desk.specs.Step.{held_by, waiting_for, with_held, with_waiting}
 use Rattle.dropadd_desk.proofs.SetChanges.{has-with, has-without, with_ascends, without_ascends}
-use Rattle.dropadd_desk.proofs.Queues.{queue_behind, queue_more, queue_without, without_has, has_push, has_behind}
+use Rattle.dropadd_desk.proofs.Queues.{queue_behind, queue_more, queue_without, without_has, has_behind}
+use Rattle.market_units.proofs.Memberships.{has_push}
 
 -- what a bundle that is written, and a list that is written, changes
 pub held_here : (state : HallState) (i : ℕ) (set : List ℕ) → i < length state.held → held_by (with_held state i set) i ≡ set

@@ -1,8 +1,9 @@
 -- The final bundles of a publication, as a desk opens with them.
 use Rattle.std.proofs.Common.{ℕ, ◌≡◌, ◌<◌, ◌∙◌, ◌++◌, List, [], ◌∷◌, append_assoc, length, arith, refl, sym, subst}
 use Rattle.std.specs.Prelude.{All, slice_index_or}
+use Rattle.std.proofs.lemmas.List.{length-map}
 use Rattle.bundle_rules.specs.Sets.{IsAscending}
-use Rattle.certificate_checker.proofs.Reading.{length_map, so_of_has}
+use Rattle.certificate_checker.proofs.Reading.{so_of_has}
 use Rattle.chronicle.specs.History.{IsLegal}
 use Rattle.chronicle.proofs.HistoryLaws.{legal_front}
 use Rattle.course_catalog.specs.Catalog.{IsCatalog}
@@ -30,12 +31,12 @@ use Rattle.dropadd_hall.specs.Told.{IsToldHall}
 
 -- one for each student
 pub each_final : (market : Market) (p : Publication) → IsPublication (tables_in market) p → length p.allocation ≡ student_count market
-each_final market p is = is.allocation.count ∙ length_map (λ (student : Student). student.name) market.roll.students
+each_final market p is = is.allocation.count ∙ length-map market.roll.students (λ (student : Student). student.name)
 
 -- each of sections of the catalogue
 pub finals_below : (market : Market) (p : Publication) → IsPublication (tables_in market) p → AreBelow (section_count market) p.allocation
 finals_below market p is = λ n d low s there.
-    let all : length (tables_in market).sections ≡ section_count market = length_map (λ (section : Section). section.name) market.catalog.sections in
+    let all : length (tables_in market).sections ≡ section_count market = length-map market.catalog.sections (λ (section : Section). section.name) in
     let within : s < length (tables_in market).sections =
     so_of_has (λ section. section < length (tables_in market).sections) (slice_index_or p.allocation n d) (is.allocation.each n d low).of_catalog s there in
     omega (arith, all, within)

@@ -1,10 +1,10 @@
 -- What is told where no hall opens.
 use Rattle.std.proofs.Common.{ℕ, ◌≡◌, List, arith, subst}
+use Rattle.std.proofs.lemmas.List.{length-map}
 use Rattle.certificate_checker.specs.declared.findings.Finding.{Finding}
 use Rattle.certificate_checker.specs.declared.findings.Finding.TheVariants.{Allocation, Budget, Infeasible, Journal, NotQuiet, Seats, Text, Tree, Turn, Unaffordable, Used}
 use Rattle.certificate_checker.specs.Findings.{OnFound, end_of}
 use Rattle.certificate_checker.specs.Words.{IsNamedIn}
-use Rattle.certificate_checker.proofs.Reading.{length_map}
 use Rattle.course_catalog.specs.Catalog.{IsCatalog}
 use Rattle.course_catalog.specs.Sections.{Section}
 use Rattle.dropadd_desk.specs.declared.shared.HallState.{HallState}
@@ -70,8 +70,8 @@ fault_stands market state (Used section) is none = is
 
 -- whom it names is on the roll, or in the catalogue
 fault_named : (market : Market) (state : HallState) (finding : Finding) → TellsFault market state finding → IsNamedIn (tables_in market) finding
-fault_named market state (Infeasible student) is = let all = length_map (λ (s : Student). s.name) market.roll.students in omega (arith, all, is.within)
-fault_named market state (Seats section used seats) is = let all = length_map (λ (s : Section). s.name) market.catalog.sections in omega (arith, all, is.within)
+fault_named market state (Infeasible student) is = let all = length-map market.roll.students (λ (s : Student). s.name) in omega (arith, all, is.within)
+fault_named market state (Seats section used seats) is = let all = length-map market.catalog.sections (λ (s : Section). s.name) in omega (arith, all, is.within)
 fault_named market state (Text line kind) is = tt
 fault_named market state (Journal at) is = tt
 fault_named market state (Budget student) is = absurd is

@@ -4,11 +4,12 @@ use Rattle.std.specs.Prelude.{option_map, slice_get, codes}
 use Rattle.std.specs.List.{flat_map, join_with_byte, range_with_len}
 use Rattle.std.proofs.lemmas.Bool.{true≢false}
 use Rattle.std.proofs.lemmas.Bool.Decides.{nat_tests}
-use Rattle.std.proofs.lemmas.List.{get_or-map, map_more, take_more}
+use Rattle.std.proofs.lemmas.List.{map_more, take_more}
 use Rattle.std.proofs.lemmas.List.Concat.{flat_map-append}
 use Rattle.std.proofs.lemmas.List.FromFn.{map-range_with_len_more}
+use Rattle.plain_facts.proofs.Lists.{range_next}
 use Rattle.course_catalog.specs.Catalog.{CatalogData}
-use Rattle.course_catalog.specs.Sections.{Section, no_section, section_at, section_names}
+use Rattle.course_catalog.specs.Sections.{section_at, section_names}
 use Rattle.student_roll.specs.Students.{RollData, Student, names_of}
 use Rattle.demand_api.specs.Crowds.{holders}
 use Rattle.market_certificate.specs.Lines.{joined, spaced}
@@ -20,6 +21,7 @@ use Rattle.dropadd_desk.specs.declared.shared.HallState.{HallState}
 use Rattle.dropadd_desk.specs.Market.{Market, offered}
 use Rattle.dropadd_desk.specs.Step.{held_by}
 use Rattle.dropadd_hall.specs.Texts.{entry_line, held_line, seats_line, section_name, student_name, wait_line, where_any}
+use Rattle.market_certificate.proofs.SectionNames.{section_name as section_name_at}
 
 -- fields behind a first one
 pub fields_joined : (first : List ℕ) (fields : List (List ℕ)) → join_with_byte 32 (first ∷ fields) ≡ first ++ flat_map (λ (field : List ℕ). 32 ∷ field) fields
@@ -61,9 +63,6 @@ student_name_at [] n name low named = absurd (omega arith)
 student_name_at (x ∷ xs) zero name low named = cc
 student_name_at (x ∷ xs) (suc n) name low named = student_name_at xs n name (omega arith) named
 
-pub section_name_at : (sections : List Section) (s : ℕ) → s < length sections → (section_at sections s).name ≡ name_at (section_names sections) s
-section_name_at sections s low = sym (get_or-map (λ (section : Section). section.name) sections s no_section [] low)
-
 -- one line more of those that are made number by number
 pub line_more : (line : ℕ → List ℕ) (n : ℕ) (begun text new : List ℕ) → text ≡ begun ++ joined (map line (range_with_len 0 n))
     → new ≡ (text ++ line n) ++ 10 ∷ [] → new ≡ begun ++ joined (map line (range_with_len 0 (n + 1)))
@@ -71,19 +70,12 @@ line_more line n begun text new so put =
     text_more begun text new (line n) (map line (range_with_len 0 n)) (map line (range_with_len 0 (n + 1))) (map-range_with_len_more line 0 n n (omega arith))
     so put
 
-last : (a n j : ℕ) → a + n ≡ j → range_with_len a (suc n) ≡ range_with_len a n ++ j ∷ []
-last a zero j e = let same : a ≡ j = omega arith in ap (λ k. k ∷ []) same
-last a (suc n) j e = ap (λ l. a ∷ l) (last (a + 1) n j (omega arith))
-
-counting_more : (n : ℕ) → range_with_len 0 (n + 1) ≡ range_with_len 0 n ++ n ∷ []
-counting_more n = let on : n + 1 ≡ suc n = omega arith in ap (range_with_len 0) on ∙ last 0 n n (omega arith)
-
 pub lines_more : (lines : ℕ → List (List ℕ)) (n : ℕ) (begun text new : List ℕ) → text ≡ begun ++ joined (flat_map lines (range_with_len 0 n))
     → new ≡ text ++ joined (lines n) → new ≡ begun ++ joined (flat_map lines (range_with_len 0 (n + 1)))
 lines_more lines n begun text new so put =
     put ∙ ap (λ l. l ++ joined (lines n)) so ∙ append_assoc begun (joined (flat_map lines (range_with_len 0 n))) (joined (lines n))
     ∙ ap (λ l. begun ++ l) (sym (joined_append (flat_map lines (range_with_len 0 n)) (lines n)) ∙ ap joined (ap (λ l. flat_map lines (range_with_len 0 n) ++ l) (sym (append-nil (lines n)))
-    ∙ sym (ap (flat_map lines) (counting_more n) ∙ flat_map-append lines (range_with_len 0 n) (n ∷ []))))
+    ∙ sym (ap (flat_map lines) (range_next n) ∙ flat_map-append lines (range_with_len 0 n) (n ∷ []))))
 
 -- one step's line more
 pub entry_more : (market : Market) (history : List HallStep) (k : ℕ) (step : HallStep) (begun text new : List ℕ) → k < length history

@@ -11,7 +11,6 @@ use Rattle.bundle_rules.specs.Given.{IsBestWith}
 use Rattle.bundle_rules.specs.Menus.{MenuData, place_in, section_at, wishes_of}
 use Rattle.market_units.specs.Members.{has}
 use Rattle.bundle_rules.specs.Wishes.{AllRated}
-use Rattle.bundle_rules.specs.Existence.Members.{has-here, has-there}
 use Rattle.bundle_rules.specs.Existence.Places.{section_at-place_in}
 use Rattle.bundle_rules.proofs.Feasibility.{place_of_rated}
 use Rattle.proof_tree.specs.Texts.{IsTreeText}
@@ -19,6 +18,7 @@ use Rattle.market_certificate.specs.Publications.{Proved}
 use Rattle.explain_desk.specs.declared.explanation.Proved as own
 use Rattle.explain_desk.specs.Explanations.{IsProvedWith, offer_of_all}
 use Rattle.explain_desk.specs.Views.{proved_of}
+use Rattle.market_units.proofs.Memberships.{has_at}
 
 -- a set that has the sections below a number is the test for it
 pub all_is : (all : set.FinSet nat_cmp) (n : ℕ) → ((s : ℕ) → set.contains all s ≡ nat_lt s n) → set.contains all ≡ (λ s. nat_lt s n)
@@ -36,12 +36,6 @@ pub section_below : (menu : MenuData) (n : ℕ) (bundle : List ℕ) → All (λ 
 section_below menu n bundle each rated s is =
     let low : place_in menu.places s < length menu.places = place_of_rated menu bundle rated s is in
     subst (λ t. t < n) (section_at-place_in menu.places s low) (at_below menu.places n (place_in menu.places s) each low)
-
--- the section at an index is in the bundle
-has_at : (bundle : List ℕ) (k d : ℕ) → k < length bundle → has bundle (get_or bundle k d) ≡ true
-has_at [] k d low = absurd (omega (arith, low))
-has_at (s ∷ ss) zero d low = has-here s ss
-has_at (s ∷ ss) (suc k) d low = has-there s ss (get_or ss k d) (has_at ss k d (omega (arith, low)))
 
 pub all_below : (menu : MenuData) (n : ℕ) (bundle : List ℕ) → All (λ (rated : Rated). rated.section.0 < n) menu.places → AllRated (wishes_of menu) bundle
     → All (λ s. s < n) bundle

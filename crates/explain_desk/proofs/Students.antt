@@ -1,6 +1,7 @@
 -- The student of a number, as the crowd and the publication have it.
 use Rattle.std.proofs.Common.{ℕ, ◌≡◌, ◌<◌, List, length, map, get_or, sym, subst, arith}
 use Rattle.std.specs.Prelude.{All, nat_lt, slice_index}
+use Rattle.std.proofs.lemmas.List.{length-map}
 use Rattle.market_units.specs.declared.units.Tokens.{Tokens}
 use Rattle.bundle_rules.specs.declared.menu.Rated.{Rated}
 use Rattle.bundle_rules.specs.Bundles.{sections_of}
@@ -27,7 +28,7 @@ use Rattle.certificate_checker.specs.Students.{offer_in, proved_in}
 use Rattle.published_parts.specs.Offers.{student_in}
 use Rattle.certificate_checker.proofs.Composing.{crowd_length}
 use Rattle.certificate_checker.proofs.Optimal.{best_in_stage_two}
-use Rattle.certificate_checker.proofs.Reading.{length_map, proved_is, student_is}
+use Rattle.certificate_checker.proofs.Reading.{proved_is, student_is}
 use Rattle.explain_desk.specs.Explanations.{ExplainedData, IsExplained, offer_of_all}
 use Rattle.explain_desk.specs.Texts.{explained_text}
 use Rattle.market_certificate.specs.Tables.{name_at}
@@ -71,8 +72,8 @@ lows catalog roll publication crowd place student is low same =
     let drawn : length crowd.budgets.items ≡ length crowd.menus.items = crowd.same in
     let printed : length (map proved_of publication.bundles.items) ≡ length (map (λ (student : Enrolled). student.name) roll.students) =
     is.is_publication.bundles.count in
-    let names = length_map (λ (student : Enrolled). student.name) roll.students in
-    let long = length_map proved_of publication.bundles.items in
+    let names = length-map roll.students (λ (student : Enrolled). student.name) in
+    let long = length-map publication.bundles.items proved_of in
     (omega (arith, asked, count, low, same), omega (arith, asked, count, drawn, low, same), omega (arith, printed, names, long, low, same))
 
 pub stands_at : (catalog : CatalogData) (roll : RollData) (publication : declared.Publication) (crowd : Crowd) (place student : ℕ)
@@ -132,9 +133,9 @@ module _ (crowd : Crowd) (k : ℕ) (publication : declared.Publication) (m : Men
       let many : length (map (λ (t : Tokens). t.0) publication.prices.items) ≡ length (map (λ (section : Section). section.name) catalog.sections) =
       is.is_publication.prices.count in
       let counted : length (map (λ (section : Section). section.name) catalog.sections) ≡ length catalog.sections =
-      length_map (λ (section : Section). section.name) catalog.sections in
+      length-map catalog.sections (λ (section : Section). section.name) in
       let listed : length (map (λ (t : Tokens). t.0) publication.prices.items) ≡ length publication.prices.items =
-      length_map (λ (t : Tokens). t.0) publication.prices.items in
+      length-map publication.prices.items (λ (t : Tokens). t.0) in
       let all : crowd.sections ≡ length catalog.sections = is.sections in
       let small : (get_or m.places j d).section.0 < crowd.sections = menu_within j d inside in
       record {

@@ -1,9 +1,10 @@
 -- What is read of an allocation.
-use Rattle.std.proofs.Common.{◌≡◌, ◌<◌, ◌≤◌, ◌+◌, ◌++◌, ◌∙◌, ℕ, suc, List, [], ◌∷◌, length, ap, sym, subst, arith}
+use Rattle.std.proofs.Common.{◌≡◌, ◌<◌, ◌≤◌, ◌+◌, ◌++◌, ◌∙◌, ℕ, List, [], ◌∷◌, length, ap, sym, subst, arith}
 use Rattle.std.specs.Prelude.{ℤ, None, Some, nat_le, slice_index_or}
 use Rattle.std.specs.List.{range_with_len}
 use Rattle.std.proofs.lemmas.List.{get_or-map, length-map}
 use Rattle.std.proofs.lemmas.List.FromFn.{length-range_with_len}
+use Rattle.plain_facts.proofs.Lists.{range_next}
 use Rattle.market_units.specs.declared.units.Tokens.{Tokens}
 use Rattle.bundle_rules.specs.Bundles.{sections_of}
 use Rattle.bundle_rules.specs.Menus.{MenuData, wishes_of}
@@ -15,13 +16,7 @@ use Rattle.demand_api.proofs.Parts.{menus_few, student_of, students_length}
 use Rattle.fairness_audit.specs.Allocations.{Allocation, IsAllocation, allocation_of, budget_at, bundle_at, menu_at, student_count}
 use Rattle.fairness_audit.specs.Rows.{RowData, SeenData, envied, own_worth, row_over}
 use Rattle.fairness_audit.specs.Tallies.{with_sight}
-use Rattle.fairness_audit.proofs.OneMore.{counts_few, is_envied, not_better, not_itself, range_more}
-
--- the next number behind a range
-pub range_next : (n : ℕ) → range_with_len 0 (n + 1) ≡ range_with_len 0 n ++ n ∷ []
-range_next n =
-    ap (range_with_len 0) (let goal : n + 1 ≡ suc n = omega arith in goal) ∙ range_more 0 n
-    ∙ ap (λ m. range_with_len 0 n ++ m ∷ []) (let goal : 0 + n ≡ n = omega arith in goal)
+use Rattle.fairness_audit.proofs.OneMore.{counts_few, is_envied, not_better, not_itself}
 
 module _ (crowd : Crowd) (bundles : List Bundle) where
   abbrev a : Allocation

@@ -3,7 +3,7 @@ use Rattle.std.proofs.Common.{ℕ, zero, suc, ◌≡◌, ◌<◌, ◌∙◌, add
 use Rattle.std.specs.Prelude.{slice_index_or, slice_set}
 use Rattle.std.proofs.lemmas.Bool.{cases_lt}
 use Rattle.std.proofs.lemmas.Bool.Decides.{eqb_tells}
-use Rattle.std.proofs.lemmas.List.{get_or-map, get_or-set_other, get_or-set_same, take_all}
+use Rattle.std.proofs.lemmas.List.{length-map, get_or-map, get_or-set_other, get_or-set_same, take_all}
 use Rattle.bundle_rules.specs.Menus.{wishes_of}
 use Rattle.bundle_rules.specs.Wishes.{IsFeasible}
 use Rattle.demand_api.specs.Crowds.{CrowdData}
@@ -17,10 +17,10 @@ use Rattle.certificate_checker.specs.Students.{proved_in}
 use Rattle.published_parts.specs.Offers.{student_in}
 use Rattle.certificate_checker.specs.Turns.{held_before, turn_in}
 use Rattle.certificate_checker.proofs.Optimal.{allocated, count, printed, students}
-use Rattle.certificate_checker.proofs.Reading.{length_map}
-use Rattle.certificate_checker.proofs.Turning.{held_length, held_next}
+use Rattle.certificate_checker.proofs.Turning.{held_next}
 use Rattle.fairness_audit.specs.Audits.{final_in, settled_in}
 use Rattle.fairness_audit.specs.Checked.{IsChecked}
+use Rattle.published_parts.proofs.HeldAfter.{length-held_after}
 
 -- this student may take this bundle
 abbrev pub MayTake : CrowdData → ℕ → List ℕ → Type 0
@@ -46,7 +46,7 @@ module _ (market : Market) (streams : List (List Command)) (text : List ℕ) (ac
 
   -- as many bundles of the second stage as students
   pub bundles_count : length (demanded p) ≡ length crowd.students
-  bundles_count = length_map (λ (one : Proved). one.bundle) p.bundles ∙ accepted.is_text.is_publication.bundles.count ∙ students market streams text accepted
+  bundles_count = length-map p.bundles (λ (one : Proved). one.bundle) ∙ accepted.is_text.is_publication.bundles.count ∙ students market streams text accepted
 
   -- the bundle of a student, as it is printed with its tree
   pub settled_is : (k : ℕ) → k < length crowd.students → slice_index_or (demanded p) k [] ≡ (proved_in p k).bundle
@@ -65,7 +65,7 @@ module _ (market : Market) (streams : List (List Command)) (text : List ℕ) (ac
     | inl more ↦
         let next : held_before p (suc t) ≡ slice_set (held_before p t) (turn_in p t).student (turn_in p t).bundle =
         ap (held_before p) (sym (add-one t)) ∙ held_next p t more in
-        let size : length (held_before p t) ≡ length (demanded p) = held_length (demanded p) (take t p.turns) in
+        let size : length (held_before p t) ≡ length (demanded p) = length-held_after (demanded p) (take t p.turns) in
         let many = bundles_count in
         subst (λ (held : List (List ℕ)). MayTake crowd k (slice_index_or held k [])) (sym next)
         (set_so (MayTake crowd) (held_before p t) (turn_in p t).student k (turn_in p t).bundle (omega arith)

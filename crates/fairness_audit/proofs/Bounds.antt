@@ -1,6 +1,6 @@
 -- What is seen in a bundle is worth at most the weights of its sections.
 use Rattle.std.proofs.Common.{◌≡◌, ◌≢◌, ◌<◌, ◌≤◌, ◌+◌, ◌-◌, ◌+ℤ◌, ℕ, zero, suc, true, false, List, [], ◌∷◌, length, map, slice_index, slice_set, sym, subst, arith, inl, inr}
-use Rattle.std.specs.Prelude.{ℤ, pos, negsuc, ◌≤ℤ◌, int_lt}
+use Rattle.std.specs.Prelude.{ℤ, pos, ◌≤ℤ◌, int_lt}
 use Rattle.std.proofs.lemmas.Bool.{cases_eq}
 use Rattle.std.proofs.lemmas.Int.{ints}
 use Rattle.std.proofs.lemmas.List.{get_or-set_other, get_or-set_same}
@@ -18,6 +18,7 @@ use Rattle.bundle_rules.proofs.PlacesFirst.{place_in-rises, section_at-rises}
 use Rattle.fairness_audit.specs.Envy.{is_more, seen}
 use Rattle.bundle_bounds.specs.Opens.{above_zero}
 use Rattle.fairness_audit.specs.Weights.{AreWeights, gains, weight_at}
+use Rattle.bundle_bounds.proofs.Gains.{at_most_above}
 
 -- ---- what weights tell
 
@@ -52,10 +53,6 @@ not_more menu weights are own bundle up high =
 
 -- ---- the weights of a menu
 
-gain_high : (z : ℤ) → z ≤ℤ pos (above_zero z)
-gain_high (pos n) = omega (arith, ints)
-gain_high (negsuc n) = omega (arith, ints)
-
 module _ (places : List Rated) (up : IsAscending (map (λ rated. rated.section.0) places)) (f : ℕ → ℤ) where
   -- adjustments with sections at so many places add no more than the gains there
   within_gains : (count first : ℕ) (ss : List ℕ) → IsAscending ss
@@ -75,7 +72,7 @@ module _ (places : List Rated) (up : IsAscending (map (λ rated. rated.section.0
         | inl same ↦
             let a : ℤ = f p in
             let b : ℤ = signed_total (λ t. f (place_in places t)) ss in
-            let one : a ≤ℤ pos g = subst (λ q. f q ≤ℤ pos (above_zero (f first))) same (gain_high (f first)) in
+            let one : a ≤ℤ pos g = subst (λ q. f q ≤ℤ pos (above_zero (f first))) same (at_most_above (f first)) in
             let rest : b ≤ℤ pos n = within_gains count (first + 1) ss rises.1 (λ t is.
             let there = on t (has-there s ss t is) in
             let q : ℕ = place_in places t in

@@ -1,18 +1,17 @@
 -- In the second stage nobody has lower envy.
-use Rattle.std.proofs.Common.{ℕ, ◌≡◌, ◌≢◌, ◌≤◌, ◌∙◌, Bool, true, List, [], length, sym, subst, inl, inr, arith}
+use Rattle.std.proofs.Common.{ℕ, ◌≡◌, ◌≤◌, ◌∙◌, Bool, true, List, [], length, sym, inl, inr, arith}
 use Rattle.std.specs.Prelude.{ℤ, ◌<ℤ◌, ◌≤ℤ◌, ◌⊎◌, nat_lt, slice_index}
 use Rattle.std.proofs.lemmas.Int.{ints}
 use Rattle.std.proofs.lemmas.List.{get_or-map}
 use Rattle.market_units.specs.Totals.{total}
 use Rattle.bundle_rules.specs.Demand.{IsBest, IsChoice}
-use Rattle.bundle_rules.specs.Preferences.{IsPreferred}
 use Rattle.market_units.specs.Members.{has}
 use Rattle.bundle_rules.specs.Wishes.{IsFeasible, Wishes, utility}
 use Rattle.bundle_rules.proofs.BestValue.{best-only}
 use Rattle.bundle_rules.proofs.Parts.{total_part}
 use Rattle.demand_api.specs.Crowds.{CrowdData, Student, demand, demands}
-use Rattle.fairness_audit.specs.Laws.{AreTakenAt}
-use Rattle.fairness_audit.proofs.Prices.{none_counted_lower}
+use Rattle.fairness_audit.specs.Laws.{AreTakenAt, NoLowerCountInAccepted, NoLowerEnvyInAccepted, settled_of}
+use Rattle.fairness_audit.proofs.Prices.{none_counted_lower, best_worth}
 use Rattle.market_certificate.specs.Publications.{Publication}
 use Rattle.published_parts.specs.Journals.{wishes_in}
 use Rattle.published_parts.specs.Markets.{Market}
@@ -22,22 +21,10 @@ use Rattle.certificate_checker.specs.Certificates.{IsAccepted}
 use Rattle.certificate_checker.specs.Laws.{IsOptimal}
 use Rattle.certificate_checker.proofs.Optimal.{accepted_is_optimal, best_in_stage_two}
 use Rattle.fairness_audit.specs.Audits.{settled_in}
-use Rattle.fairness_audit.specs.Laws.{NoLowerCountInAccepted, NoLowerEnvyInAccepted, settled_of}
 use Rattle.fairness_audit.proofs.Allocating.{settled_is}
 
 none_below : (z : ℤ) → z <ℤ z → ⊥
 none_below z low = omega (arith, ints)
-
--- no other choice is worth more than the best one
-none_better : (w : Wishes) (price : ℕ → ℕ) (budget : ℕ) (allowed : ℕ → Bool) (own other : List ℕ) → IsBest w price budget allowed own
-    → IsChoice w price budget allowed other → utility w own <ℤ utility w other → ⊥
-none_better w price budget allowed own other best choice more =
-    let apart : other ≢ own = λ same. none_below (utility w own) (subst (λ l. utility w own <ℤ utility w l) same more) in
-    decide (best.preferred other choice apart)
-  where
-    decide : IsPreferred w own other → ⊥
-    decide (inl above) = omega (arith, ints)
-    decide (inr level) = none_below (utility w own) (subst (λ z. utility w own <ℤ z) (sym level.0) more)
 
 either_way : (x y : ℤ) → (x ≤ℤ y) ⊎ (y <ℤ x)
 either_way x y = grind (arith, ints)
@@ -58,7 +45,7 @@ no_more mine theirs price b c allowed own other bundle best have less may part =
     } in
     elim (either_way (utility mine bundle) (utility mine own)) [
       | inl holds ↦ holds
-      | inr more ↦ absurd (none_better mine price b allowed own bundle best choice more)
+      | inr more ↦ absurd (best_worth mine price b allowed own bundle best choice more)
     ]
 
 pub no_lower_envy : NoLowerEnvyInAccepted

@@ -1,5 +1,5 @@
 -- Whom and what the rows of an allocation name.
-use Rattle.std.proofs.Common.{◌≡◌, ◌<◌, ◌≤◌, ◌+◌, ◌∙◌, ℕ, zero, suc, Bool, true, Option, Some, None, List, [], ◌∷◌, All, length, refl, sym, subst, arith, inl, inr}
+use Rattle.std.proofs.Common.{◌≡◌, ◌<◌, ◌≤◌, ◌+◌, ◌∙◌, ℕ, zero, suc, Bool, Option, Some, None, List, [], ◌∷◌, All, length, refl, sym, subst, arith, inl, inr}
 use Rattle.std.specs.Prelude.{IfSome, option_map}
 use Rattle.std.specs.List.{find, range_with_len}
 use Rattle.std.proofs.lemmas.Bool.{cases_Bool}
@@ -10,7 +10,6 @@ use Rattle.std.proofs.lemmas.List.Sums.{count_by-le-length}
 use Rattle.bundle_rules.specs.declared.menu.Rated.{Rated}
 use Rattle.bundle_rules.specs.Menus.{MenuData, place_in, section_at, wishes_of}
 use Rattle.market_units.specs.Members.{has}
-use Rattle.bundle_rules.specs.Existence.Members.{has-here, has-there}
 use Rattle.bundle_rules.specs.Existence.Places.{rated_on_menu, section_at-place_in}
 use Rattle.bundle_rules.proofs.BestValue.{best-is}
 use Rattle.demand_api.specs.Crowds.{IsCrowd, IsWithin}
@@ -18,6 +17,7 @@ use Rattle.fairness_audit.specs.Allocations.{Allocation, IsAllocation, bundle_at
 use Rattle.fairness_audit.specs.Envy.{seen}
 use Rattle.fairness_audit.specs.Rows.{ends_but_for, envies, has_envy_beyond_one, has_higher_envy, has_lower_envy, row, rows, sight}
 use Rattle.fairness_audit.specs.Texts.{AreRowsAmong, IsRowAmong, IsSightAmong}
+use Rattle.market_units.proofs.Memberships.{all_within, found_in}
 
 -- what is found is one of those that were looked at
 found_below : (p : ℕ → Bool) (n first j : ℕ) → find p (range_with_len first n) ≡ Some j → j < first + n
@@ -28,16 +28,6 @@ found_below p zero first j is = (let h : None ≡ Some j = is in absurd (none_so
 found_below p (suc n) first j is = elim (cases_Bool (p first)) [
   | inl passes ↦ (let h : Some first ≡ Some j = rw passes at is in let same : first ≡ j = cc in let goal : j < first + suc n = omega arith in goal)
   | inr fails ↦ (let later : j < first + 1 + n = found_below p n (first + 1) j (rw fails at is) in let goal : j < first + suc n = omega arith in goal)
-]
-
-found_in : (p : ℕ → Bool) (ss : List ℕ) (s : ℕ) → find p ss ≡ Some s → has ss s ≡ true
-found_in p [] s is = (let h : None ≡ Some s = is in absurd (none_some s h))
-  where
-    none_some : (k : ℕ) → None ≡ Some k → ⊥
-    none_some k h = cc
-found_in p (x ∷ xs) s is = elim (cases_Bool (p x)) [
-  | inl passes ↦ (let h : Some x ≡ Some s = rw passes at is in let same : x ≡ s = cc in subst (λ t. has (x ∷ xs) t ≡ true) same (has-here x xs))
-  | inr fails ↦ has-there x xs s (found_in p xs s (rw fails at is))
 ]
 
 -- what a menu rates is of the market
@@ -53,11 +43,6 @@ rated_low n menu s within rated =
     let low = rated_on_menu menu.places (place_in menu.places s) rated in
     subst (λ t. t < n) (section_at-place_in menu.places s low) (section_low n menu.places (place_in menu.places s) within low)
 
-all_of : (n : ℕ) (ss : List ℕ) → ((s : ℕ) → has ss s ≡ true → s < n) → All (λ s. s < n) ss
-all_of n [] each k d low = absurd (omega arith)
-all_of n (x ∷ xs) each zero d low = each x (has-here x xs)
-all_of n (x ∷ xs) each (suc k) d low = all_of n xs (λ s is. each s (has-there x xs s is)) k d (omega arith)
-
 module _ (a : Allocation) (crowd : IsCrowd a.crowd) (are : IsAllocation a) where
   within : (i : ℕ) → i < student_count a → IsWithin a.crowd.sections (menu_at a i)
   within i low = crowd.menus i _ low
@@ -66,7 +51,7 @@ module _ (a : Allocation) (crowd : IsCrowd a.crowd) (are : IsAllocation a) where
   sight_among i j low low' = record {
     student = low';
     bundle =
-        all_of a.crowd.sections (seen (menu_at a i) (bundle_at a j))
+        all_within a.crowd.sections (seen (menu_at a i) (bundle_at a j))
         (λ s is. rated_low a.crowd.sections (menu_at a i) s (within i low)
         ((best-is (menu_at a i) (λ t. 0) 0 (has (bundle_at a j))).choice.feasible.rated s is));
     without = named (ends_but_for a i j) refl;

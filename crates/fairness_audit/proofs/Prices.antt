@@ -1,11 +1,12 @@
 -- Envy where all have what they take at one price vector.
 use Rattle.std.proofs.Common.{◌≡◌, ◌≢◌, ◌<◌, ◌≤◌, ◌+◌, ◌++◌, ◌==◌, ◌&&◌, ◌∙◌, ℕ, zero, suc, Bool, true, false, not, List, [], ◌∷◌, refl, ap, sym, subst, arith, inl, inr}
-use Rattle.std.specs.Prelude.{ℤ, ◌<ℤ◌, int_lt, nat_le, nat_lt}
+use Rattle.std.specs.Prelude.{ℤ, ◌<ℤ◌, nat_le, nat_lt}
 use Rattle.std.specs.List.{count_by, range_with_len}
 use Rattle.std.proofs.lemmas.Bool.{cases_Bool, false≢true}
 use Rattle.std.proofs.lemmas.Bool.Decides.{nat_tests}
 use Rattle.std.proofs.lemmas.Int.{ints}
 use Rattle.std.proofs.lemmas.List.{get_or-map}
+use Rattle.plain_facts.proofs.Numbers.{true_lt_signed}
 use Rattle.market_units.specs.Totals.{total}
 use Rattle.bundle_rules.specs.Best.{best}
 use Rattle.bundle_rules.specs.Demand.{IsBest, IsChoice}
@@ -22,11 +23,8 @@ use Rattle.fairness_audit.specs.Laws.{AreTakenAt}
 use Rattle.fairness_audit.specs.Rows.{envies, has_lower_envy, own_worth}
 use Rattle.fairness_audit.proofs.OneMore.{count_more, range_more}
 
-true_below : (x y : ℤ) → int_lt x y ≡ true → x <ℤ y
-true_below x y h = grind (arith, ints)
-
 -- no other choice is worth more than a best bundle
-best_worth : (w : Wishes) (price : ℕ → ℕ) (budget : ℕ) (allowed : ℕ → Bool) (own other : List ℕ) → IsBest w price budget allowed own
+pub best_worth : (w : Wishes) (price : ℕ → ℕ) (budget : ℕ) (allowed : ℕ → Bool) (own other : List ℕ) → IsBest w price budget allowed own
     → IsChoice w price budget allowed other → utility w own <ℤ utility w other → ⊥
 best_worth w price budget allowed own other best choice more =
     let apart : other ≢ own = λ same. none_below (utility w own) (subst (λ l. utility w own <ℤ utility w l) same more) in
@@ -82,7 +80,7 @@ module _ (a : Allocation) (price : ℕ → ℕ) (taken : AreTakenAt a price) whe
           let test : nat_le b c ≡ true = cheap in
           let no_more : b ≤ c = grind (arith, nat_tests) in
           absurd (best_worth (wishes_of (menu_at a i)) price (budget_at a i) all (bundle_at a i) (seen (menu_at a i) (bundle_at a j)) (has_best i low) (could_buy i j low' no_more)
-          (true_below (own_worth a i) (worth (menu_at a i) (seen (menu_at a i) (bundle_at a j))) (right (not (j == i)) (is_more (menu_at a i) (own_worth a i) (bundle_at a j)) envious)))
+          (true_lt_signed (own_worth a i) (worth (menu_at a i) (seen (menu_at a i) (bundle_at a j))) (right (not (j == i)) (is_more (menu_at a i) (own_worth a i) (bundle_at a j)) envious)))
     ]
   ]
     where

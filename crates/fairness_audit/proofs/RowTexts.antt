@@ -1,26 +1,11 @@
 -- Lines of rows, one more of them.
 use Rattle.std.proofs.Common.{◌≡◌, ◌<◌, ◌≤◌, ◌+◌, ◌-◌, ◌++◌, ◌∙◌, ℕ, zero, suc, List, [], ◌∷◌, length, take, drop, get_or, ap, sym, arith, append_assoc}
-use Rattle.std.specs.Prelude.{None, Some, option_map, slice_get}
-use Rattle.std.proofs.lemmas.List.{append-nil, get_or-map, take_all}
+use Rattle.std.proofs.lemmas.List.{append-nil, take_all}
 use Rattle.std.proofs.Math.Seq.{take-length}
 use Rattle.market_certificate.specs.Lines.{joined}
 use Rattle.market_certificate.proofs.Joins.{joined_append}
-use Rattle.student_roll.specs.Students.{Student, names_of, no_student}
 use Rattle.fairness_audit.specs.Rows.{RowData}
 use Rattle.fairness_audit.specs.Texts.{part_lines, row_lines, rows_lines, total_line}
-
--- what is read at a place
-read_at : {X Y : Type 0} (f : X → Y) (xs : List X) (n : ℕ) (y : Y) (d : X) → option_map f (slice_get xs n) ≡ Some y → y ≡ f (get_or xs n d)
-read_at f [] n y d is = (let h : None ≡ Some y = is in cc)
-read_at f (x ∷ xs) zero y d is = (let h : Some (f x) ≡ Some y = is in cc)
-read_at f (x ∷ xs) (suc n) y d is = read_at f xs n y d is
-
--- the name of a student is that of its place
-pub student_name : (students : List Student) (n : ℕ) (name : List ℕ) → n < length students
-    → option_map (λ (student : Student). student.name) (slice_get students n) ≡ Some name → name ≡ get_or (names_of students) n []
-student_name students n name inside named =
-    read_at (λ (student : Student). student.name) students n name no_student named
-    ∙ sym (get_or-map (λ (student : Student). student.name) students n no_student [] inside)
 
 module _ (part : List ℕ) (students sections : List (List ℕ)) where
   next_row : (names : List (List ℕ)) (rows : List RowData) (k : ℕ) (name : List ℕ) (row : RowData) → k < length names → k < length rows

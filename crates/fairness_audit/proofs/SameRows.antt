@@ -1,15 +1,12 @@
 -- Rows that are the same.
-use Rattle.std.proofs.Common.{ℕ, ◌≡◌, ◌==◌, ◌&&◌, Bool, true, false, Option, Some, None, refl, ap, arith}
+use Rattle.std.proofs.Common.{ℕ, ◌≡◌, ◌==◌, ◌&&◌, true, Option, Some, None, refl, ap, arith}
 use Rattle.std.specs.Str.{bytes_eq}
 use Rattle.std.proofs.lemmas.Bool.{false≢true}
 use Rattle.std.proofs.lemmas.Bool.Decides.{nat_tests}
+use Rattle.plain_facts.proofs.Truths.{and_parts}
 use Rattle.course_catalog.proofs.Occurrences.{bytes_eq-same, same-bytes_eq}
 use Rattle.fairness_audit.specs.Rows.{RowData, SeenData}
 use Rattle.fairness_audit.specs.SameRows.{same_first, same_row, same_section}
-
-and_parts : (a b : Bool) → (a && b) ≡ true → (a ≡ true) × (b ≡ true)
-and_parts true b both = (refl, both)
-and_parts false b both = absurd (false≢true both)
 
 same_number : (a b : ℕ) → (a == b) ≡ true → a ≡ b
 same_number a b same = grind (arith, nat_tests)

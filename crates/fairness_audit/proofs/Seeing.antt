@@ -1,11 +1,9 @@
 -- What is seen in a bundle, by the search for it.
-use Rattle.std.proofs.Common.{◌≡◌, ◌<◌, ◌≤◌, ◌+◌, ◌-◌, ◌++◌, ◌∙◌, ℕ, zero, suc, Bool, true, false, List, [], ◌∷◌, Some, None, length, get_or, take, drop, refl, arith, ap, sym, subst, append_assoc, inl, inr}
+use Rattle.std.proofs.Common.{◌≡◌, ◌<◌, ◌≤◌, ◌+◌, ◌-◌, ◌++◌, ℕ, zero, suc, Bool, true, List, [], ◌∷◌, Some, None, length, get_or, take, drop, refl, arith, ap, sym, subst, append_assoc, inl, inr}
 use Rattle.std.proofs.Math.Seq.{take-length}
 use Rattle.std.proofs.lemmas.Bool.{cases_Bool}
-use Rattle.std.proofs.lemmas.List.{map-append, take_more}
-use Rattle.std.proofs.lemmas.List.Folds.{find-append}
 use Rattle.std.specs.List.{find}
-use Rattle.std.specs.Option.{option_or}
+use Rattle.plain_facts.proofs.Lists.{first_rest}
 use Rattle.market_units.specs.declared.units.SectionNo.{SectionNo}
 use Rattle.market_units.specs.Totals.{total}
 use Rattle.bundle_rules.specs.Demand.{IsChoice}
@@ -16,7 +14,6 @@ use Rattle.bundle_rules.specs.Sets.{IsAscending}
 use Rattle.bundle_rules.specs.Wishes.{Wishes, IsFeasible}
 use Rattle.bundle_rules.specs.Existence.Members.{IsAscending-front, IsAscending-middle}
 use Rattle.bundle_rules.proofs.BestValue.{best-only}
-use Rattle.bundle_rules.proofs.Firsts.{first_rest}
 use Rattle.fairness_audit.specs.Envy.{seen}
 use Rattle.fairness_audit.specs.Searching.{IsBestOfThese}
 
@@ -88,12 +85,3 @@ first_at p (x ∷ xs) (suc k) d low before passes = elim (cases_Bool (p x.0)) [
   | inl sooner ↦ (let h : Some x.0 ≡ None = rw sooner at before in cc)
   | inr later ↦ rw later (first_at p xs k d (omega arith) (rw later at before) passes)
 ]
-
--- one more that does not pass
-pub none_more : (p : ℕ → Bool) (items : List SectionNo) (k : ℕ) (d : SectionNo) → k < length items → find p (ordinals (take k items)) ≡ None
-    → p (get_or items k d).0 ≡ false → find p (ordinals (take (k + 1) items)) ≡ None
-none_more p items k d low before fails =
-    ap (λ l. find p (ordinals l)) (take_more items k d low)
-    ∙ ap (find p) (map-append (λ (section : SectionNo). section.0) (take k items) (get_or items k d ∷ []))
-    ∙ find-append p (ordinals (take k items)) ((get_or items k d).0 ∷ []) ∙ ap (λ o. option_or o (find p ((get_or items k d).0 ∷ []))) before
-    ∙ (let goal : find p ((get_or items k d).0 ∷ []) ≡ None = rw fails refl in goal)

@@ -8,10 +8,10 @@ use Rattle.std.specs.FinSet.{contains-empty, contains-insert, contains-remove}
 use Rattle.std.proofs.lemmas.Bool.{cases_Bool, cases_order, cases_lt, eq-eqb, ne_eqb, le-ltb}
 use Rattle.std.proofs.lemmas.Bool.Decides.{nat_tests}
 use Rattle.std.proofs.lemmas.List.{get_or_past}
+use Rattle.plain_facts.proofs.Lists.{first_rest}
 use Rattle.market_units.specs.declared.units.SectionNo.{SectionNo}
 use Rattle.market_units.specs.Members.{has}
 use Rattle.bundle_rules.specs.Ordinals.{ordinals}
-use Rattle.bundle_rules.proofs.Firsts.{first_rest}
 
 insert_here : (s : set.FinSet nat_cmp) (n : ℕ) → set.contains (set.insert s n) n ≡ true
 insert_here s n = contains-insert nat_cmp_total s n n ∙ ap (λ b. b || set.contains s n) (unsigned_tied n n ∙ eq-eqb n n refl)

@@ -14,7 +14,6 @@ use Rattle.bundle_rules.specs.Bundles.{sections_of}
 use Rattle.market_units.specs.Members.{has}
 use Rattle.bundle_rules.specs.Ordinals.{ordinals}
 use Rattle.bundle_rules.specs.Places.{places_from}
-use Rattle.bundle_rules.specs.Existence.Members.{has-cases}
 use Rattle.demand_api.specs.Crowds.{holders}
 use Rattle.demand_api.specs.Counting.{AreCounts, AreWithin, HasCounted}
 use Rattle.demand_api.proofs.Takers.{listed_in, holders_few, index_same, lent_back, listed_by_place}
@@ -35,14 +34,6 @@ pub all_listed : (P : ℕ → Type 0) (sections : List SectionNo) (bundle : List
     → All (λ section. P section.0) sections
 all_listed P sections bundle listed each =
     λ k d low. each (slice_index_or sections k d).0 (ap (λ b. has b (slice_index_or sections k d).0) (sym listed) ∙ listed_in sections k d low)
-
--- and what holds of each of its list holds of each section
-pub each_listed : (P : ℕ → Type 0) (sections : List SectionNo) → All (λ section. P section.0) sections → (s : ℕ) → has (ordinals sections) s ≡ true → P s
-each_listed P [] all s in_it = absurd (false≢true in_it)
-each_listed P (x ∷ xs) all s in_it = elim (has-cases x.0 (ordinals xs) s in_it) [
-  | inl here ↦ subst P here (all 0 x (omega arith))
-  | inr there ↦ each_listed P xs (λ k d low. all (suc k) d (let h : suc k < suc (length xs) = omega arith in h)) s there
-]
 
 -- the bundle at a place has sections below the bound
 pub below_at : (n : ℕ) (held : List (List ℕ)) (i : ℕ) (bundle : List ℕ) → AreBelow n held → slice_get held i ≡ Some bundle → (s : ℕ) → has bundle s ≡ true

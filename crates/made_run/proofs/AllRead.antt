@@ -1,5 +1,4 @@
 -- All texts of a made market are of their grammars.
-use Rattle.std.proofs.Common.{◌≡◌, Ok, Result}
 use Rattle.made_run.specs.Laws.{MadeTextsAreOfTheirGrammars}
 use Rattle.made_run.proofs.CatalogText.{catalog_read}
 use Rattle.made_run.proofs.RollText.{roll_read}
@@ -13,7 +12,3 @@ texts_read seed students sections accept seeded few some small accepted = record
   settings = settings_read seed accept seeded accepted;
   commands = sessions_few seed students sections seeded few some small;
 }
-
--- what is read is one thing
-pub one_answer : {A E : Type 0} (r : Result A E) (a b : A) → r ≡ Ok a → r ≡ Ok b → a ≡ b
-one_answer r a b is so = cc

@@ -1,6 +1,6 @@
 -- The sessions of a made market speak for different students.
-use Rattle.std.proofs.Common.{ℕ, zero, suc, ◌≡◌, ◌≢◌, ◌<◌, ◌≤◌, ◌+◌, ◌%◌, ◌^◌, ◌∙◌, Bool, true, false, cond, nat_eq, List, [], ◌∷◌, length, map, get_or, refl, ap, sym, subst, arith}
-use Rattle.std.specs.Prelude.{◌==◌, ◌&&◌, All, Ok, codes}
+use Rattle.std.proofs.Common.{ℕ, zero, suc, ◌≡◌, ◌≢◌, ◌<◌, ◌≤◌, ◌+◌, ◌%◌, ◌^◌, ◌∙◌, Bool, true, false, nat_eq, List, [], ◌∷◌, length, map, get_or, refl, ap, sym, subst, arith, cond}
+use Rattle.std.specs.Prelude.{◌==◌, All, Ok, codes}
 use Rattle.std.specs.Fmt.{decimal}
 use Rattle.std.specs.List.{list_any, position_or_len, range_with_len}
 use Rattle.std.specs.Str.{bytes_eq}
@@ -9,6 +9,7 @@ use Rattle.std.proofs.lemmas.Fmt.{decimal_injective}
 use Rattle.std.proofs.lemmas.List.{append_cancel_left, length-map}
 use Rattle.std.proofs.lemmas.List.FromFn.{get_or-map-range_with_len, length-range_with_len}
 use Rattle.std.proofs.lemmas.Slice.Eq.{bytes_eq-Decides}
+use Rattle.plain_facts.proofs.Truths.{and_parts}
 use Rattle.utility_language.specs.declared.commands.Command.{Command}
 use Rattle.utility_language.specs.declared.commands.Command.TheVariants.{Rate, Pair, Clear, Close, Unreadable}
 use Rattle.market_maker.specs.Lines.{numbers_to}
@@ -37,10 +38,6 @@ found_there p (x ∷ xs) d some =
           rw test (subst (λ m. p (get_or (x ∷ xs) m d) ≡ true) next (found_there p xs d rest))
     ] refl
 
-both_parts : (a b : Bool) → (a && b) ≡ true → (a ≡ true) × (b ≡ true)
-both_parts true b is = (refl, is)
-both_parts false b is = cc
-
 -- the names of a made market
 abbrev made_names : ℕ → List (List ℕ)
 made_names students = map student_name (numbers_to students)
@@ -49,7 +46,7 @@ made_names students = map student_name (numbers_to students)
 named_so : (names : DeskNames) (students k : ℕ) (student : Name) → names.students ≡ made_names students → k < students → is_named names k student ≡ true
     → name_bytes student ≡ student_name (k + 1)
 named_so names students k student are below named =
-    let parts = both_parts (has_name names.students student) (nat_eq (ordinal_of names.students student) k) named in
+    let parts = and_parts (has_name names.students student) (nat_eq (ordinal_of names.students student) k) named in
     let place : ordinal_of names.students student ≡ k = let test : nat_eq (ordinal_of names.students student) k ≡ true = parts.1 in grind (arith, nat_tests) in
     let there : bytes_eq (name_bytes student) (get_or names.students (ordinal_of names.students student) []) ≡ true =
     found_there (bytes_eq (name_bytes student)) names.students [] parts.0 in

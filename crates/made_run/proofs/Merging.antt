@@ -4,7 +4,6 @@ use Rattle.std.specs.Prelude.{All, slice_index_or}
 use Rattle.std.proofs.lemmas.Bool.Decides.{nat_tests}
 use Rattle.std.proofs.lemmas.List.{ext_get_or, length-replicate}
 use Rattle.std.proofs.lemmas.List.Elements.{All-cons, All-head, All-nil, All-tail}
-use Rattle.market_units.specs.Merges.{part_of}
 use Rattle.utility_language.specs.declared.commands.Command.{Command}
 use Rattle.preference_desk.specs.declared.entry.Entry.{Entry}
 use Rattle.preference_desk.specs.DeskNames.{DeskNames}
@@ -14,7 +13,8 @@ use Rattle.preference_desk.specs.StudentPreferences.{no_preferences}
 use Rattle.made_run.specs.Apart.{AreApart, AreSilentOn, LeavesOpen, is_about}
 use Rattle.made_run.specs.Laws.{OrdersCloseAlike}
 use Rattle.made_run.proofs.OneStudent.{after, own, own_alone, own_less}
-use Rattle.made_run.proofs.Steps.{keeps_rows}
+use Rattle.published_market.proofs.Limited.{rows_after}
+use Rattle.published_parts.proofs.OneJournals.{own_first, others_none}
 
 -- the commands of all entries
 abbrev said : List Entry → List Command
@@ -23,27 +23,6 @@ said journal = map (λ (entry : Entry). entry.command) journal
 after_said : (names : DeskNames) (state : DeskState) (journal : List Entry) → state_after_all names state journal ≡ after names state (said journal)
 after_said names state [] = refl
 after_said names state (entry ∷ more) = after_said names (state_after names state entry.command) more
-
-after_rows : (names : DeskNames) (state : DeskState) (journal : List Entry)
-    → length (state_after_all names state journal).preferences ≡ length state.preferences
-after_rows names state [] = refl
-after_rows names state (entry ∷ more) = after_rows names (state_after names state entry.command) more ∙ keeps_rows names state entry.command
-
--- an entry's own session says its command first, and any other says nothing
-own_first : (x : Entry) (more : List Entry) (n : ℕ) → x.session ≡ n → commands_of_session n (x ∷ more) ≡ x.command ∷ commands_of_session n more
-own_first x more n own =
-    let test : nat_eq x.session n ≡ true = grind (arith, nat_tests) in
-    ap
-    (λ t. map (λ (entry : Entry). entry.command)
-    (cond t (x ∷ part_of (λ (entry : Entry). entry.session) n more) (part_of (λ (entry : Entry). entry.session) n more)))
-    test
-
-others_none : (x : Entry) (more : List Entry) (n : ℕ) → nat_eq x.session n ≡ false → commands_of_session n (x ∷ more) ≡ commands_of_session n more
-others_none x more n test =
-    ap
-    (λ t. map (λ (entry : Entry). entry.command)
-    (cond t (x ∷ part_of (λ (entry : Entry). entry.session) n more) (part_of (λ (entry : Entry). entry.session) n more)))
-    test
 
 -- what holds of each command of each session, by the session's number
 abbrev OfSessions : ℕ → (ℕ → Command → Type 0) → List Entry → Type 0
@@ -140,7 +119,7 @@ wants_alike names streams one other apart merges does k below =
 pub orders_close_alike_law : OrdersCloseAlike
 orders_close_alike_law names streams one other apart merges does =
     let many : length (opening names).preferences ≡ length names.students = length-replicate (length names.students) no_preferences in
-    let rows : length (closed_preferences names one) ≡ length (opening names).preferences = after_rows names (opening names) one in
-    let places : length (closed_preferences names other) ≡ length (opening names).preferences = after_rows names (opening names) other in
+    let rows : length (closed_preferences names one) ≡ length (opening names).preferences = rows_after names (opening names) one in
+    let places : length (closed_preferences names other) ≡ length (opening names).preferences = rows_after names (opening names) other in
     ext_get_or no_preferences (closed_preferences names one) (closed_preferences names other) (rows ∙ sym places)
     (λ k within. wants_alike names streams one other apart merges does k (omega arith))

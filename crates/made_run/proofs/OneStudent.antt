@@ -1,10 +1,11 @@
 -- What one student wants after commands: its own commands alone tell.
 use Rattle.std.proofs.Common.{ℕ, ◌≡◌, ◌<◌, ◌∙◌, Bool, true, false, cond, nat_eq, List, [], ◌∷◌, length, refl, ap, sym, arith}
-use Rattle.std.specs.Prelude.{◌&&◌, All, unsigned_abs}
+use Rattle.std.specs.Prelude.{All, unsigned_abs}
 use Rattle.std.specs.List.{filter}
 use Rattle.std.proofs.lemmas.Bool.Decides.{nat_tests}
 use Rattle.std.proofs.lemmas.Grind.{get_or-set_at}
 use Rattle.std.proofs.lemmas.List.Elements.{All-head, All-tail}
+use Rattle.plain_facts.proofs.Truths.{and_second}
 use Rattle.market_units.specs.declared.names.Name.{Name}
 use Rattle.utility_language.specs.declared.commands.Command.{Command}
 use Rattle.utility_language.specs.declared.commands.Command.TheVariants.{Rate, Pair, Clear, Close, Unreadable}
@@ -14,15 +15,11 @@ use Rattle.preference_desk.specs.StudentPreferences.{StudentPreferences, no_pref
 use Rattle.made_run.specs.Apart.{LeavesOpen, is_about, is_named}
 use Rattle.made_run.proofs.Steps.{keeps_rows, other_keeps, stays_open}
 
-both_true : (a b : Bool) → (a && b) ≡ true → b ≡ true
-both_true true b is = is
-both_true false b is = cc
-
 -- the ordinal of the student that is named
 named_is : (names : DeskNames) (k : ℕ) (student : Name) → is_named names k student ≡ true → ordinal_of names.students student ≡ k
 named_is names k student is =
     let test : nat_eq (ordinal_of names.students student) k ≡ true =
-    both_true (has_name names.students student) (nat_eq (ordinal_of names.students student) k) is in
+    and_second (has_name names.students student) (nat_eq (ordinal_of names.students student) k) is in
     grind (arith, nat_tests)
 
 -- what is written for a student is there

@@ -1,6 +1,6 @@
 -- What the sessions of a made market say: of each command, the number of the student that it is of.
-use Rattle.std.proofs.Common.{ℕ, zero, suc, ◌≡◌, ◌<◌, ◌≤◌, ◌+◌, ◌-◌, ◌%◌, ◌^◌, ◌∙◌, Bool, true, false, cond, List, [], ◌∷◌, ◌++◌, length, map, take, get_or, refl, ap, sym, subst, arith, append_assoc, inl, inr}
-use Rattle.std.specs.Prelude.{◌⊎◌, ◌==◌, All, codes, if◌then◌else◌, nat_lt, slice_index, ⊤}
+use Rattle.std.proofs.Common.{ℕ, zero, suc, ◌≡◌, ◌<◌, ◌≤◌, ◌+◌, ◌-◌, ◌∙◌, Bool, true, false, cond, List, [], ◌∷◌, ◌++◌, length, map, take, get_or, refl, ap, sym, subst, arith, append_assoc, inl, inr, ◌%◌, ◌^◌}
+use Rattle.std.specs.Prelude.{◌⊎◌, All, codes, if◌then◌else◌, nat_lt, ⊤, ◌==◌, slice_index}
 use Rattle.std.specs.Fmt.{decimal, signed_decimal}
 use Rattle.std.specs.List.{AllZip, filter, flat_map, join_with_byte, range_with_len}
 use Rattle.std.specs.Str.Lines.{strip_carriage_return}
@@ -16,12 +16,13 @@ use Rattle.made_run.proofs.Fields.{AreFrom, from_decimal}
 use Rattle.made_run.proofs.SessionLines.{AreWhole, one_line, session_whole}
 use Rattle.utility_language.specs.declared.commands.Command.{Command}
 use Rattle.utility_language.specs.declared.commands.Command.TheVariants.{Rate, Pair, Clear, Close, Unreadable}
-use Rattle.utility_language.specs.Commands.{AreCommands, IsCommandOf, Spells, command_lines, is_command, words_by}
+use Rattle.utility_language.specs.Commands.{AreCommands, IsCommandOf, is_command, words_by, Spells, command_lines}
 use Rattle.utility_language.specs.Laws.{IsWord}
 use Rattle.utility_language.specs.Lines as utility
 use Rattle.utility_language.specs.Words.{is_blank, words_of}
 use Rattle.utility_language.proofs.LineLemmas.{ended_line}
 use Rattle.utility_language.proofs.WordLemmas.{ended_word}
+use Rattle.utility_language.proofs.Printed.{above_blank}
 
 -- the words are a rating or an adjustment of student i
 record IsSaidBy (i : ℕ) (words : List (List ℕ)) : Type 0 where
@@ -65,12 +66,9 @@ said_command i words Unreadable said is = tt
 
 -- ---- the words of a line
 
-no_blank : (b : ℕ) → 33 ≤ b → is_blank b ≡ false
-no_blank b high = rw (ne_eqb b 32 (λ e. omega arith), ne_eqb b 9 (λ e. omega arith)) refl
-
 no_blanks : (word : List ℕ) → AreFrom 33 word → All (λ byte. is_blank byte ≡ false) word
 no_blanks [] from = All-nil (λ byte. is_blank byte ≡ false)
-no_blanks (b ∷ bs) from = All-cons (λ byte. is_blank byte ≡ false) b bs (no_blank b from.0) (no_blanks bs from.1)
+no_blanks (b ∷ bs) from = All-cons (λ byte. is_blank byte ≡ false) b bs (above_blank b from.0) (no_blanks bs from.1)
 
 is_word : (word : List ℕ) → 0 < length word → AreFrom 33 word → IsWord word
 is_word word some from = record { some = some; whole = no_blanks word from }

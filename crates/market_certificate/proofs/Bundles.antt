@@ -1,24 +1,24 @@
 -- Names tell their sections, and a bundle's text tells the bundle.
 use Rattle.std.proofs.Common.{ℕ, zero, suc, ◌≡◌, ◌≢◌, ◌==◌, ◌<◌, ◌+◌, false, List, [], ◌∷◌, ◌++◌, length, length-append, map, take, get_or, ap, sym, refl, subst, arith, ◌∙◌}
-use Rattle.std.specs.Prelude.{All, IsTrue}
+use Rattle.std.specs.Prelude.{All, IsTrue, Option, None}
 use Rattle.std.specs.Iterator.{Yields}
-use Rattle.std.specs.Prelude.{Option, Some, None}
 use Rattle.std.specs.List.{AllByRecursion, IsDistinct, join_with_byte, slice_split, take-map}
 use Rattle.std.specs.Str.{bytes_eq}
 use Rattle.std.proofs.lemmas.Bool.{ne_eqb}
 use Rattle.std.proofs.lemmas.Iterator.{YieldsList}
-use Rattle.std.proofs.lemmas.Iterator.Consumers.{YieldsList-end, YieldsList-so_far, YieldsList-turn}
+use Rattle.std.proofs.lemmas.Iterator.Consumers.{YieldsList-end, YieldsList-so_far}
 use Rattle.std.proofs.lemmas.List.{append_cancel_left, get_or-map, length-map, take_more}
 use Rattle.std.proofs.lemmas.List.Elements.{All-head, All-tail, All-take}
 use Rattle.std.proofs.lemmas.Slice.Eq.{bytes_eq-Decides}
 use Rattle.market_units.specs.Names.{IsName, is_name_byte}
-use Rattle.bundle_rules.specs.Sets.{AllAbove, IsAscending}
+use Rattle.bundle_rules.specs.Sets.{IsAscending}
 use Rattle.bundle_rules.specs.Ordinals.{IsBundle}
 use Rattle.market_certificate.specs.Lines.{Lacks}
 use Rattle.market_certificate.specs.Tables.{AreNames, name_at}
 use Rattle.market_certificate.specs.Publications.{IsBundleOf}
 use Rattle.market_certificate.specs.Texts.{bundle_text}
 use Rattle.market_certificate.proofs.Cuts.{cut_once, joined_lack, parts_of}
+use Rattle.bundle_rules.specs.Existence.Members.{IsAscending-front}
 
 -- no name has a byte that names do not have
 pub name_lacks : (stop : ℕ) (name : List ℕ) → is_name_byte stop ≡ false → IsName name → Lacks stop name
@@ -99,15 +99,6 @@ same_bundle names a b are is is' e =
     (append_cancel_left (91 ∷ []) _ _ e) in
     same_joined names a b are is.of_catalog is'.of_catalog inner.0
 
--- the front of a bundle is one
-above_front : (s : ℕ) (xs ys : List ℕ) → AllAbove s (xs ++ ys) → AllAbove s xs
-above_front s [] ys above = tt
-above_front s (x ∷ xs) ys above = (above.0, above_front s xs ys above.1)
-
-ascending_front : (xs ys : List ℕ) → IsAscending (xs ++ ys) → IsAscending xs
-ascending_front [] ys is = tt
-ascending_front (x ∷ xs) ys is = (above_front x xs ys is.0, ascending_front xs ys is.1)
-
 take_drop : {X : Type 0} (k : ℕ) (xs : List X) → (tail : List X) × (xs ≡ take k xs ++ tail)
 take_drop zero xs = (xs, refl)
 take_drop (suc k) [] = ([], refl)
@@ -117,7 +108,7 @@ pub bundle_front : (k : ℕ) (bundle : List ℕ) → IsBundle bundle → IsBundl
 bundle_front k bundle is =
     let cut = take_drop k bundle in
     let both = length-append (take k bundle) cut.0 in
-    record { few = omega (arith, is.few, ap length cut.1, both); ascending = ascending_front (take k bundle) cut.0 (subst IsAscending cut.1 is.ascending) }
+    record { few = omega (arith, is.few, ap length cut.1, both); ascending = IsAscending-front (take k bundle) cut.0 (subst IsAscending cut.1 is.ascending) }
 
 -- What the parts tell that were read, where the text is that of another bundle: that bundle begins with the sections so far, and goes on with
 -- a section of the next part's name.
@@ -157,11 +148,6 @@ goes_on names text yielded so_far next bundle are some below read front inside h
 pub parts_so_far : {S A B : Type 0} {steps : S → Option A → S → Type 0} {v : A → B} {s : S} {all : List B} (xs : List A) (t : S) (y : Yields steps s xs t)
     → YieldsList steps v s all → map v xs ≡ take (length xs) all
 parts_so_far xs t y e = YieldsList-so_far e xs t y
-
-pub part_of_turn : {S A B : Type 0} {steps : S → Option A → S → Type 0} {v : A → B} {s : S} {all : List B} (xs : List A) (t : S) (y : Yields steps s xs t)
-    → (r : Option A) (u : S) (x : A) → r ≡ Some x → steps t r u → YieldsList steps v s all
-    → (length xs < length all) × (v x ≡ get_or all (length xs) (v x))
-part_of_turn xs t y r u x is step e = YieldsList-turn e xs t y r u x is step
 
 pub all_parts : {S A B : Type 0} {steps : S → Option A → S → Type 0} {v : A → B} {s : S} {all : List B} (xs : List A) (t : S) (y : Yields steps s xs t)
     → (r : Option A) (u : S) → r ≡ None → steps t r u → YieldsList steps v s all → map v xs ≡ all

@@ -54,7 +54,7 @@ split_lines (x ∷ front) (y ∷ lines) tail free free' e =
     let more = split_lines front lines tail free.1 free'.1 cut.1 in
     (more.0, ap (λ l. l ∷ lines) (sym cut.0) ∙ ap (λ ls. x ∷ ls) more.1, more.2)
 
-front_of : (front : List (List ℕ)) (rest : List (List ℕ)) → AllByRecursion (Lacks 10) (front ++ rest) → AllByRecursion (Lacks 10) front
+pub front_of : (front : List (List ℕ)) (rest : List (List ℕ)) → AllByRecursion (Lacks 10) (front ++ rest) → AllByRecursion (Lacks 10) front
 front_of [] rest free = tt
 front_of (x ∷ front) rest free = (free.0, front_of front rest free.1)
 

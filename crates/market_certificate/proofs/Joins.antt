@@ -1,5 +1,5 @@
 -- Lines and fields in a row, one more of them.
-use Rattle.std.proofs.Common.{ℕ, ◌≡◌, ◌==◌, ◌+◌, ◌<◌, List, [], ◌∷◌, ◌++◌, cond, length, length-append, map, take, get_or, ap, sym, refl, subst, arith, ◌∙◌, append_assoc, Bor}
+use Rattle.std.proofs.Common.{ℕ, ◌≡◌, ◌==◌, ◌+◌, ◌<◌, List, [], ◌∷◌, ◌++◌, cond, length, length-append, map, take, get_or, ap, sym, refl, subst, arith, ◌∙◌, append_assoc, Bor, ◌≤◌}
 use Rattle.std.specs.Prelude.{All, codes, Option, Some}
 use Rattle.std.specs.List.{flat_map, join_with_byte}
 use Rattle.std.specs.Fmt.{decimal}
@@ -193,3 +193,8 @@ name_stands items names k d name e inside is = (omega (arith, length-map names n
 
 pub mapped_push : {W V : Type 0} (f : W → V) (ws new : List W) (w : W) → new ≡ ws ++ w ∷ [] → map f new ≡ map f ws ++ f w ∷ []
 mapped_push f ws new w e = ap (map f) e ∙ map_last f ws w
+
+-- a text has a byte for each line
+pub lines_few : (lines : List (List ℕ)) → length lines ≤ length (joined lines)
+lines_few [] = omega arith
+lines_few (line ∷ lines) = let rest = lines_few lines in let long = length-append line (10 ∷ joined lines) in omega arith

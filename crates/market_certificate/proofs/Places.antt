@@ -1,18 +1,15 @@
 -- The first place of a byte.
-use Rattle.std.proofs.Common.{ℕ, suc, [], ◌-◌, ◌≤◌, ◌+◌, ◌≡◌, ◌≢◌, ◌<◌, ◌==◌, Bool, true, false, List, ◌∷◌, ◌++◌, length, take, drop, get_or, arith, refl, ap, sym, ◌∙◌, inl, inr}
+use Rattle.std.proofs.Common.{ℕ, [], ◌+◌, ◌≡◌, ◌≢◌, ◌<◌, ◌==◌, Bool, true, false, List, ◌∷◌, ◌++◌, length, take, drop, get_or, arith, refl, ap, sym, ◌∙◌, inl, inr, Bor}
 use Rattle.std.specs.Prelude.{Option, Some, None, IfSome, IfNone, MatchOption}
 use Rattle.std.specs.List.{position, position_or_len}
 use Rattle.std.proofs.lemmas.Bool.{cases_lt, lt-ltb}
-use Rattle.std.proofs.lemmas.Bool.Decides.{nat_tests}
+use Rattle.std.proofs.lemmas.Bool.Decides.{nat_tests, Decides-eqb}
 use Rattle.std.proofs.lemmas.List.{take-append-drop, drop_more, get_or_default, get_or-take, length-take-le, append_cancel_left}
 use Rattle.std.proofs.lemmas.List.Sums.{fails_before_first}
 use Rattle.std.proofs.lemmas.List.Quantifiers.{position-Some}
-use Rattle.std.proofs.Common.{Bor}
 use Rattle.std.specs.Cmp.Lexicographic.{pointwise}
 use Rattle.std.proofs.Math.Dec.{eqb}
-use Rattle.std.proofs.lemmas.Bool.Decides.{Decides-eqb}
 use Rattle.std.proofs.lemmas.Slice.Eq.{strip_prefix_is}
-use Rattle.std.proofs.Math.Seq.{take-length}
 use Rattle.market_certificate.specs.Lines.{Lacks}
 
 none_cases : (p : ℕ → Bool) (xs : List ℕ) → (position_or_len p xs < length xs → ⊥) → (k d : ℕ) → k < length xs → p (get_or xs k d) ≡ false
@@ -52,10 +49,6 @@ stripped_none s p (Some x) m = tt
 
 pub no_space : (s word rest : List ℕ) → s ≡ word ++ rest → ((more : List ℕ) → rest ≢ 32 ∷ more) → (more : List ℕ) → s ≢ word ++ 32 ∷ more
 no_space s word rest e none more e' = none more (append_cancel_left word rest (32 ∷ more) (sym e ∙ e'))
-
-pub first_rest : {A : Type 0} → (xs : List A) (d : A) → 1 ≤ length xs → xs ≡ get_or xs 0 d ∷ take (length xs - 1) (drop 1 xs)
-first_rest [] d some = absurd (omega arith)
-first_rest (x ∷ xs) d some = ap (λ l. x ∷ l) (sym (take-length xs) ∙ ap (λ n. take n xs) (let h : length xs ≡ suc (length xs) - 1 = omega arith in h))
 
 -- what stands between two bytes
 pub in_two : (bytes rest : List ℕ) (r : Option (Bor (List ℕ))) → bytes ≡ 91 ∷ rest

@@ -131,11 +131,6 @@ pub order_with : (line numbers order : List ℕ) → order ≢ [] → line ≡ c
 order_with line numbers [] some e e' = absurd (some refl)
 order_with line numbers (n ∷ order) some e e' = e ∙ ap (λ rest. codes "order" ++ 32 ∷ rest) e'
 
--- what follows from the want of a value
-pub if_none : {A : Type 0} {P Q : Type 0} (r : Option A) → (P → Q) → IfNone r P → IfNone r Q
-if_none None each is = each is
-if_none (Some a) each is = tt
-
 pub when_none : {A : Type 0} {P : Type 0} (r : Option A) → r ≡ None → IfNone r P → P
 when_none None e is = is
 when_none (Some a) e is = absurd (cc e)

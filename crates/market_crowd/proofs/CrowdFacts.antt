@@ -2,9 +2,7 @@
 use Rattle.std.proofs.Common.{ℕ, ◌≡◌, ◌<◌, ◌≤◌, ◌∙◌, List, [], ◌∷◌, length, map, refl, ap, sym, subst, arith}
 use Rattle.std.specs.Prelude.{All}
 use Rattle.std.specs.FinMap.{entries}
-use Rattle.std.specs.List.{enumerate_from}
 use Rattle.std.proofs.lemmas.List.{length-map}
-use Rattle.std.proofs.lemmas.List.FromFn.{length-enumerate_from}
 use Rattle.std.proofs.lemmas.List.Elements.{All-cons, All-head, All-map, All-nil, All-tail}
 use Rattle.budget_draw.specs.Budgets.{amounts, budgets_of}
 use Rattle.bundle_rules.specs.Menus.{MenuData}
@@ -21,6 +19,7 @@ use Rattle.preference_desk.specs.MarketNames.{market_names}
 use Rattle.preference_desk.specs.StudentPreferences.{SectionsBelow, StudentPreferences}
 use Rattle.student_roll.specs.Students.{IsRoll, RollData, Student}
 use Rattle.market_crowd.specs.Crowds.{IsCrowdOf}
+use Rattle.budget_draw.proofs.BudgetFacts.{length-budgets_of}
 
 -- as many menus as students
 pub menus_length : (catalog : List Section) (students : List Student) (wanted : List StudentPreferences) (menus : List MenuData)
@@ -60,16 +59,12 @@ menus_of_crowd (m ∷ menus) [] same = absurd (omega arith)
 menus_of_crowd (m ∷ menus) (b ∷ budgets) same = ap (λ rest. m ∷ rest) (menus_of_crowd menus budgets (omega arith))
 
 -- and its budgets
-budgets_of_crowd : (menus : List MenuData) (budgets : List Tokens) → length budgets ≡ length menus
+pub budgets_of_crowd : (menus : List MenuData) (budgets : List Tokens) → length budgets ≡ length menus
     → map (λ (student : CrowdStudent). student.budget) (students_of menus budgets) ≡ amounts budgets
 budgets_of_crowd [] [] same = refl
 budgets_of_crowd [] (b ∷ budgets) same = absurd (omega arith)
 budgets_of_crowd (m ∷ menus) [] same = absurd (omega arith)
 budgets_of_crowd (m ∷ menus) (b ∷ budgets) same = ap (λ rest. b.0 ∷ rest) (budgets_of_crowd menus budgets (omega arith))
-
--- a budget is drawn for each student
-budgets_length : (students : List Student) (seed spread : ℕ) → length (budgets_of students seed spread) ≡ length students
-budgets_length students seed spread = length-map (enumerate_from 0 students) _ ∙ length-enumerate_from 0 students
 
 -- the menus and budgets of a market
 module _ (catalog : CatalogData) (roll : RollData) (wanted : List StudentPreferences) (menus : List MenuData) (budgets : List Tokens) (seed spread : ℕ)
@@ -79,7 +74,7 @@ module _ (catalog : CatalogData) (roll : RollData) (wanted : List StudentPrefere
   same =
       let mapped : length (amounts budgets) ≡ length budgets = length-map budgets (λ (one : Tokens). one.0) in
       let all : length (amounts budgets) ≡ length (budgets_of roll.students seed spread) = ap length drawn in
-      let each : length (budgets_of roll.students seed spread) ≡ length roll.students = budgets_length roll.students seed spread in
+      let each : length (budgets_of roll.students seed spread) ≡ length roll.students = length-budgets_of roll.students seed spread in
       omega (arith, menus_length catalog.sections roll.students wanted menus are)
 
   -- they make a crowd

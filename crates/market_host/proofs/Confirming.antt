@@ -1,9 +1,10 @@
 -- `check` confirms what `run` wrote.
 use Rattle.std.proofs.Common.{ℕ, ◌≡◌, ◌<◌, ◌≤◌, ◌+◌, List, [], ◌∷◌, ◌++◌, length, arith, sym, subst, refl, inl, inr}
-use Rattle.std.specs.Prelude.{◌⊎◌, Err, Ok, Option, Result}
+use Rattle.std.specs.Prelude.{◌⊎◌, Option}
 use Rattle.std.specs.List.{AllZip}
 use Rattle.std.proofs.lemmas.Bool.{cases_lt}
 use Rattle.std.proofs.lemmas.Slice.Zip.{AllZip-long}
+use Rattle.plain_facts.proofs.Outcomes.{one_answer}
 use Rattle.accepted_publications.proofs.Accepting.{published_accepted}
 use Rattle.certificate_checker.specs.Certificates.{IsAccepted}
 use Rattle.market_edge.specs.Holdings.{Holding, IsTextOf}
@@ -54,20 +55,15 @@ one_list (s ∷ sessions) (x ∷ one) (y ∷ other) are also =
     let rest : one ≡ other = one_list sessions one other are.1 also.1 in
     cc
 
--- a text has one reading
-one_reading : {A E : Type 0} (read : Result A E) (x y : A) → read ≡ Ok x → read ≡ Ok y → x ≡ y
-one_reading (Ok z) x y is also = cc
-one_reading (Err e) x y is also = absurd cc
-
 -- what is so of the market and the streams that texts stand for is so of those that they also stand for
 moved_market : (catalog roll settings : List ℕ) (sessions : List (List ℕ)) (one other : Market) (streams also : List (List Command))
     (P : Market → List (List Command) → Type 0)
     → IsMarketOf catalog roll settings sessions one streams
     → IsMarketOf catalog roll settings sessions other also → P one streams → P other also
 moved_market catalog roll settings sessions one other streams also P is so holds =
-    let offered : one.catalog ≡ other.catalog = one_reading _ one.catalog other.catalog is.catalog_says so.catalog_says in
-    let enrolled : one.roll ≡ other.roll = one_reading _ one.roll other.roll is.roll_says so.roll_says in
-    let rules : one.settings ≡ other.settings = one_reading _ one.settings other.settings is.settings_say so.settings_say in
+    let offered : one.catalog ≡ other.catalog = one_answer _ one.catalog other.catalog is.catalog_says so.catalog_says in
+    let enrolled : one.roll ≡ other.roll = one_answer _ one.roll other.roll is.roll_says so.roll_says in
+    let rules : one.settings ≡ other.settings = one_answer _ one.settings other.settings is.settings_say so.settings_say in
     let said : streams ≡ also = one_list sessions streams also is.sessions_say so.sessions_say in
     subst (P other) said (subst (λ (market : Market). P market streams) (λ i. market_of (offered i) (enrolled i) (rules i)) holds)
 

@@ -1,14 +1,13 @@
 -- Desks to which commands are said one by one, and the menu of an only student.
 use Rattle.std.proofs.Common.{ℕ, ◌≡◌, ◌<◌, ◌+◌, List, [], ◌∷◌, ◌++◌, ◌∙◌, ap, sym, subst, refl, length, take, get_or, arith}
-use Rattle.std.proofs.lemmas.List.{length-map, take_more}
-use Rattle.std.specs.Prelude.{ℤ, All, slice_index_or}
+use Rattle.std.proofs.lemmas.List.{take_more}
+use Rattle.std.specs.Prelude.{ℤ, slice_index_or}
 use Rattle.bundle_rules.specs.Menus.{MenuData}
 use Rattle.course_catalog.specs.Sections.{Section}
 use Rattle.market_menus.specs.MenusOf.{AreMenusOf, IsMenuOf}
 use Rattle.preference_desk.specs.DeskNames.{DeskNames}
 use Rattle.preference_desk.specs.DeskStep.{DeskState, state_after}
-use Rattle.preference_desk.specs.StudentPreferences.{SectionsBelow, StudentPreferences, no_preferences}
-use Rattle.preference_desk.specs.MarketNames.{market_names}
+use Rattle.preference_desk.specs.StudentPreferences.{StudentPreferences, no_preferences}
 use Rattle.student_roll.specs.Students.{Student}
 use Rattle.utility_language.specs.declared.commands.Command.{Command}
 use Rattle.market_host.specs.Quotes.{quoted_text, state_after_commands, state_of_new_desk, wanted_after}
@@ -61,15 +60,6 @@ menu_after catalog student roll preferences menus state commands menu one same a
     let wanted : slice_index_or preferences 0 no_preferences ≡ wanted_after catalog student commands =
     ap (λ all. slice_index_or all 0 no_preferences) same ∙ ap (λ (s : DeskState). slice_index_or s.preferences 0 no_preferences) end in
     subst (λ w. IsMenuOf catalog student w menu) wanted (subst (IsMenuOf catalog student (slice_index_or preferences 0 no_preferences)) (sym at) first)
-
--- the sections of preferences are those of the catalogue whose names the desk knows
-pub sections_listed : (names : DeskNames) (catalog : List Section) (roll : List Student) (preferences : List StudentPreferences)
-    → names ≡ market_names catalog roll
-    → All (SectionsBelow (length names.sections)) preferences → All (SectionsBelow (length catalog)) preferences
-sections_listed names catalog roll preferences same below =
-    let long : length names.sections ≡ length catalog =
-    ap (λ (all : DeskNames). length all.sections) same ∙ length-map catalog (λ (section : Section). section.name) in
-    subst (λ n. All (SectionsBelow n) preferences) long below
 
 -- the same text, by the bundle and its utility
 pub same_text : (catalog : List Section) (name text bundle told : List ℕ) (worth said : ℤ) → told ≡ bundle → said ≡ worth

@@ -1,12 +1,13 @@
 -- Each student has a menu.
-use Rattle.std.proofs.Common.{ℕ, zero, suc, ◌≡◌, ◌≤◌, Bool, true, false, List, [], ◌∷◌, ◌++◌, length, length-append, map, add-one, refl, ap, sym, subst, arith}
-use Rattle.std.specs.Prelude.{ℤ, All, T}
+use Rattle.std.proofs.Common.{ℕ, zero, suc, ◌≡◌, ◌≤◌, Bool, true, List, [], ◌∷◌, ◌++◌, length, length-append, map, add-one, refl, ap, sym, subst, arith}
+use Rattle.std.specs.Prelude.{ℤ, All}
 use Rattle.std.specs.FinMap.{entries, entries_sorted}
 use Rattle.std.specs.FinMap.Entries.{is_sorted}
 use Rattle.std.specs.List.{filter_map}
 use Rattle.std.specs.Ordering.{nat_cmp}
 use Rattle.std.proofs.lemmas.List.{length-map}
 use Rattle.std.proofs.lemmas.List.Elements.{All-head, All-map, All-tail}
+use Rattle.plain_facts.proofs.Truths.{true_of}
 use Rattle.market_units.specs.declared.units.SectionNo.{SectionNo}
 use Rattle.bundle_rules.specs.declared.menu.Rated.{Rated}
 use Rattle.bundle_rules.specs.Menus.{IsMenu, MenuData, section_at}
@@ -24,10 +25,6 @@ use Rattle.market_menus.proofs.PairFacts.{are_pairs}
 use Rattle.market_menus.proofs.PlaceFacts.{AreGoodPlaces, good_places}
 use Rattle.market_menus.proofs.StudentFacts.{is_menu, menu_data}
 use Rattle.market_menus.proofs.WordBits.{AreWordsTo, IsWordTo, word_at_end, word_at_start, word_more, words_more}
-
-is_so : (b : Bool) → T b → b ≡ true
-is_so true h = refl
-is_so false h = absurd h
 
 -- the rows in which a desk has these ratings and adjustments
 rating_row : ℕ × ℕ → SectionNo × ℕ
@@ -92,7 +89,7 @@ module _ (catalog : CatalogData) (student : Student) (wanted : StudentPreference
   are_ratings : AreRatings ratings
   unfolding rating_row
   are_ratings = record {
-    sorted = subst (λ (es : List (ℕ × ℕ)). is_sorted nat_cmp es ≡ true) (sym (ratings_back (entries wanted.ratings))) (is_so _ (entries_sorted wanted.ratings));
+    sorted = subst (λ (es : List (ℕ × ℕ)). is_sorted nat_cmp es ≡ true) (sym (ratings_back (entries wanted.ratings))) (true_of _ (entries_sorted wanted.ratings));
     few = omega (arith, length-map (entries wanted.ratings) rating_row, may.limits.few_ratings);
     each = All-map IsRating rating_row (entries wanted.ratings) may.limits.ratings;
   }
@@ -101,7 +98,7 @@ module _ (catalog : CatalogData) (student : Student) (wanted : StudentPreference
   unfolding pair_row
   are_rows = record {
     sorted =
-        subst (λ (es : List ((ℕ × ℕ) × ℤ)). is_sorted pair_cmp es ≡ true) (sym (pairs_back (entries wanted.pairs))) (is_so _ (entries_sorted wanted.pairs));
+        subst (λ (es : List ((ℕ × ℕ) × ℤ)). is_sorted pair_cmp es ≡ true) (sym (pairs_back (entries wanted.pairs))) (true_of _ (entries_sorted wanted.pairs));
     few = omega (arith, length-map (entries wanted.pairs) pair_row, may.limits.few_pairs);
     each =
         All-map IsAdjustment pair_row (entries wanted.pairs)

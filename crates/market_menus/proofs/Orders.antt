@@ -1,25 +1,12 @@
 -- Orders of keys, and lists in their order.
-use Rattle.std.proofs.Common.{ℕ, ◌≡◌, ◌<◌, Bool, true, false, true≢false, ◌&&◌, nat_eq, List, [], ◌∷◌, map, refl, sym, arith}
+use Rattle.std.proofs.Common.{ℕ, ◌≡◌, ◌<◌, true, nat_eq, List, [], ◌∷◌, map, refl, sym, arith}
 use Rattle.std.specs.Ordering.{nat_cmp, is_lt, is_eq}
 use Rattle.std.specs.Cmp.{ranked}
-use Rattle.std.specs.declared.cmp.Ordering.{Ordering}
 use Rattle.std.specs.declared.cmp.Ordering.TheVariants.{Less, Equal, Greater}
 use Rattle.std.specs.FinMap.Entries.{is_sorted, below_all}
 use Rattle.std.proofs.lemmas.Bool.Decides.{nat_tests}
+use Rattle.plain_facts.proofs.Truths.{and_first, and_second, only_less}
 use Rattle.bundle_rules.specs.Sets.{AllAbove, IsAscending}
-
-pub and_first : (a b : Bool) → (a && b) ≡ true → a ≡ true
-and_first true b e = refl
-and_first false b e = e
-
-pub and_second : (a b : Bool) → (a && b) ≡ true → b ≡ true
-and_second true b e = e
-and_second false b e = absurd (true≢false (sym e))
-
-only_less : (r : Ordering) → is_lt r ≡ true → r ≡ Less
-only_less Less e = refl
-only_less Equal e = absurd (true≢false (sym e))
-only_less Greater e = absurd (true≢false (sym e))
 
 pub below_is : (a b : ℕ) → is_lt (nat_cmp a b) ≡ true → a < b
 below_is a b e = ranked a b Less (sym (only_less (nat_cmp a b) e))

@@ -12,6 +12,8 @@ use Rattle.std.proofs.lemmas.Bool.Decides.{nat_tests}
 use Rattle.std.proofs.lemmas.Int.{ints}
 use Rattle.std.proofs.lemmas.List.{append-nil, length-map, take_more}
 use Rattle.std.proofs.lemmas.List.Elements.{filter_map-append, All-cons, All-head, All-map, All-nil, All-tail}
+use Rattle.plain_facts.proofs.Truths.{and_first, and_second}
+use Rattle.plain_facts.proofs.Numbers.{true_lt}
 use Rattle.market_units.specs.declared.units.SectionNo.{SectionNo}
 use Rattle.bundle_rules.specs.declared.menu.Rated.{Rated}
 use Rattle.bundle_rules.specs.Menus.{AreDifferent, ArePairs, IsPair, place_in}
@@ -21,7 +23,6 @@ use Rattle.preference_desk.specs.Rows.{ArePairs as AreDeskPairs, pair_entry}
 use Rattle.preference_desk.specs.StudentPreferences.{StudentPreferences, pair_cmp}
 use Rattle.market_menus.specs.MenusOf.{pair_on_menu, places_of}
 use Rattle.market_menus.specs.PairPlaces.{pair_among, place_among}
-use Rattle.market_menus.proofs.Orders.{and_first, and_second}
 use Rattle.market_menus.proofs.PlaceFacts.{has_place}
 
 -- the sections of places
@@ -93,9 +94,6 @@ one_place (rated ∷ more) a b =
           ] refl
     ] refl
 
-inside_is : (p n : ℕ) → nat_lt p n ≡ true → p < n
-inside_is p n e = grind (arith, nat_tests)
-
 -- what holds of a pair with places, holds of it where it has places
 if_among : (places : List Rated) (adjusted : (ℕ × ℕ) × ℤ) (P : ℕ × ℕ × ℤ → Type 0)
     →
@@ -111,7 +109,7 @@ if_among places adjusted P holds =
       | true ↦ λ e.
           elim (nat_lt (place_in places adjusted.0.1) (length places)) as (λ t. nat_lt (place_in places adjusted.0.1) (length places) ≡ t
           → IfSome (option_map (λ (second : ℕ). (place_in places adjusted.0.0, second, adjusted.1)) (cond t (Some (place_in places adjusted.0.1)) None)) P) [
-            | true ↦ λ f. holds (inside_is _ _ e) (inside_is _ _ f)
+            | true ↦ λ f. holds (true_lt _ _ e) (true_lt _ _ f)
             | false ↦ λ f. tt
           ] refl
       | false ↦ λ e. tt

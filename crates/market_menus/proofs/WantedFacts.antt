@@ -22,6 +22,7 @@ use Rattle.market_menus.specs.PairPlaces.{pair_among}
 use Rattle.market_menus.specs.Wanted.{HasLowerFirst, wishes_from}
 use Rattle.market_menus.proofs.Orders.{equal_is}
 use Rattle.market_menus.proofs.PairFacts.{one_place, pairs_by_ratings}
+use Rattle.bundle_rules.specs.Existence.Places.{rated_on_menu, section_at-place_in}
 
 first_or_later : (b : Bool) (rated : Rated) (more : List Rated) (p : ℕ) (found : Option ℕ) → rating_at more p ≡ unwrap_or found 0
     → rating_at (rated ∷ more) (cond b 0 (suc p)) ≡ unwrap_or (cond b (Some rated.rating) found) 0
@@ -35,21 +36,6 @@ rating_found catalog (e ∷ es) s =
     first_or_later (nat_eq e.0 s) (rated_of catalog e) (map (rated_of catalog) es) (place_in (map (rated_of catalog) es) s) (find nat_cmp s es)
     (rating_found catalog es s)
     ∙ ap (λ b. unwrap_or (cond b (Some e.1) (find nat_cmp s es)) 0) (sym (equal_is s e.0))
-
--- a place with a rating is one
-rated_inside : (places : List Rated) (k : ℕ) → 0 < rating_at places k → k < length places
-rated_inside [] k some = absurd (omega arith)
-rated_inside (rated ∷ more) zero some = omega arith
-rated_inside (rated ∷ more) (suc k) some = omega (arith, rated_inside more k some)
-
--- the section at a section's place
-section_found : (places : List Rated) (s : ℕ) → place_in places s < length places → section_at places (place_in places s) ≡ s
-section_found [] s = λ inside. absurd (omega arith)
-section_found (rated ∷ more) s =
-    elim (nat_eq rated.section.0 s) as (λ t. nat_eq rated.section.0 s ≡ t → cond t 0 (suc (place_in more s)) < suc (length more) → section_at (rated ∷ more) (cond t 0 (suc (place_in more s))) ≡ s) [
-      | true ↦ λ e inside. grind (arith, nat_tests)
-      | false ↦ λ e inside. section_found more s (omega arith)
-    ] refl
 
 credits_of_place : (catalog : List Section) (es : List (ℕ × ℕ)) (k : ℕ) → k < length (map (rated_of catalog) es)
     → credits_at (map (rated_of catalog) es) k ≡ (listed catalog (section_at (map (rated_of catalog) es) k)).credits
@@ -160,7 +146,7 @@ all_said catalog wanted lower = record {
   ratings = λ s. rating_found catalog (entries wanted.ratings) s ∙ ap (λ o. unwrap_or o 0) (sym (get-entries wanted.ratings s));
   credits =
       λ s inside. credits_of_place catalog (entries wanted.ratings) _ inside
-      ∙ ap (λ t. (listed catalog t).credits) (section_found (places_of catalog wanted) s inside);
+      ∙ ap (λ t. (listed catalog t).credits) (section_at-place_in (places_of catalog wanted) s inside);
   adjustments =
       λ s t in_s in_t. adjustment_found (places_of catalog wanted) s t (entries wanted.pairs) in_s in_t lower
       ∙ ap (λ o. unwrap_or o (pos 0)) (sym (get-entries wanted.pairs (pair_of s t)));
@@ -181,14 +167,14 @@ menu_agrees catalog student wanted menu lower is =
     let say = said catalog student wanted menu lower is in
     let places = menu.places in
     let inside : (s : ℕ) → 0 < rating_at places (place_in places s) → place_in places s < length places =
-    λ s some. rated_inside places (place_in places s) some in
+    λ s some. rated_on_menu places (place_in places s) some in
     record {
       rating = say.ratings;
       credits = λ s some. say.credits s (inside s some);
       adjustment = λ s t some some'. say.adjustments s t (inside s some) (inside t some');
       clash = λ s t some some'. is.clashes (place_in places s) (place_in places t) (inside s some) (inside t some')
-          ∙ ap (λ one. sections_clash catalog one (section_at places (place_in places t))) (section_found places s (inside s some))
-          ∙ ap (sections_clash catalog s) (section_found places t (inside t some'));
+          ∙ ap (λ one. sections_clash catalog one (section_at places (place_in places t))) (section_at-place_in places s (inside s some))
+          ∙ ap (sections_clash catalog s) (section_at-place_in places t (inside t some'));
       credit_cap = is.credits;
       course_cap = is.courses;
     }

@@ -7,3 +7,4 @@ pub mod Parts
 mod SectionCalls
 mod Spelling
 pub mod Sums
+pub mod Memberships

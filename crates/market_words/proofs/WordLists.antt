@@ -3,16 +3,13 @@ use Rattle.std.proofs.Common.{ℕ, suc, ◌≡◌, ◌≤◌, ◌-◌, List, [],
 use Rattle.std.proofs.lemmas.List.{take_all}
 use Rattle.std.specs.Prelude.{String}
 use Rattle.std.specs.String.{string_bytes}
+use Rattle.plain_facts.proofs.Lists.{first_rest}
 use Rattle.market_words.specs.Forms.{AreSessions}
-
-first_item : {X : Type 0} (xs : List X) (a : X) → 1 ≤ length xs → xs ≡ get_or xs 0 a ∷ take (length xs - 1) (drop 1 xs)
-first_item (x ∷ xs) a some = ap (λ more. x ∷ more) (sym (take_all (length (x ∷ xs) - 1) xs (omega arith)))
-first_item [] a some = absurd (omega arith)
 
 -- the words are the verb and the words behind it
 pub verb_first : (words : List (String Global)) (verb : String Global) → 1 ≤ length words → verb ≡ get_or words 0 verb
     → map string_bytes words ≡ string_bytes verb ∷ map string_bytes (take (length words - 1) (drop 1 words))
-verb_first words verb some is = ap (λ ws. map string_bytes ws) (first_item words verb some) ∙ cc
+verb_first words verb some is = ap (λ ws. map string_bytes ws) (first_rest words verb some) ∙ cc
 
 five_items : {X : Type 0} (xs : List X) (a b c d e : X) → length xs ≡ 5
     → xs ≡ get_or xs 0 a ∷ get_or xs 1 b ∷ get_or xs 2 c ∷ get_or xs 3 d ∷ get_or xs 4 e ∷ []

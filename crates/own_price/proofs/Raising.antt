@@ -17,12 +17,13 @@ use Rattle.demand_api.specs.Crowds.{Student, CrowdData, IsCrowd, top, demand, de
 use Rattle.demand_api.specs.Prices.{IsRaised}
 use Rattle.demand_api.specs.Asking.{ArePricesFor}
 use Rattle.demand_api.proofs.Keeping.{best_without_stays}
-use Rattle.demand_api.proofs.Halving.{price_kept, price_written}
+use Rattle.demand_api.proofs.Halving.{is_raised}
 use Rattle.demand_api.proofs.Takers.{demand_within}
 use Rattle.own_price.specs.Holding.{HeldData, Holds}
 use Rattle.demand_api.specs.Counting.{AreWithin}
 use Rattle.own_price.specs.Exchanges.{exchanged, IsListed, AreHolders}
 use Rattle.own_price.proofs.Exchanging.{exchanged_wanted}
+use Rattle.demand_api.proofs.Counts.{length-demands}
 
 -- a student that lacks the section takes the same at a higher price of it
 demand_kept : (crowd : CrowdData) (before after : ℕ → ℕ) (s i : ℕ) → IsRaised s before after → has (demand_of crowd before i) s ≡ false
@@ -37,18 +38,6 @@ demand_kept crowd before after s i is lacks = kept crowd.students i lacks
         (best_without_stays (wishes_of x.menu) s before after x.budget (λ t. nat_lt t crowd.sections) (demand crowd.sections before x) is none
         (best-is x.menu before x.budget (λ t. nat_lt t crowd.sections)))
     kept (x ∷ xs) (suc k) none = kept xs k none
-
-pub students_demands : (crowd : CrowdData) (price : ℕ → ℕ) → length (demands crowd price) ≡ length crowd.students
-unfolding demands
-students_demands crowd price = length-map crowd.students (demand crowd.sections price)
-
--- one price is higher
-pub one_raised : (prices : List Tokens) (s : ℕ) (price : Tokens) → s < length prices → price_in prices s ≤ price.0
-    → IsRaised s (price_in prices) (price_in (slice_set prices s price))
-one_raised prices s price low up = record {
-  others = λ t other. price_kept prices s price.0 t other;
-  raised = let here : price_in (slice_set prices s price) s ≡ price.0 = price_written prices s price.0 low in omega arith;
-}
 
 pub raised_prices : (crowd : CrowdData) (prices : List Tokens) (s : ℕ) (price : Tokens) → ArePricesFor crowd prices → price.0 ≤ top crowd
     → ArePricesFor crowd (slice_set prices s price)
@@ -72,7 +61,7 @@ raised_holds crowd prices bundles others students s price are held in_range up c
     low = let same : length prices ≡ crowd.sections = are.same in omega arith
 
     long : length (map sections_of bundles) ≡ length (demands crowd (price_in (slice_set prices s price)))
-    long = ap length held ∙ students_demands crowd (price_in prices) ∙ sym (students_demands crowd (price_in (slice_set prices s price)))
+    long = ap length held ∙ length-demands crowd (price_in prices) ∙ sym (length-demands crowd (price_in (slice_set prices s price)))
 
     each : (i : ℕ) → i < length (demands crowd (price_in (slice_set prices s price)))
         → (slice_index_or (map sections_of bundles) i [] ≡ slice_index_or (demands crowd (price_in (slice_set prices s price))) i []) ⊎ IsListed i students
@@ -82,7 +71,7 @@ raised_holds crowd prices bundles others students s price are held in_range up c
           let before : slice_index_or (map sections_of bundles) i [] ≡ demand_of crowd (price_in prices) i = ap (λ bs. slice_index_or bs i []) held in
           inl
           (before
-          ∙ demand_kept crowd (price_in prices) (price_in (slice_set prices s price)) s i (one_raised prices s price low up)
+          ∙ demand_kept crowd (price_in prices) (price_in (slice_set prices s price)) s i (is_raised prices s price low up)
           (ap (λ b. has b s) (sym before) ∙ lacks))
     ]
 
@@ -108,7 +97,7 @@ pub all_asked : (crowd : CrowdData) (price : ℕ → ℕ) (students : List Stude
 all_asked crowd price students others n count are told =
     told
     ∙ by_number students
-    ∙ ap (map (λ i. slice_index_or (demands crowd price) i [])) (are ∙ ap (places_from 0) (count ∙ sym (students_demands crowd price)))
+    ∙ ap (map (λ i. slice_index_or (demands crowd price) i [])) (are ∙ ap (places_from 0) (count ∙ sym (length-demands crowd price)))
     ∙ by_place (λ i. slice_index_or (demands crowd price) i []) (demands crowd price) 0
     (λ i low. ap (λ k. slice_index_or (demands crowd price) k []) (let e : 0 + i ≡ i = omega arith in e))
   where

@@ -28,7 +28,7 @@ one_step_more names old new entries after entry history reply state e = record {
   after = rw e (state ∙ ap (λ state. state_after names state entry.command) history.after ∙ sym (state_after_one_more names (opening names) entries entry));
 }
 
-changed_rows : (names : DeskNames) (state : DeskState) (command : Command) → length (changed names state command).preferences ≡ length state.preferences
+pub changed_rows : (names : DeskNames) (state : DeskState) (command : Command) → length (changed names state command).preferences ≡ length state.preferences
 changed_rows names state (Rate student section n) = length-set state.preferences _ _
 changed_rows names state (Pair student first second n) = length-set state.preferences _ _
 changed_rows names state (Clear student) = length-set state.preferences _ _

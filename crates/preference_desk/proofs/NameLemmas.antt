@@ -1,13 +1,14 @@
 -- Names that are found at one place.
 use Rattle.std.proofs.Common.{ℕ, suc, ◌≡◌, ◌+◌, ◌<◌, Bool, true, false, cond, not, ◌||◌, List, [], ◌∷◌, length, get_or, refl, ap, sym, ◌∙◌, arith, true≢false, map}
 use Rattle.std.specs.List.{list_any, position, position_or_len}
-use Rattle.std.specs.Prelude.{Some, None, nat_lt}
+use Rattle.std.specs.Prelude.{Some, nat_lt}
 use Rattle.std.specs.Str.{bytes_eq}
 use Rattle.std.specs.Cmp.Lexicographic.{nat_list_eq_equiv}
 use Rattle.std.proofs.lemmas.List.Sums.{passes_at_first}
+use Rattle.plain_facts.proofs.Lists.{position_or_len-map, list_any-map}
+use Rattle.plain_facts.proofs.Outcomes.{cond_some}
 use Rattle.market_units.specs.declared.names.Name.{Name}
 use Rattle.market_units.specs.Name.{name_bytes}
-use Rattle.market_units.proofs.NameLists.{any-map}
 use Rattle.preference_desk.specs.DeskNames.{has_name, ordinal_of}
 
 pub found_inside : {A : Type 0} (p : A → Bool) (xs : List A) → list_any p xs ≡ true → position_or_len p xs < length xs
@@ -36,24 +37,16 @@ pub other_ordinals : (names : List (List ℕ)) (first second : Name) (one other 
     → bytes_eq (name_bytes first) (name_bytes second) ≡ false → one ≡ other → ⊥
 other_ordinals names first second one other has has' e f apart same = true≢false (sym (same_ordinal names first second has has' (sym e ∙ same ∙ f)) ∙ apart)
 
-pub place-map : {A B : Type 0} (p : B → Bool) (f : A → B) (xs : List A) → position_or_len p (map f xs) ≡ position_or_len (λ x. p (f x)) xs
-place-map p f [] = refl
-place-map p f (x ∷ xs) = ap (λ n. cond (not (p (f x))) (1 + n) 0) (place-map p f xs)
-
-place_cases : (b : Bool) (n i : ℕ) → cond b (Some n) None ≡ Some i → i ≡ n
-place_cases true n i e = cc
-place_cases false n i e = cc
-
 -- the place that was found is the ordinal
 pub found_ordinal : (keys : List Name) (name : Name) (i : ℕ) → position (λ key. bytes_eq (name_bytes name) (name_bytes key)) keys ≡ Some i
     → i ≡ ordinal_of (map name_bytes keys) name
 found_ordinal keys name i e =
-    place_cases (nat_lt (position_or_len (λ key. bytes_eq (name_bytes name) (name_bytes key)) keys) (length keys)) _ i e
-    ∙ sym (place-map (bytes_eq (name_bytes name)) name_bytes keys)
+    cond_some (nat_lt (position_or_len (λ key. bytes_eq (name_bytes name) (name_bytes key)) keys) (length keys)) _ i e
+    ∙ sym (position_or_len-map (bytes_eq (name_bytes name)) name_bytes keys)
 
 pub has_by_keys : (keys : List Name) (name : Name) (b : Bool) → list_any (λ key. bytes_eq (name_bytes name) (name_bytes key)) keys ≡ b
     → has_name (map name_bytes keys) name ≡ b
-has_by_keys keys name b e = any-map (bytes_eq (name_bytes name)) name_bytes keys ∙ e
+has_by_keys keys name b e = list_any-map (bytes_eq (name_bytes name)) name_bytes keys ∙ e
 
 pub length-names : (keys : List Name) → length (map name_bytes keys) ≡ length keys
 length-names [] = refl

@@ -12,12 +12,13 @@ use mir.Val.{SFits, to_z, of_z}
 use mir.Syntax.{w16}
 use Rattle.std.proofs.lemmas.Bool.{eq-eqb, ne_eqb, le-ltb}
 use Rattle.std.proofs.lemmas.Bool.Decides.{nat_tests}
+use Rattle.std.proofs.lemmas.List.{length-map}
 use Rattle.market_units.specs.declared.units.SectionNo.{SectionNo}
 use Rattle.preference_desk.specs.Places.{place_in, stands}
 use Rattle.preference_desk.specs.Rows.{ArePairs, IsAdjustment, pair_entry}
 use Rattle.preference_desk.specs.Writes.{written, has_room}
 use Rattle.preference_desk.specs.StudentPreferences.{pair_cmp, with_pair}
-use Rattle.preference_desk.proofs.RowLemmas.{length-entries, stands_at, not_behind}
+use Rattle.preference_desk.proofs.RowLemmas.{stands_at, not_behind}
 use Rattle.preference_desk.proofs.RowWrites.{IsRow, row_set, with_value}
 use Rattle.preference_desk.proofs.RatingLemmas.{get_or-entries}
 
@@ -134,11 +135,11 @@ pub stands_here : (k : ℕ × ℕ) (items : List (SectionNo × SectionNo × ℤ)
     → is_eq (pair_cmp k (pair_entry (get_or items place d)).0) ≡ stands pair_cmp k (map pair_entry items)
 stands_here k items place d e below =
     let seen = get_or-entries pair_entry items place d in
-    let here = stands_at pair_cmp k (map pair_entry items) (pair_entry d) (omega (arith, e, length-entries pair_entry items)) in
+    let here = stands_at pair_cmp k (map pair_entry items) (pair_entry d) (omega (arith, e, length-map items pair_entry)) in
     ap (λ (e : (ℕ × ℕ) × ℤ). is_eq (pair_cmp k e.0)) (sym seen) ∙ ap (λ at. is_eq (pair_cmp k (get_or (map pair_entry items) at (pair_entry d)).0)) e ∙ sym here
 
 pub stands_nowhere : (k : ℕ × ℕ) (items : List (SectionNo × SectionNo × ℤ)) (place : ℕ) → place ≡ place_in pair_cmp k (map pair_entry items)
     → length items ≤ place
     → nat_lt place (length items) ≡ stands pair_cmp k (map pair_entry items)
 stands_nowhere k items place e behind =
-    le-ltb place (length items) behind ∙ sym (not_behind pair_cmp k (map pair_entry items) (omega (arith, e, length-entries pair_entry items)))
+    le-ltb place (length items) behind ∙ sym (not_behind pair_cmp k (map pair_entry items) (omega (arith, e, length-map items pair_entry)))

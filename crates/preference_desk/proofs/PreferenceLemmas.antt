@@ -1,7 +1,7 @@
 -- What a change of one row makes of the preferences.
 use Rattle.std.proofs.Common.{ℕ, zero, suc, ◌≡◌, ◌+◌, ◌<◌, Bool, true, false, cond, List, [], ◌∷◌, ◌++◌, map, length, get_or, set, refl, ap, sym, ◌∙◌, arith}
 use Rattle.std.specs.Prelude.{ℤ, replicate}
-use Rattle.std.proofs.lemmas.List.{map-set, map-append}
+use Rattle.std.proofs.lemmas.List.{length-map, map-set, map-append}
 use Rattle.preference_desk.specs.declared.pairs.Pairs.{Pairs}
 use Rattle.preference_desk.specs.declared.preferences.Row.{Row}
 use Rattle.preference_desk.specs.declared.ratings.Ratings.{Ratings}
@@ -9,7 +9,6 @@ use Rattle.preference_desk.specs.PairsView.{pairs_in}
 use Rattle.preference_desk.specs.RatingsView.{ratings_in}
 use Rattle.preference_desk.specs.PreferencesView.{wanted_in}
 use Rattle.preference_desk.specs.StudentPreferences.{StudentPreferences, no_preferences, with_rating, with_pair}
-use Rattle.preference_desk.proofs.RowLemmas.{length-entries}
 
 read_entry : {A B : Type 0} (f : A → B) (xs : List A) (i : ℕ) (d : A) (e : B) → i < length xs → get_or (map f xs) i e ≡ f (get_or xs i d)
 read_entry f [] i d e inside = absurd (omega arith)
@@ -25,7 +24,7 @@ set_as_it_was (x ∷ xs) (suc i) d inside = ap (λ rest. x ∷ rest) (set_as_it_
 pub row_is : (rows : List Row) (place student : ℕ) (row : Row) → row ≡ get_or rows place row → place ≡ student → student < length (map wanted_in rows)
     → wanted_in row ≡ get_or (map wanted_in rows) student no_preferences
 row_is rows place student row e is inside =
-    let within : student < length rows = omega (arith, length-entries wanted_in rows) in
+    let within : student < length rows = omega (arith, length-map rows wanted_in) in
     ap wanted_in (e ∙ ap (λ at. get_or rows at row) is) ∙ sym (read_entry wanted_in rows student row no_preferences within)
 
 -- a row that changes, or not

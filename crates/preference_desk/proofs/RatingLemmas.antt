@@ -8,12 +8,14 @@ use Rattle.std.specs.FinMap.{FinMap, nat_cmp-IsAntisymmetric, from_sorted, inser
 use Rattle.std.proofs.lemmas.Bool.{cases_order, ltb-false, le-ltb}
 use Rattle.std.proofs.lemmas.Bool.Decides.{nat_tests}
 use Rattle.std.proofs.lemmas.List.Sums.{prefix_len-le-length}
+use Rattle.std.proofs.lemmas.List.{length-map}
+use Rattle.plain_facts.proofs.Outcomes.{cond_some, cond_none}
 use Rattle.market_units.specs.declared.units.SectionNo.{SectionNo}
 use Rattle.preference_desk.specs.Places.{place_in, stands}
 use Rattle.preference_desk.specs.Rows.{AreRatings, IsRating, rating_entry}
 use Rattle.preference_desk.specs.Writes.{written, has_room}
 use Rattle.preference_desk.specs.StudentPreferences.{with_rating}
-use Rattle.preference_desk.proofs.RowLemmas.{length-entries, stands_at, not_behind}
+use Rattle.preference_desk.proofs.RowLemmas.{stands_at, not_behind}
 use Rattle.preference_desk.proofs.RowWrites.{IsRow, row_set, with_value}
 
 -- where a row is as it was seen, so is the place
@@ -75,20 +77,12 @@ rated_set old new section rating x place here result kept small x_is place_is he
       view = s.view ∙ ap (λ w. cond result w m) (valued m section.0 rating (rating == 0));
     }
 
-pos_some : (b : Bool) (p i : ℕ) → cond b (Some p) None ≡ Some i → i ≡ p
-pos_some true p i e = cc
-pos_some false p i e = cc
-
-pos_none : (b : Bool) (p : ℕ) → cond b (Some p) None ≡ None → b ≡ false
-pos_none true p e = cc
-pos_none false p e = refl
-
 pub position_is : {A : Type 0} (p : A → Bool) (xs : List A) (i : ℕ) → position p xs ≡ Some i → i ≡ position_or_len p xs
-position_is p xs i e = pos_some (nat_lt (position_or_len p xs) (length xs)) (position_or_len p xs) i e
+position_is p xs i e = cond_some (nat_lt (position_or_len p xs) (length xs)) (position_or_len p xs) i e
 
 pub position_is_length : {A : Type 0} (p : A → Bool) (xs : List A) → position p xs ≡ None → length xs ≡ position_or_len p xs
 position_is_length p xs e =
-    omega (arith, prefix_len-le-length (λ x. not (p x)) xs, ltb-false _ _ (pos_none (nat_lt (position_or_len p xs) (length xs)) (position_or_len p xs) e))
+    omega (arith, prefix_len-le-length (λ x. not (p x)) xs, ltb-false _ _ (cond_none (nat_lt (position_or_len p xs) (length xs)) (position_or_len p xs) e))
 
 same_order : (k x : ℕ) → nat_le k x ≡ is_le (nat_cmp k x)
 same_order k x = elim (cases_order k x) [
@@ -126,7 +120,7 @@ pub stands_here : (section : SectionNo) (items : List (SectionNo × ℕ)) (place
     → ((get_or items place d).0.0 == section.0) ≡ stands nat_cmp section.0 (map rating_entry items)
 stands_here section items place d e below =
     let seen = get_or-entries rating_entry items place d in
-    let here = stands_at nat_cmp section.0 (map rating_entry items) (rating_entry d) (omega (arith, e, length-entries rating_entry items)) in
+    let here = stands_at nat_cmp section.0 (map rating_entry items) (rating_entry d) (omega (arith, e, length-map items rating_entry)) in
     same_key section.0 (get_or items place d).0.0 ∙ ap (λ (e : ℕ × ℕ). is_eq (nat_cmp section.0 e.0)) (sym seen)
     ∙ ap (λ at. is_eq (nat_cmp section.0 (get_or (map rating_entry items) at (rating_entry d)).0)) e ∙ sym here
 
@@ -134,4 +128,4 @@ pub stands_nowhere : (section : SectionNo) (items : List (SectionNo × ℕ)) (pl
     → length items ≤ place
     → nat_lt place (length items) ≡ stands nat_cmp section.0 (map rating_entry items)
 stands_nowhere section items place e behind =
-    le-ltb place (length items) behind ∙ sym (not_behind nat_cmp section.0 (map rating_entry items) (omega (arith, e, length-entries rating_entry items)))
+    le-ltb place (length items) behind ∙ sym (not_behind nat_cmp section.0 (map rating_entry items) (omega (arith, e, length-map items rating_entry)))

@@ -10,15 +10,8 @@ use Rattle.std.specs.FinMap.{FinMap, IsAntisymmetric, entries, entries_sorted, f
 use Rattle.std.specs.FinMap.Entries.{by_order, put, find, is_sorted, where_key, below_all, is_sorted-put, is_sorted-where_key, find-where_key}
 use Rattle.std.proofs.lemmas.List.{map-set}
 use Rattle.std.proofs.lemmas.List.Elements.{All-nil, All-cons, All-head, All-tail, All-append, All-take, All-drop}
+use Rattle.plain_facts.proofs.Truths.{and_first, and_second, true_of, only_equal, only_less}
 use Rattle.preference_desk.specs.Places.{place_in, stands}
-
-and_first : (a b : Bool) → (a && b) ≡ true → a ≡ true
-and_first true b e = refl
-and_first false b e = e
-
-and_second : (a b : Bool) → (a && b) ≡ true → b ≡ true
-and_second true b e = e
-and_second false b e = absurd (true≢false (sym e))
 
 pub insert-map : {A B : Type 0} (f : A → B) (xs : List A) (i : ℕ) (x : A) → map f (insert xs i x) ≡ insert (map f xs) i (f x)
 insert-map f xs zero x = refl
@@ -37,30 +30,12 @@ All-insert P xs i x each here = All-append P (take i xs) _ (All-take P i xs each
 pub All-remove : {A : Type 0} (P : A → Type 0) (xs : List A) (i : ℕ) → All P xs → All P (remove xs i)
 All-remove P xs i each = All-append P (take i xs) _ (All-take P i xs each) (All-drop P (suc i) xs each)
 
-pub length-entries : {A B : Type 0} (f : A → B) (xs : List A) → length (map f xs) ≡ length xs
-length-entries f [] = refl
-length-entries f (x ∷ xs) = omega (arith, length-entries f xs)
-
 told : {b : Bool} → b ≡ true → T b
 told e = subst T (sym e) tt
-
-untold : (b : Bool) → T b → b ≡ true
-untold true h = refl
-untold false h = absurd h
 
 turned : {A : Type 0} (b : Bool) (x y : A) → cond (not b) x y ≡ cond b y x
 turned true x y = refl
 turned false x y = refl
-
-only_equal : (r : Ordering) → is_eq r ≡ true → r ≡ Equal
-only_equal Less e = absurd (true≢false (sym e))
-only_equal Equal e = refl
-only_equal Greater e = absurd (true≢false (sym e))
-
-only_less : (r : Ordering) → is_lt r ≡ true → r ≡ Less
-only_less Less e = refl
-only_less Equal e = absurd (true≢false (sym e))
-only_less Greater e = absurd (true≢false (sym e))
 
 module _ {K X : Type 0} (R : K → K → Ordering) where
   pub place_fits : (k : K) (es : List (K × X)) → place_in R k es ≤ length es
@@ -179,10 +154,10 @@ module _ {K X : Type 0} (R : K → K → Ordering) where
         ] refl none
 
     pub sorted_put : (k : K) (v : X) (es : List (K × X)) → is_sorted R es ≡ true → is_sorted R (put R k v es) ≡ true
-    sorted_put k v es sorted = untold _ (is_sorted-put R o k v es (told sorted))
+    sorted_put k v es sorted = true_of _ (is_sorted-put R o k v es (told sorted))
 
     pub sorted_without : (p : K → Bool) (es : List (K × X)) → is_sorted R es ≡ true → is_sorted R (where_key R p es) ≡ true
-    sorted_without p es sorted = untold _ (is_sorted-where_key R p es (told sorted))
+    sorted_without p es sorted = true_of _ (is_sorted-where_key R p es (told sorted))
 
     pub map-put : (k : K) (v : X) (es : List (K × X)) → is_sorted R es ≡ true → from_sorted {R = R} (put R k v es) ≡ insert_in (from_sorted es) k v
     map-put k v es sorted =
@@ -209,7 +184,7 @@ module _ {K X : Type 0} (R : K → K → Ordering) where
     pub entries-remove : IsAntisymmetric R → (m : FinMap R X) (k : K) → entries (remove_from m k) ≡ where_key R (λ x. not (eq_by_cmp R k x)) (entries m)
     entries-remove same m k =
         let kept : m ≡ from_sorted (entries m) = same_entries_map m (from_sorted (entries m)) (sym (entries-from_sorted R (entries m) (entries_sorted m))) in
-        ap (λ m. entries (remove_from m k)) kept ∙ ap entries (sym (map-without same k (entries m) (untold _ (entries_sorted m))))
+        ap (λ m. entries (remove_from m k)) kept ∙ ap entries (sym (map-without same k (entries m) (true_of _ (entries_sorted m))))
         ∙ entries-from_sorted R _ (is_sorted-where_key R (λ x. not (eq_by_cmp R k x)) (entries m) (entries_sorted m))
 
     -- what holds of each key, and of the one that is put in

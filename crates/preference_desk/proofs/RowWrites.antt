@@ -8,12 +8,11 @@ use Rattle.std.specs.FinMap.Entries.{is_sorted}
 use Rattle.std.proofs.lemmas.Bool.Decides.{nat_tests}
 use Rattle.std.proofs.lemmas.List.Edits.{length-insert, length-remove}
 use Rattle.std.proofs.lemmas.List.Elements.{All-set}
+use Rattle.std.proofs.lemmas.List.{length-map}
+use Rattle.plain_facts.proofs.Outcomes.{same_some}
 use Rattle.preference_desk.specs.Places.{place_in, stands}
 use Rattle.preference_desk.specs.Writes.{written, has_room}
-use Rattle.preference_desk.proofs.RowLemmas.{taken_out, none_out, put_in, put_over, place_inside, place_fits, key_at, map-has, map-len, length-entries, All-insert, All-remove}
-
-some_is : {A : Type 0} (x y : A) → Some x ≡ Some y → x ≡ y
-some_is x y e = cc
+use Rattle.preference_desk.proofs.RowLemmas.{taken_out, none_out, put_in, put_over, place_inside, place_fits, key_at, map-has, map-len, All-insert, All-remove}
 
 not_none : {A : Type 0} (x : A) → None ≡ Some x → ⊥
 not_none x e = cc
@@ -44,11 +43,11 @@ module _ {E K X : Type 0} (R : K → K → Ordering) (o : IsTotalOrder R) (same 
   is_written items k None (Some v) tie sorted here is = absurd (not_none (k, v) tie)
   is_written items k (Some x) None tie sorted here is = absurd (not_some (entry x) tie)
   is_written items k (Some x) (Some v) tie sorted true here =
-      let is : entry x ≡ (k, v) = some_is (entry x) (k, v) tie in
+      let is : entry x ≡ (k, v) = same_some (entry x) (k, v) tie in
       let t = put_over R o same entry items k x v (k, v) (is ∙ ap (λ q. (q, v)) (sym (key_at R o same entry items k (k, v) here))) sorted here in
       record { sorted = t.sorted; view = t.view }
   is_written items k (Some x) (Some v) tie sorted false none =
-      let t = put_in R o same entry items k x v (some_is (entry x) (k, v) tie) sorted none in record { sorted = t.sorted; view = t.view }
+      let t = put_in R o same entry items k x v (same_some (entry x) (k, v) tie) sorted none in record { sorted = t.sorted; view = t.view }
 
   one_more : (n : ℕ) → not (true && true && nat_le limit n) ≡ true → n < limit
   one_more n room = grind (arith, nat_tests)
@@ -57,10 +56,10 @@ module _ {E K X : Type 0} (R : K → K → Ordering) (o : IsTotalOrder R) (same 
       → has_room limit items here x ≡ true → length (written items (place_in R k (map entry items)) here x) ≤ limit
   few_written items k (Some x) few true here room = omega (arith, few, length-set items (place_in R k (map entry items)) x)
   few_written items k None few true here room =
-      let inside : place_in R k (map entry items) < length items = omega (arith, place_inside R k (map entry items) here, length-entries entry items) in
+      let inside : place_in R k (map entry items) < length items = omega (arith, place_inside R k (map entry items) here, length-map items entry) in
       omega (arith, few, length-remove items (place_in R k (map entry items)) inside)
   few_written items k (Some x) few false none room =
-      let fits : place_in R k (map entry items) ≤ length items = omega (arith, place_fits R k (map entry items), length-entries entry items) in
+      let fits : place_in R k (map entry items) ≤ length items = omega (arith, place_fits R k (map entry items), length-map items entry) in
       omega (arith, one_more (length items) room, length-insert items (place_in R k (map entry items)) x fits)
   few_written items k None few false none room = few
 
@@ -88,7 +87,7 @@ module _ {E K X : Type 0} (R : K → K → Ordering) (o : IsTotalOrder R) (same 
       ≡ not (is_some v && not (contains_key (from_sorted {R = R} (map entry old)) k) && nat_le limit (len (from_sorted {R = R} (map entry old))))
   room_is old k x v tie row =
       let has : contains_key (from_sorted {R = R} (map entry old)) k ≡ stands R k (map entry old) = map-has R o k (map entry old) row.sorted in
-      let long : len (from_sorted {R = R} (map entry old)) ≡ length old = map-len R o (map entry old) row.sorted ∙ length-entries entry old in
+      let long : len (from_sorted {R = R} (map entry old)) ≡ length old = map-len R o (map entry old) row.sorted ∙ length-map old entry in
       rw (has, long, wants_room k x v tie) refl
 
   by_result : (old : List E) (k : K) (x : Option E) (v : Option X) → option_map entry x ≡ option_map (λ v. (k, v)) v → ((e : E) → x ≡ Some e → P e) → IsRow old

@@ -6,27 +6,15 @@ use Rattle.std.proofs.lemmas.List.Elements.{All-tail}
 use Rattle.std.proofs.lemmas.Bool.{cases_Bool}
 use Rattle.std.proofs.lemmas.Bool.Decides.{nat_tests}
 use Rattle.utility_language.specs.declared.commands.Command.{Command}
-use Rattle.utility_language.specs.Commands.{AreCommands, HasShortNumber, IsCommandOf, command_lines}
+use Rattle.utility_language.specs.Commands.{AreCommands, HasShortNumber, command_lines}
 use Rattle.preference_desk.specs.declared.entry.Entry.{Entry}
 use Rattle.preference_desk.specs.Journals.{MergesStreams, commands_of_session}
 use Rattle.preference_text.specs.Texts.{HasShortCommand}
-
--- the command of a line has a short number
-command_is_short : (words : List (List ℕ)) (command : Command) → IsCommandOf words command → HasShortNumber command
-command_is_short words command (inl spells) = spells.short
-command_is_short words command (inr none) = subst HasShortNumber (sym none.0) tt
-
-all_short : (lines : List (List (List ℕ))) (commands : List Command) → AllZip IsCommandOf lines commands → (k : ℕ) (d : Command) → k < length commands
-    → HasShortNumber (get_or commands k d)
-all_short [] [] are k d inside = absurd (omega arith)
-all_short [] (command ∷ commands) are k d inside = absurd are
-all_short (line ∷ lines) [] are k d inside = absurd are
-all_short (line ∷ lines) (command ∷ commands) are zero d inside = command_is_short line command are.0
-all_short (line ∷ lines) (command ∷ commands) are (suc k) d inside = all_short lines commands are.1 k d (omega arith)
+use Rattle.utility_language.proofs.StreamLemmas.{short_at}
 
 -- the commands of a text have short numbers
 pub commands_are_short : (text : List ℕ) (commands : List Command) → AreCommands text commands → All HasShortNumber commands
-commands_are_short text commands are = all_short (command_lines text) commands are
+commands_are_short text commands are = short_at (command_lines text) commands are
 
 with_own : (entry : Entry) (journal : List Entry) (session : ℕ) → (entry.session == session) ≡ true
     → commands_of_session session (entry ∷ journal) ≡ entry.command ∷ commands_of_session session journal

@@ -2,10 +2,10 @@
 use Rattle.std.proofs.Common.{ℕ, ◌≡◌, ◌+◌, ◌<◌, List, [], ◌∷◌, ◌++◌, length, take, get_or, ap, sym, arith, ◌∙◌, append_assoc}
 use Rattle.std.specs.Prelude.{Some, option_map, slice_get}
 use Rattle.std.proofs.lemmas.List.{append-nil, length-take-le, take_more}
+use Rattle.plain_facts.proofs.Lists.{read_at}
 use Rattle.course_catalog.specs.Sections.{Section}
 use Rattle.student_roll.specs.Students.{Student}
 use Rattle.preference_desk.specs.StudentPreferences.{StudentPreferences}
-use Rattle.market_units.proofs.NameLists.{read_at}
 use Rattle.preference_text.specs.Texts.{student_text, wanted_text}
 
 one_more : (sections : List Section) (students : List Student) (wanted : List StudentPreferences) (s : Student) (w : StudentPreferences)

@@ -9,11 +9,10 @@ use Rattle.std.proofs.lemmas.List.Sums.{sum_by-cons, get_or-le-sum_by}
 use Rattle.bundle_rules.specs.declared.bundle.Bundle.{Bundle}
 use Rattle.bundle_rules.specs.Bundles.{sections_of}
 use Rattle.market_units.specs.Members.{has}
-use Rattle.demand_api.specs.Crowds.{CrowdData, demands, demand, holders}
+use Rattle.demand_api.specs.Crowds.{demands, holders}
 use Rattle.task_board.specs.declared.mark.Mark.{Mark}
 use Rattle.task_board.specs.declared.mark.Mark.TheVariants.{Open}
-use Rattle.task_board.specs.Kept.{AreRight}
-use Rattle.task_board.specs.Kept.{AreSettled as AreTasksSettled}
+use Rattle.task_board.specs.Kept.{AreRight, AreSettled as AreTasksSettled}
 use Rattle.task_board.specs.Marks.{mark_at, answer_in, answers_in}
 use Rattle.price_board.specs.declared.round.Ask.{Ask}
 use Rattle.price_board.specs.declared.round.Ask.TheVariants.{Counts, Exceeds}
@@ -27,6 +26,7 @@ use Rattle.price_board.specs.Settling.{ask_of, count_for, is_settled, is_with, u
 use Rattle.price_board.specs.Tallies.{tally_of, exceeds_by, HaveTallied}
 use Rattle.price_board.specs.Terms.{student_count, task_count, version_count, prices_of, count_of, demand_of}
 use Rattle.price_board.proofs.Numbering.{number-below, version-at, row-length, right_bundle}
+use Rattle.demand_api.proofs.Counts.{length-demands}
 
 count-cons : {X : Type 0} (p : X → Bool) (x : X) (xs : List X) → count_by p (x ∷ xs) ≡ cond (p x) 1 0 + count_by p xs
 count-cons p x xs = sum_by-cons (λ y. cond (p y) 1 0) x xs
@@ -128,10 +128,6 @@ between section (b ∷ row) (sections ∷ list) same right =
 decided : (limit h g c : ℕ) → (nat_lt limit h || nat_le (h + g) limit) ≡ true → h ≤ c → c ≤ h + g → nat_lt limit h ≡ nat_lt limit c
 decided limit h g c settled low high = grind (arith, nat_tests)
 
-as_many : (crowd : CrowdData) (price : ℕ → ℕ) → length (demands crowd price) ≡ length crowd.students
-unfolding demands
-as_many crowd price = length-map crowd.students (demand crowd.sections price)
-
 module _ (terms : Terms) (marks : List (Mark Bundle)) (each : length marks ≡ task_count terms) (right : AreRight round_rules terms marks)
     (settled : AreSettled terms marks) where
   -- past the last student of a row nothing is posted
@@ -155,7 +151,7 @@ module _ (terms : Terms) (marks : List (Mark Bundle)) (each : length marks ≡ t
       let row : List (Option Bundle) = row_of terms (answers_in marks) v in
       let both =
       between section.0 row (demands terms.crowd (prices_of terms v))
-      (row-length terms (answers_in marks) v (each_answer terms marks each) low ∙ sym (as_many terms.crowd (prices_of terms v)))
+      (row-length terms (answers_in marks) v (each_answer terms marks each) low ∙ sym (length-demands terms.crowd (prices_of terms v)))
       (λ s b there. posted_right v s b low there) in
       ap Some (decided limit (count_by (is_with section.0) row) (unfilled_in row) (count_of terms v section.0) is both.0 both.1)
 

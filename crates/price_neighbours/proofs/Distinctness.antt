@@ -1,11 +1,12 @@
 -- Vectors that are kept once.
-use Rattle.std.proofs.Common.{Vec, Global, ℕ, ◌≡◌, ◌∙◌, ◌++◌, ◌∷◌, [], Bool, true, false, not, cond, ◌||◌, List, map, refl, sym, ap, inl, inr}
+use Rattle.std.proofs.Common.{Vec, Global, ℕ, ◌≡◌, ◌∙◌, ◌++◌, ◌∷◌, [], Bool, true, false, not, cond, List, map, refl, sym, ap, inl, inr}
 use Rattle.std.specs.Prelude.{nat_eq}
 use Rattle.std.specs.List.{list_any}
 use Rattle.std.specs.Cmp.{IsEquivalence, on_equiv}
 use Rattle.std.specs.Cmp.Lexicographic.{pointwise, nat_list_eq_equiv}
 use Rattle.std.proofs.lemmas.Bool.{cases_Bool, true≢false}
 use Rattle.std.proofs.lemmas.List.{map-append}
+use Rattle.plain_facts.proofs.Lists.{list_any-map}
 use Rattle.market_units.specs.declared.units.Tokens.{Tokens}
 use Rattle.price_neighbours.specs.Distinct.{once, same_prices}
 use Rattle.price_neighbours.proofs.OnceFacts.{once_more_seen, once_more_new}
@@ -16,10 +17,6 @@ amounts prices = map (λ price. price.0) prices
 -- two vectors with the same prices are equal for each test
 pub same_prices_equal : IsEquivalence same_prices
 same_prices_equal = on_equiv amounts nat_list_eq_equiv
-
-pub list_any-map : {A B : Type 0} (p : B → Bool) (f : A → B) (xs : List A) → list_any p (map f xs) ≡ list_any (λ x. p (f x)) xs
-list_any-map p f [] = refl
-list_any-map p f (x ∷ xs) = ap (λ b. p (f x) || b) (list_any-map p f xs)
 
 -- a vector whose amounts were not seen is kept
 pub kept_then : (all kept : List (List Tokens)) (keys later : List (List ℕ)) (vector : List Tokens) (key : List ℕ) → kept ≡ once same_prices all

@@ -9,7 +9,7 @@ use Rattle.market_units.specs.declared.units.Tokens.{Tokens}
 use Rattle.market_units.specs.declared.units.SectionNo.{SectionNo}
 use Rattle.bundle_rules.specs.Places.{places_from}
 use Rattle.bundle_rules.specs.Demand.{price_in}
-use Rattle.demand_api.specs.Crowds.{CrowdData, IsCrowd, demand, demands, count, counts}
+use Rattle.demand_api.specs.Crowds.{CrowdData, IsCrowd, demands, count, counts}
 use Rattle.demand_api.specs.Prices.{IsLeastFrom, AreLeastPrices}
 use Rattle.demand_api.proofs.Takers.{holders_few}
 use Rattle.price_neighbours.specs.Neighbours.{with_alone, least_fewer, alone}
@@ -18,15 +18,13 @@ use Rattle.price_neighbours.proofs.Ranges.{range_more, range_at}
 use Rattle.price_neighbours.proofs.Pairs.{over_then, over_still}
 use Rattle.price_neighbours.proofs.Leasts.{least_asked}
 use Rattle.price_neighbours.proofs.Distinctness.{vectors_of}
+use Rattle.demand_api.proofs.Counts.{length-demands}
+use Rattle.bundle_rules.proofs.PlaceLists.{length-places_from}
 
 place_at : (first n i d : ℕ) → i < n → get_or (places_from first n) i d ≡ first + i
 place_at first zero i d below = absurd (omega arith)
 place_at first (suc n) zero d below = omega arith
 place_at first (suc n) (suc i) d below = omega (arith, place_at (suc first) n i d (omega arith))
-
-length-places_from : (first n : ℕ) → length (places_from first n) ≡ n
-length-places_from first zero = refl
-length-places_from first (suc n) = ap suc (length-places_from (suc first) n)
 
 -- the count of a section in the list of all counts
 pub count_at : (crowd : CrowdData) (price : ℕ → ℕ) (found : List ℕ) (s : ℕ) → found ≡ counts crowd price → s < crowd.sections
@@ -179,10 +177,6 @@ pub vector_pushed : (now later : List (Vec Tokens Global)) (vector : Vec Tokens 
     → vector.items ≡ prices → vectors_of later ≡ vectors_of now ++ prices ∷ []
 vector_pushed now later vector prices more is =
     ap vectors_of more ∙ map_push (λ (v : Vec Tokens Global). v.items) now vector ∙ ap (λ ps. vectors_of now ++ ps ∷ []) is
-
-length-demands : (crowd : CrowdData) (price : ℕ → ℕ) → length (demands crowd price) ≡ length crowd.students
-unfolding demands
-length-demands crowd price = length-map crowd.students (demand crowd.sections price)
 
 -- each count is one of students
 pub counts_few : (crowd : CrowdData) (price : ℕ → ℕ) (found : List ℕ) → IsCrowd crowd → found ≡ counts crowd price → All (λ n. n ≤ 2000) found

@@ -1,11 +1,11 @@
 -- The sections whose least prices are asked for.
-use Rattle.std.proofs.Common.{ℕ, ◌+◌, ◌<◌, ◌≤◌, ◌≡◌, ◌∙◌, ◌++◌, ◌∷◌, [], Bool, true, false, List, length, map, get_or, arith, refl, sym, ap, inl, inr}
+use Rattle.std.proofs.Common.{ℕ, ◌+◌, ◌<◌, ◌≤◌, ◌≡◌, ◌∙◌, ◌++◌, ◌∷◌, [], true, false, List, length, map, get_or, arith, refl, sym, ap}
 use Rattle.std.specs.Prelude.{All, filter}
 use Rattle.std.specs.List.{range_with_len}
 use Rattle.std.proofs.lemmas.List.{append-nil, map-append, length-map}
 use Rattle.std.proofs.lemmas.List.Elements.{filter-append, All-map, All-filter}
 use Rattle.std.proofs.lemmas.List.FromFn.{length-range_with_len, get_or-range_with_len}
-use Rattle.std.proofs.lemmas.Bool.{cases_Bool}
+use Rattle.plain_facts.proofs.Lists.{length-filter_le}
 use Rattle.market_units.specs.declared.units.SectionNo.{SectionNo}
 use Rattle.price_neighbours.specs.Asked.{is_over, pair_of}
 use Rattle.price_neighbours.proofs.Ranges.{range_more}
@@ -39,17 +39,12 @@ pub pairs_still : (counts seats : List ℕ) (n : ℕ) (pairs : List (SectionNo �
     → pairs ≡ map (pair_of counts) (filter (is_over counts seats) (range_with_len 0 (n + 1)))
 pairs_still counts seats n pairs so_far not_over = rw (over_still counts seats n not_over) so_far
 
-filter_few : {A : Type 0} (p : A → Bool) (xs : List A) → length (filter p xs) ≤ length xs
-filter_few p [] = omega arith
-filter_few p (x ∷ xs) =
-    let rest : length (filter p xs) ≤ length xs = filter_few p xs in elim (cases_Bool (p x)) [ inl t ↦ rw t (omega arith) | inr f ↦ rw f (omega arith) ]
-
 -- what may be asked: few pairs, each of a section
 pub pairs_few : (counts seats : List ℕ) (n : ℕ) (pairs asked : List (SectionNo × ℕ)) → asked ≡ pairs
     → pairs ≡ map (pair_of counts) (filter (is_over counts seats) (range_with_len 0 n)) → n ≤ 400 → length asked ≤ 400
 pairs_few counts seats n pairs asked same is few =
     let most : length (filter (is_over counts seats) (range_with_len 0 n)) ≤ length (range_with_len 0 n) =
-    filter_few (is_over counts seats) (range_with_len 0 n) in
+    length-filter_le (is_over counts seats) (range_with_len 0 n) in
     let all : length (range_with_len 0 n) ≡ n = length-range_with_len 0 n in
     let long : length (map (pair_of counts) (filter (is_over counts seats) (range_with_len 0 n)))
     ≡ length (filter (is_over counts seats) (range_with_len 0 n)) =
@@ -66,6 +61,6 @@ pairs_sections counts seats n m pairs asked same is whole =
 pub asked_few : (counts seats : List ℕ) (n asked : ℕ) → asked ≡ length (filter (is_over counts seats) (range_with_len 0 n)) → asked ≤ n
 asked_few counts seats n asked is =
     let most : length (filter (is_over counts seats) (range_with_len 0 n)) ≤ length (range_with_len 0 n) =
-    filter_few (is_over counts seats) (range_with_len 0 n) in
+    length-filter_le (is_over counts seats) (range_with_len 0 n) in
     let all : length (range_with_len 0 n) ≡ n = length-range_with_len 0 n in
     omega arith

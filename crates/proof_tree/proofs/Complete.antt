@@ -26,8 +26,9 @@ use Rattle.bundle_bounds.proofs.NodeFacts.{nothing_chosen}
 use Rattle.bundle_bounds.proofs.Openings.{node_without}
 use Rattle.proof_tree.specs.Trees.{Tree, Wins, Bars, Cuts, Takes, Splits, Passes, IsTree, IsShut, IsChampionsEnd, GoesOn}
 use Rattle.proof_tree.specs.Laws.{HasTree, TreesProveTheBest, TreesProveTheBestWith}
-use Rattle.proof_tree.proofs.Nodes.{places_with, places_low, last_here, last_other}
+use Rattle.proof_tree.proofs.Nodes.{places_with, places_low}
 use Rattle.proof_tree.proofs.Sound.{HasRequired, IsOnMenu, node_where_open, tree_is_sound}
+use Rattle.market_units.proofs.Memberships.{has_push_same, has_push_other}
 
 -- the takable bundle with the required place that is preferred to every other one
 record IsBestRequired (offer : OfferData) (required : Option ℕ) (bundle : List ℕ) : Type 0 where
@@ -176,11 +177,11 @@ module _ (offer : OfferData) (menu : IsMenu offer.menu) (required : Option ℕ) 
       | inl before ↦
           let rises : section_at offer.menu.places place < section_at offer.menu.places k =
           section_at-rises offer.menu.places place k menu.places.ascending before low in
-          last_other chosen (section_at offer.menu.places k) (section_at offer.menu.places place) (λ e. absurd (omega arith)) ∙ kept place is before
+          has_push_other chosen (section_at offer.menu.places k) (section_at offer.menu.places place) (λ e. absurd (omega arith)) ∙ kept place is before
       | inr at ↦
           let same : k ≡ place = omega arith in
           subst (λ p. has (chosen ++ section_at offer.menu.places k ∷ []) (section_at offer.menu.places p) ≡ true) same
-          (last_here chosen (section_at offer.menu.places k))
+          (has_push_same chosen (section_at offer.menu.places k))
     ]
 
     kept_without : (k : ℕ) (chosen : List ℕ) → required ≢ Some k → IsKept k chosen → IsKept (k + 1) chosen

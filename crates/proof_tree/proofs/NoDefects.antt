@@ -63,7 +63,7 @@ module _ (offer : OfferData) (menu : IsMenu offer.menu) (required : Option ℕ) 
       )
 
 -- the signs of canonical trees
-canonical_sign : (offer : OfferData) (champion : List ℕ) (k : ℕ) (cs : List ℕ) (sign : Sign) → IsSign offer None champion k cs sign → IsCanonical sign
+pub canonical_sign : (offer : OfferData) (champion : List ℕ) (k : ℕ) (cs : List ℕ) (sign : Sign) → IsSign offer None champion k cs sign → IsCanonical sign
 canonical_sign offer champion k cs Champion is = tt
 canonical_sign offer champion k cs Shut is = absurd (cc is.1.1)
 canonical_sign offer champion k cs (Pruned leaf) is = tt

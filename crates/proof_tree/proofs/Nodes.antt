@@ -1,6 +1,6 @@
 -- What completes a node, by its places.
-use Rattle.std.proofs.Common.{◌≡◌, ◌≢◌, ◌<◌, ◌≤◌, ◌+◌, ◌++◌, ◌⊎◌, ℕ, true, false, List, [], ◌∷◌, length, map, refl, sym, ◌∙◌, ap, subst, inl, inr, arith}
-use Rattle.std.proofs.lemmas.Bool.{cases_Bool, cases_lt, false≢true, ne_eqb}
+use Rattle.std.proofs.Common.{◌≡◌, ◌<◌, ◌≤◌, ◌+◌, ◌++◌, ◌⊎◌, ℕ, true, false, List, [], ◌∷◌, length, map, refl, sym, ◌∙◌, ap, subst, inl, inr, arith}
+use Rattle.std.proofs.lemmas.Bool.{cases_Bool, cases_lt, false≢true}
 use Rattle.std.proofs.lemmas.List.{map-append, append-nil}
 use Rattle.bundle_rules.specs.declared.menu.Rated.{Rated}
 use Rattle.market_units.specs.Members.{has}
@@ -14,6 +14,7 @@ use Rattle.bundle_rules.proofs.PlacesFirst.{AllOnMenu, section_at-rises}
 use Rattle.bundle_bounds.proofs.Openness.{MayBeTaken, front_of, is_open-more}
 use Rattle.bundle_bounds.proofs.ByPlace.{place_in-section_at, has-places, has_by_place, on_menu, taken_places}
 use Rattle.bundle_bounds.proofs.Soundness.{same_below}
+use Rattle.market_units.proofs.Memberships.{has_push_other, has_push_same}
 
 has_either : (xs ys : List ℕ) (s : ℕ) → has (xs ++ ys) s ≡ true → (has xs s ≡ true) ⊎ (has ys s ≡ true)
 has_either [] ys s is = inr is
@@ -21,14 +22,6 @@ has_either (x ∷ xs) ys s is = elim (has-cases x (xs ++ ys) s is) [
   | inl here ↦ inl (rw here (has-here s xs))
   | inr there ↦ elim (has_either xs ys s there) [ inl first ↦ inl (has-there x xs s first) | inr second ↦ inr second ]
 ]
-
-pub last_here : (xs : List ℕ) (s : ℕ) → has (xs ++ s ∷ []) s ≡ true
-last_here [] s = has-here s []
-last_here (x ∷ xs) s = has-there x (xs ++ s ∷ []) s (last_here xs s)
-
-pub last_other : (xs : List ℕ) (s t : ℕ) → s ≢ t → has (xs ++ s ∷ []) t ≡ has xs t
-last_other [] s t apart = rw (ne_eqb s t apart) refl
-last_other (x ∷ xs) s t apart = rw (last_other xs s t apart) refl
 
 -- the sections of a bundle's places are the bundle
 sections_back : (places : List Rated) (ss : List ℕ) → AllOnMenu places ss → map (section_at places) (map (place_in places) ss) ≡ ss
@@ -117,11 +110,11 @@ module _ (offer : OfferData) (menu : IsMenu offer.menu) where
                 let rises : section_at offer.menu.places place < section_at offer.menu.places k =
                 section_at-rises offer.menu.places place k menu.places.ascending before low in
                 completes place before on
-                ∙ sym (last_other chosen (section_at offer.menu.places k) (section_at offer.menu.places place) (λ e. absurd (omega arith)))
+                ∙ sym (has_push_other chosen (section_at offer.menu.places k) (section_at offer.menu.places place) (λ e. absurd (omega arith)))
             | inr at ↦
                 let same : k ≡ place = omega arith in
                 subst (λ p. has bundle (section_at offer.menu.places p) ≡ has (chosen ++ section_at offer.menu.places k ∷ []) (section_at offer.menu.places p))
-                same (is ∙ sym (last_here chosen (section_at offer.menu.places k)))
+                same (is ∙ sym (has_push_same chosen (section_at offer.menu.places k)))
           ]
 
       pub completes_without : k < length offer.menu.places → has bundle (section_at offer.menu.places k) ≡ false → Completes offer (k + 1) chosen bundle

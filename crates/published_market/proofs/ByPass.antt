@@ -24,9 +24,9 @@ use Rattle.published_parts.proofs.Resting.{in_order, is_allocation}
 use Rattle.published_market.specs.Laws.{AllocatedInPasses}
 use Rattle.published_market.specs.Publishing.{IsPublicationOf, terms_at}
 use Rattle.published_market.specs.Turns.{IsPublishedTurn}
-use Rattle.published_market.proofs.Ranges.{held_count}
 use Rattle.published_market.proofs.Sentences.{best_at_its_turn, published_after}
 use Rattle.published_market.proofs.Turning.{same_held}
+use Rattle.published_parts.proofs.HeldAfter.{length-held_after}
 
 -- a list beside another of two parts, in two parts
 record IsParted {A B : Type 0} (R : A → B → Type 0) (front later : List A) (ys : List B) : Type 0 where
@@ -124,7 +124,7 @@ module _ (crowd : CrowdData) (prices : List Tokens) (raise : ℕ) where
       (subst (λ all. AllZip Is all published) (flat_map-cons (λ (pass : List TurnData). pass) turns later) zipped) in
       let after : held_after held parts.ahead ≡ after_turns held turns = same_held crowd prices raise held turns parts.ahead parts.first in
       let rest =
-      by_passes Wanted (number + 1) (after_turns held turns) later parts.behind (ap length (sym after) ∙ held_count held parts.ahead ∙ size) are.2
+      by_passes Wanted (number + 1) (after_turns held turns) later parts.behind (ap length (sym after) ∙ length-held_after held parts.ahead ∙ size) are.2
       parts.second in
       record {
         passes = parts.ahead ∷ rest.passes;

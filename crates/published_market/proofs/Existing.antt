@@ -2,7 +2,7 @@
 use Rattle.std.proofs.Common.{ℕ, ◌≡◌, ◌⊎◌, List, [], ◌∷◌, map, length, refl, ap, sym, subst, inl, inr}
 use Rattle.std.specs.Prelude.{All, None, Some, slice_get}
 use Rattle.std.specs.List.{AllZip}
-use Rattle.std.proofs.lemmas.List.Elements.{All-cons, All-head, All-nil, All-tail}
+use Rattle.std.proofs.lemmas.List.Elements.{All-head, All-tail}
 use Rattle.std.proofs.lemmas.Option.{get_or_from_slice_get, slice_get_within}
 use Rattle.market_units.specs.declared.units.Tokens.{Tokens}
 use Rattle.bundle_bounds.specs.Offers.{OfferData}
@@ -11,7 +11,6 @@ use Rattle.bundle_rules.specs.Menus.{IsMenu, wishes_of}
 use Rattle.bundle_rules.proofs.BestValue.{best-is}
 use Rattle.budget_draw.specs.Budgets.{amounts, budgets_of}
 use Rattle.course_catalog.specs.Catalog.{IsCatalog}
-use Rattle.course_catalog.specs.Sections.{Section}
 use Rattle.demand_api.specs.Crowds.{CrowdData, IsCrowd, Student, demand, demands}
 use Rattle.demand_api.specs.Parts.{of_parts}
 use Rattle.proof_tree.specs.Laws.{HasTree, TreesProveTheBest}
@@ -25,12 +24,10 @@ use Rattle.aftermarket_stage.specs.Passes.{IsAftermarket}
 use Rattle.aftermarket_stage.specs.Turns.{EachTurn, IsTurn, Terms, TurnData, after_turn}
 use Rattle.market_crowd.proofs.CrowdFacts.{crowd_is_markets}
 use Rattle.market_menus.specs.Limits.{EachHasAMenu}
-use Rattle.market_menus.specs.MenusOf.{AreMenusOf}
 use Rattle.market_settings.specs.declared.reader.Settings.{Settings}
 use Rattle.market_certificate.specs.Publications.{Proved, ProvedTurn, Publication}
-use Rattle.preference_desk.specs.StudentPreferences.{StudentPreferences}
 use Rattle.preference_desk.specs.declared.entry.Entry.{Entry}
-use Rattle.student_roll.specs.Students.{IsRoll, Student as Enrolled}
+use Rattle.student_roll.specs.Students.{IsRoll}
 use Rattle.utility_language.specs.declared.commands.Command.{Command}
 use Rattle.published_parts.specs.Crowds.{IsCrowdAfter, IsCrowdIn}
 use Rattle.published_parts.specs.Holdings.{held_after, tokens, used_of}
@@ -44,9 +41,9 @@ use Rattle.published_market.specs.Turns.{IsPublishedTurn, offer_at}
 use Rattle.published_market.proofs.Found.{found_prices}
 use Rattle.published_market.proofs.Limited.{wanted_limited, wanted_long}
 use Rattle.published_market.proofs.Prices.{tokens_of_prices}
-use Rattle.published_market.proofs.Publishable.{crowd_known}
-use Rattle.published_market.proofs.Sentences.{demands_published}
-use Rattle.published_market.proofs.Turning.{made_each}
+use Rattle.published_market.proofs.Publishable.{crowd_known, menus_limited}
+use Rattle.published_market.proofs.Outcomes.{demanded_crowd}
+use Rattle.aftermarket_stage.proofs.Passing.{made_each}
 
 -- the best bundle of an offer has a tree
 tree_for : TreesProveTheBest → (offer : OfferData) (bundle : List ℕ) → IsMenu offer.menu
@@ -83,11 +80,6 @@ all_turned law crowd seats prices raise held (turn ∷ turns) menus are =
     let first : IsPublishedTurn crowd prices raise turn (record { pass = turn.pass; student = turn.student; bundle = turn.bundle; tree = one.0 }) =
     record { pass = refl; student = refl; bundle = refl; who = are.0.who; listed = are.0.listed; proved = one.1 } in
     (record { pass = turn.pass; student = turn.student; bundle = turn.bundle; tree = one.0 } ∷ rest.0, (first, rest.1))
-
-demanded_of : (crowd : CrowdData) (price : ℕ → ℕ) (bundles : List Proved) → AllZip (IsProvedDemand crowd.sections price) crowd.students bundles
-    → map (λ (proved : Proved). proved.bundle) bundles ≡ demands crowd price
-unfolding demands
-demanded_of crowd price bundles are = demands_published crowd.sections price crowd.students bundles are
 
 -- an outcome with this order
 record HasOutcome (crowd : CrowdData) (seats : List ℕ) (settings : Settings) (order : List ℕ) : Type 0 where
@@ -137,24 +129,13 @@ outcome_found elimination aftermarket trees crowd seats settings order prices er
           turns = made.0;
           made = subst (λ (ps : List Tokens). IsAftermarket (terms_at crowd seats ps settings.raise) held made.0 made.1) (sym end)
               (subst (λ (from : List (List ℕ)). IsAftermarket (terms_at crowd seats final settings.raise) from made.0 made.1)
-              (sym (demanded_of crowd (price_in final) shown.0 shown.1)) made.2);
+              (sym (demanded_crowd crowd (price_in final) shown.0 shown.1)) made.2);
           published = subst (λ (ps : List Tokens). AllZip (IsPublishedTurn crowd ps settings.raise) made.0 told.0) (sym end) told.1;
         };
         allocation = refl;
         used = refl;
       };
     }
-
--- the menus of a market are within the limits of menus
-menus_limited : (catalog : List Section) (roll : List Enrolled) (wanted : List StudentPreferences) (students : List Student)
-    → AreMenusOf catalog roll wanted (map (λ (student : Student). student.menu) students) → All (λ (student : Student). IsMenu student.menu) students
-menus_limited catalog [] [] [] are = All-nil (λ (student : Student). IsMenu student.menu)
-menus_limited catalog (s ∷ roll) (w ∷ wanted) (student ∷ students) are =
-    All-cons (λ (who : Student). IsMenu who.menu) student students are.0.limits (menus_limited catalog roll wanted students are.1)
-menus_limited catalog [] [] (student ∷ students) are = absurd are
-menus_limited catalog [] (w ∷ wanted) students are = absurd are
-menus_limited catalog (s ∷ roll) [] students are = absurd are
-menus_limited catalog (s ∷ roll) (w ∷ wanted) [] are = absurd are
 
 -- with a crowd
 by_crowd : SearchEnds → EliminationEnds → AftermarketEnds → TreesProveTheBest

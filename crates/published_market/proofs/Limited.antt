@@ -11,7 +11,7 @@ use Rattle.std.specs.declared.cmp.Ordering.TheVariants.{Less, Equal, Greater}
 use Rattle.std.proofs.lemmas.Bool.{and_parts, false≢true, not-false}
 use Rattle.std.proofs.lemmas.Bool.Decides.{nat_tests}
 use Rattle.std.proofs.lemmas.Int.{ints}
-use Rattle.std.proofs.lemmas.List.{length-map, length-replicate, length-set}
+use Rattle.std.proofs.lemmas.List.{length-map, length-replicate}
 use Rattle.std.proofs.lemmas.List.Elements.{All-cons, All-filter, All-head, All-nil, All-set, All-tail}
 use Rattle.market_units.specs.Name.{name_bytes}
 use Rattle.utility_language.specs.declared.commands.Command.{Command}
@@ -30,6 +30,7 @@ use Rattle.market_menus.specs.Limits.{IsLimited, MayBeHad}
 use Rattle.published_parts.specs.Journals.{wanted_in}
 use Rattle.published_parts.specs.Markets.{Market, names_in}
 use Rattle.published_parts.proofs.LowerFirst.{closed_lower}
+use Rattle.preference_desk.proofs.JournalLemmas.{changed_rows}
 
 -- a map with at most so many keys, of each of whose values it is so
 module _ {K X : Type 0} (R : K → K → Ordering) (o : IsTotalOrder R) (same : IsAntisymmetric R) (V : X → Type 0) (most : ℕ) where
@@ -162,20 +163,12 @@ changed_limited names state Unreadable each done = each
 closed_limited : (names : DeskNames) (journal : List Entry) → All IsLimited (closed_preferences names journal)
 closed_limited names = closed_keep IsLimited names nothing_limited (changed_limited names)
 
--- the desk keeps a place for each student
-changed_rows : (names : DeskNames) (state : DeskState) (command : Command) → length (changed names state command).preferences ≡ length state.preferences
-changed_rows names state (Rate student section n) = length-set state.preferences (ordinal_of names.students student) _
-changed_rows names state (Pair student first second n) = length-set state.preferences (ordinal_of names.students student) _
-changed_rows names state (Clear student) = length-set state.preferences (ordinal_of names.students student) no_preferences
-changed_rows names state Close = refl
-changed_rows names state Unreadable = refl
-
 step_rows : (names : DeskNames) (state : DeskState) (command : Command) (b : Bool)
     → length (cond b (changed names state command) state).preferences ≡ length state.preferences
 step_rows names state command true = changed_rows names state command
 step_rows names state command false = refl
 
-rows_after : (names : DeskNames) (state : DeskState) (journal : List Entry)
+pub rows_after : (names : DeskNames) (state : DeskState) (journal : List Entry)
     → length (state_after_all names state journal).preferences ≡ length state.preferences
 rows_after names state [] = refl
 rows_after names state (entry ∷ more) =

@@ -30,7 +30,7 @@ pub record Tells (crowd : CrowdData) (seats : List ℕ) (settings : Settings) (s
   pub allocation : p.allocation ≡ stages.held
   pub used : p.used ≡ zip stages.used seats
 
-demanded_crowd : (crowd : CrowdData) (price : ℕ → ℕ) (bundles : List Proved) → AllZip (IsProvedDemand crowd.sections price) crowd.students bundles
+pub demanded_crowd : (crowd : CrowdData) (price : ℕ → ℕ) (bundles : List Proved) → AllZip (IsProvedDemand crowd.sections price) crowd.students bundles
     → map (λ (proved : Proved). proved.bundle) bundles ≡ demands crowd price
 unfolding demands
 demanded_crowd crowd price bundles are = demands_published crowd.sections price crowd.students bundles are

@@ -20,7 +20,8 @@ use Rattle.published_market.specs.Publishing.{terms_at}
 use Rattle.published_market.specs.Stages.{AreStages, StageData}
 use Rattle.published_market.proofs.Outcomes.{Tells, outcome_told}
 use Rattle.published_market.proofs.Prices.{amounts_of_tokens}
-use Rattle.published_market.proofs.Ranges.{amounts_in_range, bundles_in_range, held_all, held_count, made_from, prices_in_range, turns_in_range, used_in_range}
+use Rattle.published_market.proofs.Ranges.{amounts_in_range, bundles_in_range, held_all, made_from, prices_in_range, turns_in_range, used_in_range}
+use Rattle.published_parts.proofs.HeldAfter.{length-held_after}
 
 -- what the code shows beside the stages
 pub record AreForms (seats : List ℕ) (p : Publication) : Type 0 where
@@ -77,7 +78,7 @@ publication_in_range crowd seats settings stages p tables known same students se
       turns = turns;
       allocation = record {
         count =
-            ap (λ (all : List (List ℕ)). length all) outcome.allocation ∙ held_count (demanded p) p.turns
+            ap (λ (all : List (List ℕ)). length all) outcome.allocation ∙ length-held_after (demanded p) p.turns
             ∙ length-map p.bundles (λ (proved : Proved). proved.bundle) ∙ count ∙ students;
         each = subst (All (IsBundleOf tables.sections)) (sym outcome.allocation) held;
       };

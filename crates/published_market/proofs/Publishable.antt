@@ -57,6 +57,7 @@ use Rattle.published_market.proofs.PublicationRanges.{publication_in_range}
 use Rattle.published_market.proofs.Sentences.{demanded_is, stage_two_within}
 use Rattle.published_market.proofs.Settled.{settled_prices}
 use Rattle.published_market.proofs.Turning.{same_held}
+use Rattle.market_certificate.proofs.Joins.{lines_few}
 
 -- a drawn budget
 budget_low : (students : List Student) (version seed spread k : ℕ) → All (IsListed version) students → length students ≤ 2000 → spread ≤ 49
@@ -126,7 +127,7 @@ crowd_known market journal crowd catalog roll settings is =
     }
 
 -- each student has a menu in its limits
-menus_limited : (catalog : List Section) (roll : List Student) (wanted : List StudentPreferences) (asked : List Asked)
+pub menus_limited : (catalog : List Section) (roll : List Student) (wanted : List StudentPreferences) (asked : List Asked)
     → AreMenusOf catalog roll wanted (map (λ (student : Asked). student.menu) asked) → All (λ (student : Asked). IsMenu student.menu) asked
 menus_limited catalog [] [] [] are = λ k d low. absurd (omega arith)
 menus_limited catalog (s ∷ roll) (w ∷ wanted) (a ∷ asked) are =
@@ -209,11 +210,6 @@ turns_low Wanted crowd start turns passes is = by_students crowd.students refl
         let few = passes_few Wanted crowd 1 start is.by_pass some is.whole in
         let all : length (flat_map (λ pass. pass) is.by_pass) ≡ length turns = ap (λ (ts : List TurnData). length ts) is.joined in
         subst (All (λ (turn : TurnData). turn.pass ≤ length turns)) is.joined (passes_low Wanted crowd (length turns) 1 start is.by_pass (omega arith) is.whole)
-
--- a text has a byte for each turn
-lines_few : (lines : List (List ℕ)) → length lines ≤ length (joined lines)
-lines_few [] = omega arith
-lines_few (line ∷ lines) = let rest = lines_few lines in let long = length-append line (10 ∷ joined lines) in omega (arith, rest, long)
 
 turns_short : (tables : Tables) (p : Publication) → length p.turns ≤ length (text_of tables p)
 turns_short tables p =

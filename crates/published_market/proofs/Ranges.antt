@@ -6,7 +6,6 @@ use Rattle.std.proofs.lemmas.Bool.Decides.{nat_tests}
 use Rattle.std.proofs.lemmas.List.{length-map}
 use Rattle.std.proofs.lemmas.List.Elements.{All-append, All-cons, All-head, All-map, All-nil, All-set, All-tail}
 use Rattle.std.proofs.lemmas.Option.{get_or_from_slice_get, slice_get_within}
-use Rattle.std.proofs.Math.ListN.{length-set}
 use Rattle.market_units.specs.declared.units.Tokens.{Tokens}
 use Rattle.bundle_rules.specs.declared.menu.Rated.{Rated}
 use Rattle.bundle_rules.specs.Existence.Members.{has-here, has-there}
@@ -146,10 +145,6 @@ held_all P held (turn ∷ turns) are each =
     held_all P (slice_set held turn.student turn.bundle) turns
     (All-set P held turn.student turn.bundle (All-head (λ (one : ProvedTurn). P one.bundle) turn turns each) are)
     (All-tail (λ (one : ProvedTurn). P one.bundle) turn turns each)
-
-pub held_count : (held : List (List ℕ)) (turns : List ProvedTurn) → length (held_after held turns) ≡ length held
-held_count held [] = refl
-held_count held (turn ∷ turns) = held_count (slice_set held turn.student turn.bundle) turns ∙ length-set held turn.student turn.bundle
 
 -- all of a list of prices
 pub prices_in_range : (crowd : CrowdData) (prices : List Tokens) → IsCrowd crowd → ArePricesFor crowd prices → AreSectionPrices crowd.sections prices

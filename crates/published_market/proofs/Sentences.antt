@@ -31,7 +31,8 @@ use Rattle.published_market.specs.Laws.{AllocationWithinSeats, BestAtItsTurn, Be
 use Rattle.published_parts.proofs.Asked.{budget_at, crowd_count, menu_says, zip_at}
 use Rattle.published_parts.proofs.OneJournals.{one_journal}
 use Rattle.published_market.proofs.Prices.{price_in_tokens}
-use Rattle.published_market.proofs.Turning.{cut_like, each_there, made_each, same_held}
+use Rattle.published_market.proofs.Turning.{cut_like, each_there, same_held}
+use Rattle.aftermarket_stage.proofs.Passing.{made_each}
 
 -- what is published is that of each journal of the order
 pub published_after : (market : Market) (streams : List (List Command)) (order : List ℕ) (p : Publication) (journal : List Entry)

@@ -1,5 +1,5 @@
 -- What the code tells of the stages.
-use Rattle.std.proofs.Common.{ℕ, zero, suc, ◌≡◌, ◌≤◌, ◌∙◌, List, [], ◌∷◌, map, length, refl, ap, subst, sym, arith}
+use Rattle.std.proofs.Common.{ℕ, ◌≡◌, ◌≤◌, ◌∙◌, List, [], ◌∷◌, map, length, refl, ap, subst, sym, arith}
 use Rattle.std.specs.Prelude.{All, Some, slice_get}
 use Rattle.std.proofs.lemmas.List.{length-map}
 use Rattle.std.proofs.lemmas.List.Elements.{All-cons, All-map, All-nil}
@@ -23,7 +23,8 @@ use Rattle.published_market.specs.Making.{IsBestTurn}
 use Rattle.published_market.specs.Publishing.{terms_at}
 use Rattle.published_market.specs.Turns.{best_of, offer_at}
 use Rattle.published_parts.specs.Offers.{nobody}
-use Rattle.published_market.proofs.Turning.{made_each}
+use Rattle.bundle_rules.proofs.PlaceLists.{length-places_from}
+use Rattle.aftermarket_stage.proofs.Passing.{made_each}
 
 -- the budgets of a made crowd
 pub budgets_told : (menus : List MenuData) (budgets : List Tokens) → length budgets ≡ length menus
@@ -55,13 +56,9 @@ pub turns_best : (crowd : CrowdData) (seats : List ℕ) (prices : List Tokens) (
 turns_best crowd seats prices raise held turns passes is =
     each_best crowd seats prices raise held turns (made_each (IsTurn (terms_at crowd seats prices raise)) crowd held turns passes is)
 
-places_count : (first n : ℕ) → length (places_from first n) ≡ n
-places_count first zero = refl
-places_count first (suc n) = ap suc (places_count (suc first) n)
-
 -- there is a count for each section
 pub used_count : (used : List ℕ) (held : List (List ℕ)) (n m : ℕ) → used ≡ map (λ s. holders s held) (places_from 0 n) → m ≡ n → length used ≡ m
-used_count used held n m is same = ap (λ (all : List ℕ). length all) is ∙ length-map (places_from 0 n) (λ s. holders s held) ∙ places_count 0 n ∙ sym same
+used_count used held n m is same = ap (λ (all : List ℕ). length all) is ∙ length-map (places_from 0 n) (λ s. holders s held) ∙ length-places_from 0 n ∙ sym same
 
 -- the sessions of the entries are sessions
 pub order_told : (journal : List Entry) (order : List ℕ) → order ≡ sessions_of journal → All (λ (entry : Entry). IsSession entry.session) journal

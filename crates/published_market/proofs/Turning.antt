@@ -1,10 +1,9 @@
 -- Turns that are made, and the same turns as they are published.
-use Rattle.std.proofs.Common.{ℕ, ◌≡◌, ◌+◌, ◌∙◌, List, [], ◌∷◌, ◌++◌, refl, ap, subst}
+use Rattle.std.proofs.Common.{ℕ, ◌≡◌, ◌∙◌, List, [], ◌∷◌, ◌++◌, refl, ap}
 use Rattle.std.specs.Prelude.{slice_set}
-use Rattle.std.specs.List.{AllZip, flat_map}
+use Rattle.std.specs.List.{AllZip}
 use Rattle.market_units.specs.declared.units.Tokens.{Tokens}
 use Rattle.demand_api.specs.Crowds.{CrowdData}
-use Rattle.aftermarket_stage.specs.Passes.{ArePasses, IsMadeOf}
 use Rattle.aftermarket_stage.specs.Turns.{EachTurn, TurnData, after_turn, after_turns}
 use Rattle.market_certificate.specs.Publications.{ProvedTurn}
 use Rattle.published_parts.specs.Holdings.{held_after}
@@ -38,28 +37,8 @@ same_held crowd prices raise held (turn ∷ turns) (proved ∷ published) are =
 same_held crowd prices raise held [] (proved ∷ published) are = absurd are
 same_held crowd prices raise held (turn ∷ turns) [] are = absurd are
 
-after_both : (held : List (List ℕ)) (front later : List TurnData) → after_turns held (front ++ later) ≡ after_turns (after_turns held front) later
-after_both held [] later = refl
-after_both held (turn ∷ front) later = after_both (after_turn held turn) front later
-
-each_both : (Wanted : List (List ℕ) → TurnData → Type 0) (held : List (List ℕ)) (front later : List TurnData) → EachTurn Wanted held front
-    → EachTurn Wanted (after_turns held front) later → EachTurn Wanted held (front ++ later)
-each_both Wanted held [] later are so = so
-each_both Wanted held (turn ∷ front) later are so = (are.0, each_both Wanted (after_turn held turn) front later are.1 so)
-
 -- a turn is as wanted where it stands
 pub each_there : (Wanted : List (List ℕ) → TurnData → Type 0) (held : List (List ℕ)) (front later : List TurnData) (turn : TurnData)
     → EachTurn Wanted held (front ++ turn ∷ later) → Wanted (after_turns held front) turn
 each_there Wanted held [] later turn are = are.0
 each_there Wanted held (first ∷ front) later turn are = each_there Wanted (after_turn held first) front later turn are.1
-
-passes_each : (Wanted : List (List ℕ) → TurnData → Type 0) (crowd : CrowdData) (number : ℕ) (held : List (List ℕ)) (by_pass : List (List TurnData))
-    → ArePasses Wanted crowd number held by_pass → EachTurn Wanted held (flat_map (λ pass. pass) by_pass)
-passes_each Wanted crowd number held [] are = tt
-passes_each Wanted crowd number held (turns ∷ later) are =
-    each_both Wanted held turns (flat_map (λ pass. pass) later) are.0.each (passes_each Wanted crowd (number + 1) (after_turns held turns) later are.2)
-
--- all turns are as wanted where they stand
-pub made_each : (Wanted : List (List ℕ) → TurnData → Type 0) (crowd : CrowdData) (held : List (List ℕ)) (turns : List TurnData) (passes : ℕ)
-    → IsMadeOf Wanted crowd held turns passes → EachTurn Wanted held turns
-made_each Wanted crowd held turns passes is = subst (EachTurn Wanted held) is.joined (passes_each Wanted crowd 1 held is.by_pass is.whole)

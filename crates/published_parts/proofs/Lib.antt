@@ -5,3 +5,4 @@ pub mod LowerFirst
 pub mod Asked
 pub mod Passing
 pub mod Resting
+pub mod HeldAfter

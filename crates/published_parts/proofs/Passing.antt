@@ -5,9 +5,10 @@ use Rattle.std.specs.List.{Contains}
 use Rattle.std.proofs.lemmas.Bool.{cases_Bool}
 use Rattle.std.proofs.lemmas.Bool.Decides.{nat_tests}
 use Rattle.std.proofs.Math.Seq.{get_or-append_seam}
-use Rattle.std.proofs.lemmas.List.{append_assoc, append-nil, get_or-map, get_or_append_left, length-append, length-map, set-get_or}
+use Rattle.std.proofs.lemmas.List.{append_assoc, append-nil, get_or-map, length-append, length-map, set-get_or}
 use Rattle.std.proofs.lemmas.List.Elements.{All-cons}
 use Rattle.std.proofs.lemmas.List.Concat.{flat_map-append, flat_map-cons}
+use Rattle.plain_facts.proofs.Lists.{all_front}
 use Rattle.market_certificate.specs.Publications.{ProvedTurn}
 use Rattle.published_parts.specs.Holdings.{held_after}
 use Rattle.published_parts.specs.Passes.{ChangesNothing, ComeInPasses, IsLastTurn, IsPassBetween, turns_of}
@@ -67,9 +68,6 @@ held_still held (turn ∷ pass) quiet =
     let here : slice_index_or held turn.student [] ≡ turn.bundle = quiet 0 turn (omega arith) in
     ap (λ now. held_after now pass) (same_after held turn here)
     ∙ held_still held pass (λ k d low. quiet (suc k) d (let h : suc k < suc (length pass) = omega arith in h))
-
-all_front : {A : Type 0} (P : A → Type 0) (front later : List A) → All P (front ++ later) → All P front
-all_front P front later all = λ k d low. subst P (get_or_append_left front later d k low) (all k d (let long = length-append front later in omega arith))
 
 -- the turn of a student at which it has none behind
 pub record IsSplit (student : ℕ) (turns : List ProvedTurn) : Type 0 where

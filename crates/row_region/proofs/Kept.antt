@@ -13,7 +13,8 @@ use Rattle.row_region.specs.Rows.{IsLive, spare_of, with_row, without_row}
 use Rattle.market_units.specs.Members.{has}
 use Rattle.row_region.specs.Fields.{rows_of, IsKept}
 use Rattle.row_region.specs.declared.region.Region.TheInside.{Inside}
-use Rattle.row_region.proofs.Numbers.{has_none, has_at, has_push_same}
+use Rattle.market_units.proofs.Memberships.{has_at, has_push_same}
+use Rattle.row_region.proofs.Numbers.{has_none}
 use Rattle.row_region.proofs.LiveRows.{nothing, items_at, held, live_of, get_live, live_of-taken, live_of-written, live_of-given}
 
 -- the last spare row
@@ -168,7 +169,7 @@ module _ {T : Type 0} where
       let all : map.len (rows_of r).live + r.spare ≡ length r.rows.items = kept.all in
       let other : (k : ℕ) → k < r.spare → get_or ids k 0 ≢ id = λ k low e.
       let front : has (take r.spare ids) (get_or (take r.spare ids) k 0) ≡ true =
-      has_at (take r.spare ids) k (rw (length-take-le r.spare ids (omega arith)) low) in
+      has_at (take r.spare ids) k 0 (rw (length-take-le r.spare ids (omega arith)) low) in
       false≢true (sym place.0 ∙ ap (has (take r.spare ids)) (sym e ∙ sym (get_or-take r.spare ids k 0 low)) ∙ front) in
       record {
         wide = kept.wide;
@@ -204,7 +205,7 @@ module _ {T : Type 0} where
       here : (q : ℕ) → q < length rows → has (take (length rows) ids) q ≡ true
       here q low =
           let short : length (take (length rows) ids) ≡ length rows = length-take-le (length rows) ids (omega arith) in
-          let front : has (take (length rows) ids) (get_or (take (length rows) ids) q 0) ≡ true = has_at (take (length rows) ids) q (omega arith) in
+          let front : has (take (length rows) ids) (get_or (take (length rows) ids) q 0) ≡ true = has_at (take (length rows) ids) q 0 (omega arith) in
           rw (get_or-take (length rows) ids q 0 low, identity q low) at front
 
       same : (q : ℕ) → map.get (live_of rows (take (length rows) ids)) q ≡ map.get (map.empty {X = List T} {R = nat_cmp}) q

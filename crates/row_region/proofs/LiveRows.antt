@@ -8,7 +8,8 @@ use Rattle.std.proofs.lemmas.Cmp.{nat_cmp_total}
 use Rattle.std.proofs.lemmas.Bool.{cases_Bool, cases_order}
 use Rattle.market_units.specs.Members.{has}
 use Rattle.row_region.specs.Fields.{live_from}
-use Rattle.row_region.proofs.Numbers.{has_push_same, has_push_other, tie_same, tie_apart}
+use Rattle.row_region.proofs.Numbers.{tie_same, tie_apart}
+use Rattle.market_units.proofs.Memberships.{has_push_same, has_push_other}
 
 module _ {T : Type 0} where
   abbrev pub items_at : List (Vec T Global) → ℕ → Option (List T)

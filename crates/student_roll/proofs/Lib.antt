@@ -1,1 +1,2 @@
 pub mod SingleRoll
+pub mod RollNames

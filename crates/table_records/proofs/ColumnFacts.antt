@@ -10,6 +10,7 @@ use Rattle.std.proofs.lemmas.Bool.{cases_Bool}
 use Rattle.std.proofs.lemmas.Bool.Decides.{nat_tests}
 use Rattle.std.proofs.lemmas.List.Sums.{AllPass-from_list_all, list_all-from_AllPass}
 use Rattle.std.proofs.lemmas.Fmt.{decimal_is_IsNumeral}
+use Rattle.plain_facts.proofs.Truths.{and_three}
 use Rattle.market_units.specs.declared.names.Name.{Name}
 use Rattle.market_units.specs.Name.{name_bytes}
 use Rattle.market_units.specs.Names.{IsName, is_name_byte}
@@ -17,12 +18,6 @@ use Rattle.table_records.specs.Columns.{is_name, name_of, number_of}
 
 tests_true : (a b c : Bool) → a ≡ true → b ≡ true → c ≡ true → (a && b && c) ≡ true
 tests_true a b c ha hb hc = rw (ha, hb, hc) refl
-
-and_all : (a b c : Bool) → (a && b && c) ≡ true → (a ≡ true) × (b ≡ true) × (c ≡ true)
-and_all true true true h = (refl, refl, refl)
-and_all true true false h = absurd (cc)
-and_all true false c h = absurd (cc)
-and_all false b c h = absurd (cc)
 
 -- bytes that are a name pass the test
 pub is_name-true : (bytes : List ℕ) → IsName bytes → is_name bytes ≡ true
@@ -34,7 +29,7 @@ is_name-true bytes name =
 -- bytes that pass the test are a name
 pub IsName-from_test : (bytes : List ℕ) → is_name bytes ≡ true → IsName bytes
 IsName-from_test bytes test =
-    let tests = and_all (nat_lt 0 (length bytes)) (nat_le (length bytes) 32) (list_all is_name_byte bytes) test in
+    let tests = and_three (nat_lt 0 (length bytes)) (nat_le (length bytes) 32) (list_all is_name_byte bytes) test in
     let some : nat_lt 0 (length bytes) ≡ true = tests.0 in
     let short : nat_le (length bytes) 32 ≡ true = tests.1 in
     record {

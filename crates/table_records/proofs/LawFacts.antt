@@ -10,7 +10,7 @@ name_test_law bytes = (IsName-from_test bytes, is_name-true bytes)
 pub number_spelled_law : NumberSpelled
 number_spelled_law max n bytes small = (spelled-number_of max bytes n, λ h. sym (number_of-spelled max bytes n small h.0 h.1))
 
-goes_on : {R E : Type 0} (row : R) (read : Result (List R) E) (rows : List R) → with_row row read ≡ Ok rows
+pub goes_on : {R E : Type 0} (row : R) (read : Result (List R) E) (rows : List R) → with_row row read ≡ Ok rows
     → (before : List R) × (read ≡ Ok before) × (rows ≡ row ∷ before)
 goes_on row (Ok before) rows e = (before, refl, cc)
 goes_on row (Err refusal) rows e = absurd (cc)

@@ -1,5 +1,5 @@
 -- Names among names, seen as their bytes.
-use Rattle.std.proofs.Common.{◌≡◌, ◌∙◌, ◌+◌, ◌++◌, ℕ, suc, Bool, true, false, not, cond, List, [], ◌∷◌, length, map, Some, None, refl, sym, ap, inl, inr, arith, nat_lt}
+use Rattle.std.proofs.Common.{◌≡◌, ◌∙◌, ◌+◌, ◌++◌, ℕ, suc, Bool, true, false, not, cond, List, [], ◌∷◌, length, Some, None, refl, sym, ap, inl, inr, arith, nat_lt}
 use Rattle.std.specs.Prelude.{Option, position, slice_get, get_or, IfSome}
 use Rattle.std.specs.Cmp.Lexicographic.{bytes_decides}
 use Rattle.std.proofs.lemmas.Option.{slice_get-get_or}
@@ -9,14 +9,11 @@ use Rattle.std.specs.Str.{bytes_eq}
 use Rattle.std.proofs.lemmas.Bool.{cases_Bool}
 use Rattle.std.proofs.lemmas.Bool.Decides.{nat_tests}
 use Rattle.std.proofs.lemmas.List.{map-append, length-map}
+use Rattle.plain_facts.proofs.Lists.{position_or_len-map}
 use Rattle.market_units.specs.declared.names.Name.{Name}
 use Rattle.market_units.specs.Name.{name_bytes}
 use Rattle.table_records.specs.Reading.{bytes_of}
 use Rattle.table_records.specs.Walk.{AddsName}
-
-position_or_len-map : {X Y : Type 0} (p : Y → Bool) (f : X → Y) (xs : List X) → position_or_len p (map f xs) ≡ position_or_len (λ x. p (f x)) xs
-position_or_len-map p f [] = refl
-position_or_len-map p f (x ∷ xs) = elim (cases_Bool (p (f x))) [ inl t ↦ rw t refl | inr n ↦ rw n (ap (λ k. 1 + k) (position_or_len-map p f xs)) ]
 
 -- the place of a name is that of its bytes
 pub position-bytes_of : (p : List ℕ → Bool) (names : List Name) → position (λ name. p (name_bytes name)) names ≡ position p (bytes_of names)

@@ -17,6 +17,7 @@ use Rattle.table_records.specs.declared.rows.Rows.{Rows}
 use Rattle.table_records.specs.declared.fault.Fault.TheVariants as fault
 use Rattle.table_records.specs.declared.fault.End.{End}
 use Rattle.table_records.specs.declared.fault.End.TheVariants as end
+use Rattle.table_records.proofs.LawFacts.{goes_on}
 
 -- bytes that are the name of others are these, which are a name
 pub named : (test : Bool) (bytes name : List ℕ) → Some name ≡ cond test (Some bytes) None → (test ≡ true) × (name ≡ bytes)
@@ -49,18 +50,12 @@ answers-append {R = R} {E = E} rules version names (x ∷ xs) ys =
     (answers-append rules version (names ++ first_field x ∷ []) xs ys
     ∙ ap (λ (n : List (List ℕ)). answers rules version (names ++ first_field x ∷ []) xs ++ answers rules version n ys) (append_assoc names (first_field x ∷ []) (map first_field xs)))
 
--- what stands before rows are rows
-before_row : {R E : Type 0} (row : R) (read : Result (List R) E) (rows : List R) → with_row row read ≡ Ok rows
-    → (before : List R) × (read ≡ Ok before) × (rows ≡ row ∷ before)
-before_row row (Ok before) rows e = (before, refl, cc)
-before_row row (Err refusal) rows e = absurd (cc)
-
 -- a row after good answers
 first-row : {R E : Type 0} (good : List (Result R E)) (rows : List R) (row : R) → rows_or_first_refusal good ≡ Ok rows
     → rows_or_first_refusal (good ++ Ok row ∷ []) ≡ Ok (rows ++ row ∷ [])
 first-row [] rows row e = let none : rows ≡ [] = cc in rw none refl
 first-row {R = R} (Ok one ∷ more) rows row e =
-    let (before, is, all) = before_row one (rows_or_first_refusal more) rows e in
+    let (before, is, all) = goes_on one (rows_or_first_refusal more) rows e in
     ap (with_row one) (first-row more before row is) ∙ ap (λ (r : List R). Ok (r ++ row ∷ [])) (sym all)
 first-row (Err refusal ∷ more) rows row e = absurd (cc)
 
@@ -69,7 +64,7 @@ first-refusal : {R E : Type 0} (good : List (Result R E)) (rows : List R) (refus
     → rows_or_first_refusal (good ++ Err refusal ∷ rest) ≡ Err refusal
 first-refusal [] rows refusal rest e = refl
 first-refusal (Ok one ∷ more) rows refusal rest e =
-    let (before, is, all) = before_row one (rows_or_first_refusal more) rows e in
+    let (before, is, all) = goes_on one (rows_or_first_refusal more) rows e in
     ap (with_row one) (first-refusal more before refusal rest is)
 first-refusal (Err other ∷ more) rows refusal rest e = absurd (cc)
 

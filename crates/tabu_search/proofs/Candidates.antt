@@ -6,12 +6,13 @@ use Rattle.std.specs.Cmp.Lexicographic.{pointwise}
 use Rattle.std.proofs.lemmas.Bool.{cases_lt}
 use Rattle.std.proofs.lemmas.List.{append-nil, take_all, get_or-map}
 use Rattle.std.proofs.lemmas.List.Elements.{filter_more}
+use Rattle.plain_facts.proofs.Lists.{list_any-map}
 use Rattle.market_units.specs.declared.units.Tokens.{Tokens}
 use Rattle.bundle_rules.specs.Demand.{price_in}
 use Rattle.clearing_error.specs.Errors.{error}
 use Rattle.demand_api.specs.Crowds.{CrowdData, IsCrowd}
 use Rattle.demand_api.specs.Asking.{ArePricesFor}
-use Rattle.price_neighbours.proofs.Distinctness.{vectors_of, list_any-map}
+use Rattle.price_neighbours.proofs.Distinctness.{vectors_of}
 use Rattle.price_neighbours.proofs.Moves.{length_counts, counts_few}
 use Rattle.tabu_search.specs.Visits.{counts_at, error_at, first_of_least}
 use Rattle.tabu_search.proofs.Batches.{counted_at}

@@ -1,5 +1,5 @@
 -- What is guessed from a spelled text is what it spells.
-use Rattle.std.proofs.Common.{ℕ, suc, zero, ◌<◌, ◌≡◌, ◌↔◌, Bool, true, false, ◌&&◌, cond, List, [], ◌∷◌, length, map, eqb, arith, ap, sym, ◌∙◌, refl, Option, Some, None, inl, inr}
+use Rattle.std.proofs.Common.{ℕ, suc, zero, ◌<◌, ◌≡◌, ◌↔◌, Bool, true, false, cond, List, [], ◌∷◌, length, map, eqb, arith, ap, sym, ◌∙◌, refl, Option, Some, None, inl, inr}
 use Rattle.std.specs.Prelude.{codes, nat_le, option_map, IfSome, IfNone}
 use Rattle.std.specs.List.{All, join_with_byte, list_all, position_or_len}
 use Rattle.std.specs.Str.{bytes_eq}
@@ -7,6 +7,7 @@ use Rattle.std.proofs.lemmas.Bool.{cases_Bool}
 use Rattle.std.proofs.lemmas.Bool.Decides.{nat_tests}
 use Rattle.std.proofs.lemmas.List.Sums.{AllPass-from_list_all, list_all-from_AllPass}
 use Rattle.std.proofs.lemmas.Slice.Eq.{bytes_eq-Decides}
+use Rattle.plain_facts.proofs.Truths.{and_three}
 use Rattle.timetable_rules.specs.declared.meeting.Meeting.{Meeting}
 use Rattle.timetable_rules.specs.declared.meetings.Meetings.{Meetings}
 use Rattle.timetable_rules.specs.Meeting.{IsMeeting, is_meeting}
@@ -54,15 +55,9 @@ meeting_by_test m t = record { weekday = grind (arith, nat_tests); in_order = gr
 test_by_meeting : (m : Meeting) → IsMeeting m → is_meeting m ≡ true
 test_by_meeting m is = grind (arith, nat_tests, is.weekday, is.in_order, is.same_day)
 
-three : (a b c : Bool) → (a && b && c) ≡ true → (a ≡ true) × (b ≡ true) × (c ≡ true)
-three true true true t = (refl, refl, refl)
-three true true false t = absurd (cc)
-three true false c t = absurd (cc)
-three false b c t = absurd (cc)
-
 Spells-from_test : (text : List ℕ) (ms : List Meeting) → spells text ms ≡ true → Spells text ms
 Spells-from_test text ms t =
-    let parts = three (nat_le (length ms) 10) (list_all is_meeting ms) (bytes_eq text (join_with_byte 59 (map spelling ms))) t in
+    let parts = and_three (nat_le (length ms) 10) (list_all is_meeting ms) (bytes_eq text (join_with_byte 59 (map spelling ms))) t in
     record {
       few = grind (arith, nat_tests, parts.0);
       each = λ k d inside. meeting_by_test _ (AllPass-from_list_all is_meeting ms parts.1 k d inside);

@@ -1,12 +1,12 @@
 -- The text of a list of meetings, cut at the semicolons.
-use Rattle.std.proofs.Common.{ℕ, suc, zero, ◌+◌, ◌<◌, ◌≤◌, ◌≡◌, ◌≢◌, ◌/◌, ◌%◌, false, List, [], ◌∷◌, length, get_or, map, eqb, arith, ap, sym, ◌∙◌, refl, Option, Some, None}
+use Rattle.std.proofs.Common.{ℕ, suc, zero, ◌+◌, ◌<◌, ◌≤◌, ◌≡◌, ◌≢◌, ◌/◌, ◌%◌, false, List, [], ◌∷◌, length, get_or, map, eqb, arith, ap, sym, ◌∙◌, refl, Option, None}
 use Rattle.std.specs.List.{All, slice_split, join_with_byte}
 use Rattle.std.proofs.lemmas.List.Splits.{slice_split_at, slice_split_none, join_with_byte-slice_split}
 use Rattle.std.proofs.lemmas.List.{length-map}
 use Rattle.std.proofs.lemmas.Bool.{ne_eqb}
 use Rattle.std.specs.Iterator.{Yields}
 use Rattle.std.proofs.lemmas.Iterator.{YieldsList}
-use Rattle.std.proofs.lemmas.Iterator.Consumers.{YieldsList-turn, YieldsList-end}
+use Rattle.std.proofs.lemmas.Iterator.Consumers.{YieldsList-end}
 use Rattle.timetable_rules.specs.declared.meeting.Meeting.{Meeting}
 use Rattle.timetable_rules.specs.Meeting.{IsMeeting}
 use Rattle.timetable_rules.specs.Spelling.{Spells, spelling, day_letter}
@@ -120,11 +120,6 @@ spelled_by_pieces text ms few each cut = record {
   each = each;
   joined = sym (ap (join_with_byte 59) cut ∙ join_with_byte-slice_split 59 text);
 }
-
--- the element of an iteration and the end of a loop, with the iterator's own facts first
-pub item_of_turn : {S A B : Type 0} {steps : S → Option A → S → Type 0} {v : A → B} {s : S} {all : List B} (xs : List A) (t : S) (y : Yields steps s xs t)
-    → (r : Option A) (u : S) (x : A) → r ≡ Some x → steps t r u → YieldsList steps v s all → (length xs < length all) × (v x ≡ get_or all (length xs) (v x))
-item_of_turn xs t y r u x is step e = YieldsList-turn e xs t y r u x is step
 
 pub all_at_end : {S A B : Type 0} {steps : S → Option A → S → Type 0} {v : A → B} {s : S} {all : List B} (xs : List A) (t : S) (y : Yields steps s xs t)
     → (r : Option A) (u : S) → r ≡ None → steps t r u → YieldsList steps v s all → (map v xs ≡ all) × (length xs ≡ length all)

@@ -7,6 +7,7 @@ use Rattle.std.proofs.lemmas.List.{get_or_default}
 use Rattle.std.proofs.lemmas.Bool.{cases_eq, ne_eqb}
 use Rattle.std.proofs.lemmas.Fmt.{decimal_is_IsNumeral, decimal_nonempty}
 use Rattle.std.proofs.lemmas.Str.Parse.{digit_at}
+use Rattle.plain_facts.proofs.Truths.{and_parts, not_true}
 use Rattle.market_units.specs.Names.{is_name_byte}
 use Rattle.market_units.specs.declared.names.Name.{Name}
 use Rattle.market_units.specs.Name.{name_bytes}
@@ -16,7 +17,7 @@ use Rattle.utility_language.specs.Words.{is_blank, words_of}
 use Rattle.utility_language.specs.Commands.{Spells, IsCommandOf, words_by, HasShortNumber, is_command, printed}
 use Rattle.utility_language.specs.Laws.{IsWord, PrintedIsReadLaw}
 use Rattle.utility_language.proofs.Spellings.{one_command_a_line_law}
-use Rattle.utility_language.proofs.WordLemmas.{not_true, ended_word, last_word}
+use Rattle.utility_language.proofs.WordLemmas.{ended_word, last_word}
 
 -- each of the list is a word
 pub AllWords : List (List ℕ) → Type 0
@@ -45,7 +46,7 @@ name_byte_no_blank byte is = elim (cases_eq byte 32) [
   ]
 ]
 
-above_blank : (byte : ℕ) → 33 ≤ byte → is_blank byte ≡ false
+pub above_blank : (byte : ℕ) → 33 ≤ byte → is_blank byte ≡ false
 above_blank byte above = rw (ne_eqb byte 32 (λ e. absurd (omega arith)), ne_eqb byte 9 (λ e. absurd (omega arith))) refl
 
 name_is_word : (name : Name) → IsWord (name_bytes name)
@@ -67,15 +68,11 @@ behind_sign : (bytes : List ℕ) → All (λ byte. is_blank byte ≡ false) byte
 behind_sign bytes each zero d below = refl
 behind_sign bytes each (suc k) d below = each k d (omega arith)
 
-both : (a b : Bool) → (a && b) ≡ true → (a ≡ true) × (b ≡ true)
-both true b e = (refl, e)
-both false b e = absurd (true≢false (sym e))
-
 known_at : (bytes : List ℕ) (k d : ℕ) → k < length bytes → no_blanks bytes ≡ true → is_blank (get_or bytes k d) ≡ false
 unfolding no_blanks
 known_at [] k d below computed = absurd (omega arith)
-known_at (byte ∷ bytes) zero d below computed = not_true (is_blank byte) (both _ _ computed).0
-known_at (byte ∷ bytes) (suc k) d below computed = known_at bytes k d (omega arith) (both _ _ computed).1
+known_at (byte ∷ bytes) zero d below computed = not_true (is_blank byte) (and_parts _ _ computed).0
+known_at (byte ∷ bytes) (suc k) d below computed = known_at bytes k d (omega arith) (and_parts _ _ computed).1
 
 known : (bytes : List ℕ) → 0 < length bytes → no_blanks bytes ≡ true → IsWord bytes
 known bytes some computed = record { some = some; whole = λ k d below. known_at bytes k d below computed }

@@ -1,5 +1,5 @@
 -- The commands of a text, line by line.
-use Rattle.std.proofs.Common.{ℕ, ◌≡◌, ◌<◌, true, false, cond, List, [], ◌∷◌, ◌++◌, length, refl, sym, ap, ◌∙◌, inl, inr, arith, zero, suc, get_or, subst}
+use Rattle.std.proofs.Common.{ℕ, ◌≡◌, ◌<◌, true, false, cond, List, [], ◌∷◌, length, refl, ap, ◌∙◌, arith, zero, suc, get_or}
 use Rattle.std.specs.List.{All, AllZip, filter}
 use Rattle.std.specs.Prelude.{map}
 use Rattle.utility_language.specs.declared.commands.Command.{Command}
@@ -8,6 +8,7 @@ use Rattle.utility_language.proofs.Spellings.{one_command_a_line_law}
 use Rattle.utility_language.specs.Lines.{lines_of}
 use Rattle.utility_language.specs.Words.{words_of}
 use Rattle.utility_language.specs.Commands.{HasShortNumber, IsCommandOf, is_command, command_lines}
+use Rattle.utility_language.proofs.Printed.{short_of}
 
 -- a first line that is no command
 pub line_passed : (text line rest : List ℕ) → lines_of text ≡ line ∷ lines_of rest → is_command (words_of line) ≡ false
@@ -20,12 +21,6 @@ pub line_taken : (text line rest : List ℕ) → lines_of text ≡ line ∷ line
     → command_lines text ≡ words_of line ∷ command_lines rest
 line_taken text line rest lines some =
     ap (λ lines. filter is_command (map words_of lines)) lines ∙ ap (λ b. cond b (words_of line ∷ command_lines rest) (command_lines rest)) some
-
-pub zip_more : {A B : Type 0} (R : A → B → Type 0) (xs : List A) (ys : List B) (x : A) (y : B) → AllZip R xs ys → R x y → AllZip R (xs ++ x ∷ []) (ys ++ y ∷ [])
-zip_more R [] [] x y each here = (here, tt)
-zip_more R [] (b ∷ ys) x y each here = absurd each
-zip_more R (a ∷ xs) [] x y each here = absurd each
-zip_more R (a ∷ xs) (b ∷ ys) x y each here = (each.0, zip_more R xs ys x y each.1 here)
 
 pub zip_length : {A B : Type 0} (R : A → B → Type 0) (xs : List A) (ys : List B) → AllZip R xs ys → length xs ≡ length ys
 zip_length R [] [] each = refl
@@ -51,12 +46,7 @@ same_commands (line ∷ lines) (x ∷ xs) (y ∷ ys) first second =
 pub one_list_a_text_law : OneListATextLaw
 one_list_a_text_law text a b first second = same_commands (command_lines text) a b first second
 
--- the number of a command that was read is short
-short_of : (words : List (List ℕ)) (command : Command) → IsCommandOf words command → HasShortNumber command
-short_of words command (inl spells) = spells.short
-short_of words command (inr (e, none)) = let P : Command → Type 0 = λ c. HasShortNumber c in subst P (sym e) tt
-
-short_at : (lines : List (List (List ℕ))) (commands : List Command) → AllZip IsCommandOf lines commands → (k : ℕ) (d : Command) → k < length commands
+pub short_at : (lines : List (List (List ℕ))) (commands : List Command) → AllZip IsCommandOf lines commands → (k : ℕ) (d : Command) → k < length commands
     → HasShortNumber (get_or commands k d)
 short_at [] [] each k d below = absurd (omega arith)
 short_at [] (c ∷ cs) each k d below = absurd each

@@ -1,11 +1,12 @@
 -- The first word of a line, and words joined by spaces.
-use Rattle.std.proofs.Common.{ℕ, zero, suc, ◌+◌, ◌≡◌, ◌<◌, Bool, true, false, not, List, [], ◌∷◌, ◌++◌, length, take, drop, get_or, arith, add-zero, ◌-◌, refl, ap, sym, ◌∙◌, ◌≤◌, true≢false}
+use Rattle.std.proofs.Common.{ℕ, zero, suc, ◌+◌, ◌≡◌, ◌<◌, true, false, not, List, [], ◌∷◌, ◌++◌, length, take, drop, get_or, arith, add-zero, ◌-◌, refl, ap, sym, ◌∙◌, ◌≤◌, true≢false}
 use Rattle.std.specs.List.{filter, slice_split, position}
 use Rattle.std.specs.Prelude.{nat_lt, IsTrue, Some, None}
 use Rattle.std.proofs.lemmas.Bool.{lt-ltb}
 use Rattle.std.proofs.lemmas.List.{drop_all, drop_more, take-append-drop, take_rest, get_or-drop, get_or-take, length-drop, length-take}
 use Rattle.std.proofs.lemmas.List.Sums.{fails_before_first, passes_at_first}
 use Rattle.std.proofs.lemmas.List.Splits.{slice_split_none, slice_split_at, slice_split-cons_yes}
+use Rattle.plain_facts.proofs.Truths.{not_false, not_true}
 use Rattle.utility_language.specs.Words.{is_blank, words_of}
 use Rattle.utility_language.proofs.LineLemmas.{IsPosition, position_found, position_none}
 use Rattle.utility_language.specs.Laws.{IsWord, WordsOfALineLaw}
@@ -33,14 +34,6 @@ skip_blanks zero line fits blanks = refl
 skip_blanks (suc n) [] fits blanks = refl
 skip_blanks (suc n) (byte ∷ line) fits blanks =
     blank_passes byte line (blanks 0 (omega arith)) ∙ skip_blanks n line (omega arith) (λ k below. blanks (suc k) (omega arith))
-
-not_false : (b : Bool) → not b ≡ false → b ≡ true
-not_false true e = refl
-not_false false e = absurd (true≢false e)
-
-pub not_true : (b : Bool) → not b ≡ true → b ≡ false
-not_true true e = absurd (true≢false (sym e))
-not_true false e = refl
 
 pub only_blanks : (line : List ℕ) → position (λ byte. not (is_blank byte)) line ≡ None → words_of line ≡ []
 only_blanks line e =

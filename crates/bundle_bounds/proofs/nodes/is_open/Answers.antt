@@ -1,10 +1,10 @@
 use Rattle.std.proofs.Common.{◌≡◌, ◌∙◌, ap, refl, true, arith}
 use Rattle.std.specs.Prelude.{nat_le}
+use Rattle.plain_facts.proofs.Numbers.{le_true}
 use Rattle.bundle_rules.specs.Bundles.{sections_of}
 use Rattle.bundle_rules.proofs.Feasibility.{places_of_rated}
 use Rattle.bundle_bounds.specs.Offers.{offer_of, places_of}
 use Rattle.bundle_bounds.specs.Opens.{is_open}
-use Rattle.bundle_bounds.proofs.Openness.{le_true}
 use Rattle.bundle_bounds.proofs.Outlook.{open_same}
 use Rattle.bundle_bounds.proofs.nodes.is_open.Goals as goal
 

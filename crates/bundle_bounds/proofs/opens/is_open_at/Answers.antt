@@ -2,10 +2,11 @@ use Rattle.std.proofs.Common.{◌≡◌, ◌≤◌, ◌<◌, true, false, ◌∙
 use Rattle.std.specs.Prelude.{nat_le, not}
 use Rattle.std.specs.List.{list_all}
 use Rattle.std.specs.FinSet as set
+use Rattle.plain_facts.proofs.Numbers.{le_true}
 use Rattle.bundle_rules.specs.Demand.{price_in}
 use Rattle.bundle_rules.specs.Menus.{section_at, credits_at, clash_in}
 use Rattle.bundle_rules.specs.Existence.Places.{section_at-is, credits_at-is}
-use Rattle.bundle_bounds.proofs.Openness.{le_true, le_false}
+use Rattle.bundle_bounds.proofs.Openness.{le_false}
 use Rattle.bundle_bounds.proofs.opens.is_open_at.Goals as goal
 use Rattle.bundle_bounds.proofs.opens.is_open_at.Goals.{After-from}
 

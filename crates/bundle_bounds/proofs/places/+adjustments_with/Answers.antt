@@ -1,8 +1,8 @@
 use Rattle.std.proofs.Common.{◌≡◌, ◌∙◌, ◌+ℤ◌, to_z, of_z, w32, ap, sym, arith}
 use Rattle.std.proofs.lemmas.Int.{ints}
+use Rattle.plain_facts.proofs.Lists.{first_rest}
 use Rattle.market_units.specs.Totals.{signed_total}
 use Rattle.bundle_rules.specs.Menus.{adjustment_in}
-use Rattle.bundle_rules.proofs.Firsts.{first_rest}
 use Rattle.bundle_bounds.proofs.places.+adjustments_with.Goals as goal
 
 pub returns-in-len1-up-clause-value : goal.returns-in-len1-up-clause-value

@@ -1,7 +1,7 @@
 use Rattle.std.proofs.Common.{◌≡◌, ◌∷◌, ◌∙◌, List, subst, sym, get_or, take, drop, ◌-◌, length, to_z, of_z, w64, arith}
 use Rattle.std.specs.Prelude.{ℤ}
 use Rattle.std.proofs.lemmas.Int.{ints}
-use Rattle.bundle_rules.proofs.Firsts.{first_rest}
+use Rattle.plain_facts.proofs.Lists.{first_rest}
 use Rattle.bundle_bounds.specs.declared.prospects.Prospect.{Prospect}
 use Rattle.bundle_bounds.specs.Bounds.{leaf_of, resource_bounds, HasBound}
 use Rattle.bundle_bounds.proofs.Steps.{no_prospect}

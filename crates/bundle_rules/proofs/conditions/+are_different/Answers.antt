@@ -1,6 +1,6 @@
 use Rattle.std.proofs.Common.{◌∙◌, pos, sym, subst, true≢false}
+use Rattle.plain_facts.proofs.Lists.{first_rest}
 use Rattle.bundle_rules.specs.Menus.{AreDifferent}
-use Rattle.bundle_rules.proofs.Firsts.{first_rest}
 use Rattle.bundle_rules.proofs.conditions.+are_different.Goals as goal
 
 pub returns-else-all_name_others : goal.returns-else-all_name_others

@@ -1,8 +1,8 @@
 use Rattle.std.proofs.Common.{◌≡◌, ◌*◌, pos, length, get_or, length-set, arith}
 use Rattle.std.proofs.lemmas.Int.{ints}
 use Rattle.std.proofs.lemmas.Nat.{mul-add-lt}
+use Rattle.plain_facts.proofs.Lists.{first_rest}
 use Rattle.bundle_rules.specs.Menus.{IsPair}
-use Rattle.bundle_rules.proofs.Firsts.{first_rest}
 use Rattle.bundle_rules.proofs.Tables.{put_next}
 use Rattle.bundle_rules.proofs.menu.+fill.Goals as goal
 

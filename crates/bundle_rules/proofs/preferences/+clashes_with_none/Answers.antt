@@ -1,7 +1,7 @@
 use Rattle.std.proofs.Common.{sym, subst, ◌∙◌, true≢false}
+use Rattle.plain_facts.proofs.Lists.{first_rest}
 use Rattle.bundle_rules.specs.Apart.{ClashesWithNone}
 use Rattle.bundle_rules.specs.Menus.{by_place}
-use Rattle.bundle_rules.proofs.Firsts.{first_rest}
 use Rattle.bundle_rules.proofs.preferences.+clashes_with_none.Goals as goal
 
 pub returns-then-not-clash : goal.returns-then-not-clash

@@ -1,7 +1,7 @@
 use Rattle.std.proofs.Common.{ap, sym}
+use Rattle.plain_facts.proofs.Lists.{first_rest}
 use Rattle.market_units.specs.Totals.{total}
 use Rattle.bundle_rules.specs.Menus.{by_place}
-use Rattle.bundle_rules.proofs.Firsts.{first_rest}
 use Rattle.bundle_rules.specs.Existence.Places.{credits_at-is}
 use Rattle.bundle_rules.proofs.preferences.+credits_of.Goals as goal
 

@@ -1,8 +1,8 @@
 use Rattle.std.proofs.Common.{◌≡◌, ◌∙◌, ◌+ℤ◌, pos, to_z, of_z, w32, ap, sym, arith}
 use Rattle.std.proofs.lemmas.Int.{ints}
+use Rattle.plain_facts.proofs.Lists.{first_rest}
 use Rattle.bundle_rules.specs.Wishes.{utility}
 use Rattle.bundle_rules.specs.Menus.{by_place}
-use Rattle.bundle_rules.proofs.Firsts.{first_rest}
 use Rattle.bundle_rules.specs.Existence.Places.{rating_at-is}
 use Rattle.bundle_rules.proofs.preferences.+utility_of.Goals as goal
 

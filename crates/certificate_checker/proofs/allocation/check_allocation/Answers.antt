@@ -1,9 +1,10 @@
 use Rattle.std.proofs.Common.{◌≡◌, ◌<◌, ◌≤◌, length, below_more, ap, arith, rules, sym, ◌∙◌}
+use Rattle.std.proofs.lemmas.List.{length-map}
 use Rattle.bundle_rules.specs.Bundles.{sections_of}
 use Rattle.market_certificate.specs.Views.{publication_of}
 use Rattle.published_parts.specs.Holdings.{demanded, held_after}
 use Rattle.certificate_checker.proofs.Allocating.{are_equal, are_unequal}
-use Rattle.certificate_checker.proofs.Reading.{HasLengths, fewer, length_map, lengths}
+use Rattle.certificate_checker.proofs.Reading.{HasLengths, fewer, lengths}
 use Rattle.certificate_checker.proofs.Turning.{after_length}
 use Rattle.certificate_checker.proofs.allocation.check_allocation.Goals as goal
 
@@ -12,7 +13,7 @@ index-requires-in-loop-place c =
     let p = publication_of c.args.printed.now.publication.now in
     let long : HasLengths c.args.printed.now.terms.now c.args.printed.now.publication.now = lengths c.args.printed.now.terms.now c.args.printed.now.publication.now c.args.printed.now.can in
     let held : length c.args.floor.now.held.items ≡ length c.args.printed.now.terms.now.crowd.menus.items =
-    sym (length_map sections_of c.args.floor.now.held.items) ∙ ap length c.requires.floor.held
+    sym (length-map c.args.floor.now.held.items sections_of) ∙ ap length c.requires.floor.held
     ∙ after_length c.args.printed.now.terms.now c.args.printed.now.publication.now p.turns c.args.printed.now.can in
     omega arith
 
@@ -27,7 +28,7 @@ returns-then-ne c =
     let p = publication_of c.args.printed.now.publication.now in
     let long : HasLengths c.args.printed.now.terms.now c.args.printed.now.publication.now = lengths c.args.printed.now.terms.now c.args.printed.now.publication.now c.args.printed.now.can in
     let held : length c.args.floor.now.held.items ≡ length c.args.printed.now.terms.now.crowd.menus.items =
-    sym (length_map sections_of c.args.floor.now.held.items) ∙ ap length c.requires.floor.held
+    sym (length-map c.args.floor.now.held.items sections_of) ∙ ap length c.requires.floor.held
     ∙ after_length c.args.printed.now.terms.now c.args.printed.now.publication.now p.turns c.args.printed.now.can in
     let low : c.loop-place.place < length c.args.printed.now.publication.now.allocation.items = omega arith in
     let small : c.loop-place.place < length c.args.floor.now.held.items = omega arith in (
@@ -50,7 +51,7 @@ loop-place-preserved c =
     let p = publication_of c.args.printed.now.publication.now in
     let long : HasLengths c.args.printed.now.terms.now c.args.printed.now.publication.now = lengths c.args.printed.now.terms.now c.args.printed.now.publication.now c.args.printed.now.can in
     let held : length c.args.floor.now.held.items ≡ length c.args.printed.now.terms.now.crowd.menus.items =
-    sym (length_map sections_of c.args.floor.now.held.items) ∙ ap length c.requires.floor.held
+    sym (length-map c.args.floor.now.held.items sections_of) ∙ ap length c.requires.floor.held
     ∙ after_length c.args.printed.now.terms.now c.args.printed.now.publication.now p.turns c.args.printed.now.can in
     let low : c.loop-place.place < length c.args.printed.now.publication.now.allocation.items = omega arith in
     let small : c.loop-place.place < length c.args.floor.now.held.items = omega arith in

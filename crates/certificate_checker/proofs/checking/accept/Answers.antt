@@ -1,4 +1,5 @@
 use Rattle.std.proofs.Common.{ℕ, ◌≡◌, ◌≤◌, ◌∙◌, List, length, map, subst, sym, arith}
+use Rattle.std.proofs.lemmas.List.{length-map}
 use Rattle.market_certificate.specs.Views.{publication_of, turn_of}
 use Rattle.proof_tree.proofs.Following.{err_from}
 use Rattle.published_parts.specs.Markets.{tables_in}
@@ -9,7 +10,6 @@ use Rattle.certificate_checker.specs.Findings.{OnFound, end_of}
 use Rattle.certificate_checker.specs.Refusals.{IsRefused}
 use Rattle.certificate_checker.proofs.Composing.{err_found, ok_both, ok_then, text_first}
 use Rattle.certificate_checker.proofs.Ranges.{order_in_text, turns_in_text}
-use Rattle.certificate_checker.proofs.Reading.{length_map}
 use Rattle.certificate_checker.proofs.Refusals.{defect_refuses, first_refuses}
 use Rattle.certificate_checker.proofs.checking.accept.Goals as goal
 
@@ -27,7 +27,7 @@ accept_publication-requires-clause-entries c =
 pub accept_publication-requires-clause-turns : goal.accept_publication-requires-clause-turns
 accept_publication-requires-clause-turns c =
     let short = turns_in_text (tables_in (market_in c.args.market.now)) (publication_of c.in_ok-publication.publication) c.args.text.items (written c.deref.ensures.value c.in_ok-publication.ensures.text) in
-    let long = length_map turn_of c.in_ok-publication.publication.turns.items in
+    let long = length-map c.in_ok-publication.publication.turns.items turn_of in
     let small = c.requires in
     omega arith
 

@@ -1,5 +1,6 @@
 use Rattle.std.proofs.Common.{ℕ, ◌≡◌, ◌<◌, ◌≤◌, ◌+◌, ◌∙◌, List, length, map, ap, sym, subst, arith}
 use Rattle.std.specs.Prelude.{slice_set}
+use Rattle.std.proofs.lemmas.List.{length-map}
 use Rattle.market_units.specs.declared.units.StudentNo.{StudentNo}
 use Rattle.bundle_rules.specs.Bundles.{sections_of}
 use Rattle.held_seats.specs.Floors.{AreBelow, IsFloor, held_on}
@@ -8,7 +9,7 @@ use Rattle.market_certificate.specs.Views.{publication_of, turn_of}
 use Rattle.demand_api.proofs.Parts.{menus_few}
 use Rattle.certificate_checker.specs.Parts.{IsProgress}
 use Rattle.certificate_checker.specs.Turns.{turn_in}
-use Rattle.certificate_checker.proofs.Reading.{length_map, so_of_has}
+use Rattle.certificate_checker.proofs.Reading.{so_of_has}
 use Rattle.certificate_checker.proofs.Turning.{before_below, before_length, change_made, got_below, held_next, order_is_long, turn_below, turn_is, turn_student}
 use Rattle.certificate_checker.proofs.turns.take_turn.Goals as goal
 
@@ -42,7 +43,7 @@ give-moved-requires-clause-within c =
 pub after_turn-requires-clause-place : goal.after_turn-requires-clause-place
 after_turn-requires-clause-place c =
     let low = got_below (map (λ (student : StudentNo). student.0) c.args.order.now) c.args.progress.place _ c.in-Ok.ensures.due.student in
-    let long = length_map (λ (student : StudentNo). student.0) c.args.order.now in
+    let long = length-map c.args.order.now (λ (student : StudentNo). student.0) in
     omega arith
 
 pub returns-clause-progress : goal.returns-clause-progress
@@ -70,7 +71,7 @@ returns-clause-floor c =
     turn_is c.args.publication.now c.args.place c.index-turn.result.now c.requires.turn.low c.index-turn.ensures in
     let who : c.from.result ≡ (turn_in p c.args.place).student = c.from.ensures ∙ ap (λ (t : ProvedTurn). t.student) (sym turn) in
     let what : sections_of c.index-turn.result.now.bundle ≡ (turn_in p c.args.place).bundle = ap (λ (t : ProvedTurn). t.bundle) (sym turn) in
-    let many = length_map turn_of c.args.publication.now.turns.items in
+    let many = length-map c.args.publication.now.turns.items turn_of in
     record {
       is_floor = subst (λ seats. IsFloor seats c.give-moved.new.self) c.deref.ensures.value c.give-moved.ensures.floor;
       held =

@@ -1,5 +1,4 @@
-use Rattle.std.proofs.Common.{Option, None, Some}
-use Rattle.std.specs.Prelude.{IfNone}
+use Rattle.plain_facts.proofs.Outcomes.{if_none}
 use Rattle.bundle_rules.specs.Demand.{price_in}
 use Rattle.bundle_bounds.specs.Views.{data_of}
 use Rattle.demand_oracle.specs.Search.{wanted_by}
@@ -23,13 +22,9 @@ returns-clause-leads c =
     leads_wanted (data_of c.args.asked.now.offer.now) c.of-goods.ensures.menu (wanted_by c.args.asked.now.offer.now.menu.now c.args.asked.now.given) _
     _ c.first_champion-champion.ensures.champion.takable (rw (c.root.ensures.place, c.root.ensures.chosen) at c.below-frames.ensures.searched)
 
-after_none : {A P Q : Type 0} → (told : Option A) → (P → Q) → IfNone told P → IfNone told Q
-after_none None f p = f p
-after_none (Some x) f p = p
-
 pub returns-clause-wanted : goal.returns-clause-wanted
 returns-clause-wanted c =
-    after_none c.args.first
+    if_none c.args.first
     (λ fits. wanted_at_end (data_of c.args.asked.now.offer.now) c.of-goods.ensures.menu
     (wanted_by c.args.asked.now.offer.now.menu.now c.args.asked.now.given) _ _ fits (rw (c.root.ensures.place, c.root.ensures.chosen) at c.below-frames.ensures.searched))
     c.first_champion-champion.ensures.wanted

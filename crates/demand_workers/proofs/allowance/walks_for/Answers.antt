@@ -1,8 +1,9 @@
 use Rattle.std.proofs.Common.{ℕ, ◌≡◌, ◌<◌, ◌≤◌, ◌+◌, ◌-◌, ◌*◌, ◌^◌, ◌∙◌, length, sym, subst, arith, rules}
 use Rattle.demand_api.specs.Views.{data_of}
 use Rattle.demand_api.proofs.Parts.{menus_few, students_length}
-use Rattle.demand_workers.proofs.Allowing.{top_some, walks_few, walks_within}
+use Rattle.demand_workers.proofs.Allowing.{walks_few, walks_within}
 use Rattle.demand_workers.proofs.allowance.walks_for.Goals as goal
+use Rattle.demand_api.proofs.Counts.{top_some}
 
 pub digits_of-requires : goal.digits_of-requires
 digits_of-requires c = let some = top_some (data_of c.args.crowd.now) in subst (λ (n : ℕ). 1 ≤ n) (sym c.top.ensures) some

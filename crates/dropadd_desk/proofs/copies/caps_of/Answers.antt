@@ -1,9 +1,9 @@
 use Rattle.std.proofs.Common.{◌<◌, ◌≤◌, ◌∙◌, ap, map, length, arith, subst}
 use Rattle.std.proofs.lemmas.List.{take_all}
+use Rattle.plain_facts.proofs.Lists.{read_at}
 use Rattle.student_roll.specs.Students.{Student, no_student}
 use Rattle.dropadd_desk.specs.declared.rules.Caps.{Caps}
 use Rattle.dropadd_desk.specs.Kept.{AreCaps}
-use Rattle.market_units.proofs.NameLists.{read_at}
 use Rattle.dropadd_desk.proofs.CopyLemmas.{one_number_more}
 use Rattle.dropadd_desk.proofs.copies.caps_of.Goals as goal
 

@@ -1,9 +1,9 @@
 use Rattle.std.proofs.Common.{◌∙◌, List, ap, length, map, subst, sym}
+use Rattle.std.proofs.lemmas.List.{length-map}
 use Rattle.bundle_rules.specs.Bundles.{sections_of}
 use Rattle.bundle_rules.specs.declared.bundle.Bundle.{Bundle}
 use Rattle.certificate_checker.specs.Findings.{OnFound, end_of}
 use Rattle.certificate_checker.proofs.Composing.{err_found, err_from, ok_then}
-use Rattle.certificate_checker.proofs.Reading.{length_map}
 use Rattle.dropadd_desk.specs.Halls.{opening}
 use Rattle.dropadd_desk.specs.Market.{Market}
 use Rattle.held_seats.specs.Floors.{AreBelow}
@@ -17,7 +17,7 @@ use Rattle.dropadd_hall.proofs.published_desk.open_desk.Goals as goal
 pub open_with-requires-clause-each : goal.open_with-requires-clause-each
 open_with-requires-clause-each c =
     let market : Market = record { catalog = c.args.catalog.now; roll = c.args.roll.now } in
-    ap length c.deref.ensures.value ∙ sym (length_map sections_of c.in_ok-publication.publication.allocation.items)
+    ap length c.deref.ensures.value ∙ sym (length-map c.in_ok-publication.publication.allocation.items sections_of)
     ∙ each_final market (publication_of c.in_ok-publication.publication) c.in_ok-publication.ensures.publication
 
 pub open_with-requires-clause-within : goal.open_with-requires-clause-within

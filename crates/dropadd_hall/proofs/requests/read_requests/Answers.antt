@@ -1,7 +1,8 @@
 use Rattle.std.proofs.Common.{◌∷◌, [], ◌++◌, length, length-append, append_assoc, arith, sym, ◌∙◌, ap, rules}
+use Rattle.plain_facts.proofs.Lists.{all_zip_push}
 use Rattle.utility_language.specs.Words.{words_of}
 use Rattle.utility_language.specs.Commands.{command_lines}
-use Rattle.utility_language.proofs.StreamLemmas.{line_taken, zip_more, zip_length, no_lines}
+use Rattle.utility_language.proofs.StreamLemmas.{line_taken, zip_length, no_lines}
 use Rattle.dropadd_hall.specs.Requests.{IsRequestOf}
 use Rattle.dropadd_hall.proofs.requests.read_requests.Goals as goal
 
@@ -25,7 +26,7 @@ loop-rest-preserved c =
         read ++ words ∷ [],
         c.loop-rest.invariant.1.1 ∙ ap (λ lines. read ++ lines) taken ∙ sym (append_assoc read (words ∷ []) (command_lines c.first_line.result.1.now)),
         rw c.in_ok-push.ensures.items
-            (zip_more IsRequestOf read c.loop-rest.requests.items words c.in-Some.request c.loop-rest.invariant.1.2 c.in-Some.ensures.request),
+            (all_zip_push IsRequestOf read c.loop-rest.requests.items words c.in-Some.request c.loop-rest.invariant.1.2 c.in-Some.ensures.request),
       ),
     )
 

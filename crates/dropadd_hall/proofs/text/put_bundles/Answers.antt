@@ -3,10 +3,10 @@ use Rattle.market_units.specs.Name.{name_bytes}
 use Rattle.bundle_rules.specs.Bundles.{sections_of}
 use Rattle.dropadd_desk.specs.HallView.{market_of, state_of}
 use Rattle.dropadd_desk.specs.Market.{Market, section_count}
-use Rattle.dropadd_desk.proofs.DeskLemmas.{all_within}
 use Rattle.dropadd_hall.specs.Texts.{held_line}
 use Rattle.dropadd_hall.proofs.LineJoins.{line_more, held_put}
 use Rattle.dropadd_hall.proofs.text.put_bundles.Goals as goal
+use Rattle.market_units.proofs.Memberships.{all_within}
 
 pub put_held-requires : goal.put_held-requires
 put_held-requires c =

@@ -8,8 +8,9 @@ use Rattle.market_certificate.specs.Tables.{name_at}
 use Rattle.market_certificate.specs.Texts.{bundle_text}
 use Rattle.student_roll.specs.Students.{names_of}
 use Rattle.fairness_audit.specs.Texts.{ending}
-use Rattle.fairness_audit.proofs.RowTexts.{sight_text, student_name}
+use Rattle.fairness_audit.proofs.RowTexts.{sight_text}
 use Rattle.fairness_audit.proofs.lines.put_sight.Goals as goal
+use Rattle.student_roll.proofs.RollNames.{student_name}
 
 pub returns : goal.returns
 returns c =

@@ -4,8 +4,9 @@ use Rattle.std.proofs.lemmas.Int.{to_z-of_z}
 use Rattle.bundle_rules.specs.Bundles.{sections_of}
 use Rattle.bundle_rules.specs.Sets.{without_section}
 use Rattle.fairness_audit.specs.Envy.{is_more}
-use Rattle.fairness_audit.proofs.Seeing.{first_at, none_more, none}
+use Rattle.fairness_audit.proofs.Seeing.{first_at, none}
 use Rattle.fairness_audit.proofs.sight.ended_by.Goals as goal
+use Rattle.bundle_rules.proofs.PlaceLists.{none_more}
 
 pub returns-then-not-is_more : goal.returns-then-not-is_more
 returns-then-not-is_more c =

@@ -7,8 +7,9 @@ use Rattle.market_certificate.proofs.Joins.{each_at, mapped_at}
 use Rattle.student_roll.specs.Students.{Student, names_of}
 use Rattle.fairness_audit.specs.Texts.{IsRowAmong, counts_line}
 use Rattle.fairness_audit.specs.Views.{row_of}
-use Rattle.fairness_audit.proofs.RowTexts.{part_whole, row_more, student_name}
+use Rattle.fairness_audit.proofs.RowTexts.{part_whole, row_more}
 use Rattle.fairness_audit.proofs.text.put_part.Goals as goal
+use Rattle.student_roll.proofs.RollNames.{student_name}
 
 pub put_row-requires : goal.put_row-requires
 put_row-requires c =

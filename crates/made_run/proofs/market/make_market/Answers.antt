@@ -1,8 +1,9 @@
 use Rattle.std.proofs.Common.{length, ap, ◌∙◌, arith}
+use Rattle.plain_facts.proofs.Outcomes.{one_answer}
 use Rattle.course_catalog.specs.Reading.{catalog_of}
 use Rattle.made_run.specs.Settings.{made_settings}
 use Rattle.made_run.specs.Tables.{made_catalog, made_roll}
-use Rattle.made_run.proofs.AllRead.{one_answer, texts_read}
+use Rattle.made_run.proofs.AllRead.{texts_read}
 use Rattle.market_maker.proofs.Sizes.{within_limits}
 use Rattle.market_settings.specs.Settings.{settings_of}
 use Rattle.student_roll.specs.Rolls.{roll_of}

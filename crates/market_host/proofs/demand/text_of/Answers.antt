@@ -3,13 +3,12 @@ use Rattle.std.proofs.lemmas.List.{length-map}
 use Rattle.std.proofs.lemmas.Result.{IfOk-weaker}
 use Rattle.demand_api.specs.Views.{data_of}
 use Rattle.demand_text.specs.Taken.{IsTakenBy}
-use Rattle.market_crowd.proofs.CrowdFacts.{crowd_length}
+use Rattle.market_crowd.proofs.CrowdFacts.{crowd_length, sections_known}
 use Rattle.preference_desk.specs.DeskNames.{DeskNames}
 use Rattle.preference_desk.specs.DeskView.{entries_of, names_of}
 use Rattle.preference_desk.specs.PreferencesView.{preferences_of}
 use Rattle.preference_desk.specs.Shared.{entry_of_step}
 use Rattle.market_host.proofs.DemandFacts.{told_whole}
-use Rattle.market_host.proofs.QuoteFacts.{sections_listed}
 use Rattle.market_host.proofs.demand.text_of.Goals as goal
 
 pub make_crowd-requires-clause-students : goal.make_crowd-requires-clause-students
@@ -19,7 +18,7 @@ make_crowd-requires-clause-students g c =
 
 pub make_crowd-requires-clause-sections : goal.make_crowd-requires-clause-sections
 make_crowd-requires-clause-sections g c =
-    sections_listed (names_of c.in_ok-closed.closed.desk) c.args.market.now.catalog.sections c.args.market.now.roll.students
+    sections_known (names_of c.in_ok-closed.closed.desk) c.args.market.now.catalog.sections c.args.market.now.roll.students
     (preferences_of c.closed.result.now) c.in_ok-closed.ensures.names c.closed.ensures.sections
 
 pub taken_by-requires-clause-seats : goal.taken_by-requires-clause-seats

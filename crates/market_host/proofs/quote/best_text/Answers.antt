@@ -7,12 +7,13 @@ use Rattle.preference_desk.specs.PreferencesView.{preferences_of}
 use Rattle.market_units.specs.Name.{name_bytes}
 use Rattle.student_roll.specs.Students.{RollData, single_student}
 use Rattle.market_host.proofs.ListedSections.{first_bundle_listed}
-use Rattle.market_host.proofs.QuoteFacts.{menu_after, same_text, sections_listed}
+use Rattle.market_host.proofs.QuoteFacts.{menu_after, same_text}
 use Rattle.market_host.proofs.quote.best_text.Goals as goal
+use Rattle.market_crowd.proofs.CrowdFacts.{sections_known}
 
 pub menus-requires-clause-sections : goal.menus-requires-clause-sections
 menus-requires-clause-sections c =
-    sections_listed (names_of c.in_ok-desk.desk) c.args.catalog.now.sections _ (preferences_of c.closed.result.now) c.in_ok-desk.ensures.names
+    sections_known (names_of c.in_ok-desk.desk) c.args.catalog.now.sections _ (preferences_of c.closed.result.now) c.in_ok-desk.ensures.names
     c.closed.ensures.sections
 
 pub returns : goal.returns
@@ -34,7 +35,7 @@ text_of-requires c =
     first_bundle_listed c.args.catalog.now.sections (single_student (name_bytes c.args.name) c.args.credits c.args.courses) _
     (preferences_of c.closed.result.now) _ c.index-menu.result.now (sections_of c.in_ok-bundle.bundle) c.sections.result.now
     (ap (λ (roll : RollData). roll.students) c.in_ok-roll.ensures)
-    (sections_listed (names_of c.in_ok-desk.desk) c.args.catalog.now.sections _ (preferences_of c.closed.result.now) c.in_ok-desk.ensures.names
+    (sections_known (names_of c.in_ok-desk.desk) c.args.catalog.now.sections _ (preferences_of c.closed.result.now) c.in_ok-desk.ensures.names
     c.closed.ensures.sections)
     c.in_ok-menus.ensures c.index-menu.ensures
     c.in_ok-bundle.ensures.choice.feasible c.sections.ensures.value

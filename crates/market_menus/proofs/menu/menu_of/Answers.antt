@@ -1,9 +1,9 @@
 use Rattle.std.proofs.Common.{◌≡◌, length, sym, subst, arith}
+use Rattle.plain_facts.proofs.Lists.{read_at}
 use Rattle.bundle_rules.specs.Menus.{IsMenu}
 use Rattle.preference_desk.specs.PreferencesView.{wanted_by}
 use Rattle.preference_desk.specs.StudentPreferences.{no_preferences}
 use Rattle.preference_desk.proofs.BelowLemmas.{rated_below}
-use Rattle.market_units.proofs.NameLists.{read_at}
 use Rattle.student_roll.specs.Students.{Student, no_student}
 use Rattle.market_menus.specs.MenusOf.{IsMenuOf}
 use Rattle.market_menus.specs.Students.{student_at}

@@ -1,5 +1,5 @@
 use Rattle.std.proofs.Common.{rules, ◌≡◌, ◌<◌, ◌≤◌, ◌-◌, ◌∷◌, [], ℕ, List, length, take, drop, slice_index_or, refl, sym, subst, ◌∙◌, arith}
-use Rattle.bundle_rules.proofs.Firsts.{first_rest}
+use Rattle.plain_facts.proofs.Lists.{first_rest}
 use Rattle.proof_tree.specs.Texts.{IsDigit, NoDigitFirst}
 use Rattle.proof_tree.proofs.Digits.{NoPlace, none_in_nothing, none_without_digit, none_after_zero, one_of}
 use Rattle.proof_tree.proofs.symbols.read_place.Goals as goal

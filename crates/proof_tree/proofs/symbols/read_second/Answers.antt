@@ -1,5 +1,5 @@
 use Rattle.std.proofs.Common.{rules, ◌≡◌, ◌≤◌, ◌-◌, ◌∷◌, length, take, drop, slice_index_or, sym, subst, ap, ◌∙◌, arith}
-use Rattle.bundle_rules.proofs.Firsts.{first_rest}
+use Rattle.plain_facts.proofs.Lists.{first_rest}
 use Rattle.proof_tree.specs.Texts.{IsDigit, NoDigitFirst}
 use Rattle.proof_tree.proofs.Digits.{NoPlace, none_of_three, two_of}
 use Rattle.proof_tree.proofs.symbols.read_second.Goals as goal

@@ -1,8 +1,9 @@
 use Rattle.std.proofs.Common.{◌≡◌, ◌<◌, [], ◌∷◌, length, eqb, arith, ap, sym, ◌∙◌, tests, rules, refl, Some, None}
 use Rattle.std.proofs.lemmas.List.{map-append, length-take, length-map}
 use Rattle.std.proofs.lemmas.Iterator.Splits.{YieldsList-from_slice_split}
+use Rattle.plain_facts.proofs.Lists.{item_of_turn}
 use Rattle.timetable_rules.proofs.Guesses.{read_is_spelled}
-use Rattle.timetable_rules.proofs.Pieces.{item_of_turn, all_at_end, meeting_of_piece, few_pieces, spelled_by_pieces}
+use Rattle.timetable_rules.proofs.Pieces.{all_at_end, meeting_of_piece, few_pieces, spelled_by_pieces}
 use Rattle.timetable_rules.specs.Meetings.{meetings_of}
 use Rattle.timetable_rules.specs.Spelling.{spelling}
 use Rattle.timetable_rules.proofs.reading.read_meetings.Goals as goal

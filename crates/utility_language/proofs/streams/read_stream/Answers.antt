@@ -1,7 +1,8 @@
 use Rattle.std.proofs.Common.{◌∷◌, [], ◌++◌, length, length-append, append_assoc, arith, sym, ◌∙◌, ap, rules}
+use Rattle.plain_facts.proofs.Lists.{all_zip_push}
 use Rattle.utility_language.specs.Words.{words_of}
 use Rattle.utility_language.specs.Commands.{IsCommandOf, command_lines}
-use Rattle.utility_language.proofs.StreamLemmas.{line_taken, zip_more, zip_length, no_lines, all_short}
+use Rattle.utility_language.proofs.StreamLemmas.{line_taken, zip_length, no_lines, all_short}
 use Rattle.utility_language.proofs.streams.read_stream.Goals as goal
 
 pub returns-then-len-room-clause-too_many : goal.returns-then-len-room-clause-too_many
@@ -24,7 +25,7 @@ loop-rest-preserved c =
         read ++ words ∷ [],
         c.loop-rest.invariant.1.1 ∙ ap (λ lines. read ++ lines) taken ∙ sym (append_assoc read (words ∷ []) (command_lines c.first_line.result.1.now)),
         rw c.in_ok-push.ensures.items
-            (zip_more IsCommandOf read c.loop-rest.commands.items words c.in-Some.command c.loop-rest.invariant.1.2 c.in-Some.ensures.command),
+            (all_zip_push IsCommandOf read c.loop-rest.commands.items words c.in-Some.command c.loop-rest.invariant.1.2 c.in-Some.ensures.command),
       ),
     )
 

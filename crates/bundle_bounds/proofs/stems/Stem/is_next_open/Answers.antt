@@ -1,6 +1,6 @@
 use Rattle.std.proofs.Common.{◌-◌, length, take, drop, get_or, sym, ◌∙◌}
+use Rattle.plain_facts.proofs.Lists.{first_rest}
 use Rattle.bundle_rules.specs.Bundles.{sections_of}
-use Rattle.bundle_rules.proofs.Firsts.{first_rest}
 use Rattle.bundle_bounds.specs.Offers.{places_of}
 use Rattle.bundle_bounds.specs.Views.{data_of}
 use Rattle.bundle_bounds.proofs.BelowLimit.{rest_of_room}

@@ -1,7 +1,7 @@
 use Rattle.std.proofs.Common.{◌||◌, arith}
 use Rattle.std.specs.Prelude.{not}
+use Rattle.plain_facts.proofs.Truths.{not_false, not_true}
 use Rattle.certificate_checker.proofs.Progressing.{progress_last, progress_within}
-use Rattle.certificate_checker.proofs.Reading.{not_false, not_true}
 use Rattle.certificate_checker.proofs.progress.Progress.after_turn.Goals as goal
 
 pub returns-then-self-students : goal.returns-then-self-students

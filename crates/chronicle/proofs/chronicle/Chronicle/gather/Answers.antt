@@ -1,8 +1,9 @@
 use Rattle.std.proofs.Common.{◌≡◌, ◌∙◌, ◌∷◌, [], ◌++◌, ap, subst, append_assoc}
 use Rattle.std.specs.Prelude.{Some}
 use Rattle.std.specs.List.{All}
+use Rattle.plain_facts.proofs.Lists.{all_front}
 use Rattle.chronicle.proofs.Calls.{table_of}
-use Rattle.chronicle.proofs.Gathering.{all_front, all_last, joined_alone}
+use Rattle.chronicle.proofs.Gathering.{all_last, joined_alone}
 use Rattle.chronicle.proofs.chronicle.Chronicle.gather.Goals as goal
 
 pub join-requires-clause-chronicle : goal.join-requires-clause-chronicle

@@ -1,5 +1,5 @@
-use Rattle.std.proofs.Common.{rules, ◌≡◌, ◌≤◌, ◌<◌, ◌+◌, ◌++◌, ◌∷◌, [], Bool, true, false, length, sym, subst, ◌∙◌, arith}
-use Rattle.std.specs.Prelude.{◌&&◌}
+use Rattle.std.proofs.Common.{rules, ◌≡◌, ◌≤◌, ◌<◌, ◌+◌, ◌++◌, ◌∷◌, [], true, length, sym, subst, ◌∙◌, arith}
+use Rattle.plain_facts.proofs.Truths.{and_second}
 use Rattle.bundle_rules.specs.Bundles.{sections_of}
 use Rattle.bundle_rules.specs.Menus.{section_at}
 use Rattle.bundle_bounds.specs.Offers.{offer_of, places_of}
@@ -8,10 +8,6 @@ use Rattle.bundle_bounds.specs.Laws.{IsNode}
 use Rattle.bundle_bounds.proofs.Openings.{node_later, node_same, node_with, open_facts, takable_where_open}
 use Rattle.bundle_bounds.proofs.NodeFacts.{nothing_chosen}
 use Rattle.demand_tests.proofs.tests.trees.taken.Goals as goal
-
-last : (a b : Bool) → (a && b) ≡ true → b ≡ true
-last true b is = is
-last false b is = absurd (cc is)
 
 pub sections-init : goal.sections-init
 sections-init g c =
@@ -27,7 +23,7 @@ with_next-node-requires-clause-open g c =
       c.args.budget.0,
       c.args.allowed.now,
       node_later offer c.sections.node.place c.place-place.result (sections_of c.sections.node.chosen) later c.sections.invariant,
-      last _ _ (sym c.is_open.ensures ∙ yes),
+      and_second _ _ (sym c.is_open.ensures ∙ yes),
     )
 
 pub sections-preserved : goal.sections-preserved
@@ -40,7 +36,7 @@ sections-preserved g c =
     let low : c.place-place.result < length c.args.menu.now.places = rw (← c.len.ensures.value) (omega arith) in
     let node = node_later offer c.sections.node.place c.place-place.result (sections_of c.sections.node.chosen) later c.sections.invariant in
     let open_ : is_open offer (places_of c.args.menu.now (sections_of c.sections.node.chosen)) c.place-place.result ≡ true =
-    last _ _ (sym c.is_open.ensures ∙ yes) in
+    and_second _ _ (sym c.is_open.ensures ∙ yes) in
     let takable =
     takable_where_open offer c.len.ensures.menu c.place-place.result (sections_of c.sections.node.chosen) node low
     (open_facts offer (places_of c.args.menu.now (sections_of c.sections.node.chosen)) c.place-place.result open_) in

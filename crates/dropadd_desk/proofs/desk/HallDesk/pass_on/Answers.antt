@@ -8,7 +8,8 @@ use Rattle.dropadd_desk.specs.Halls.{IsHall}
 use Rattle.dropadd_desk.specs.HallView.{market_of, state_of}
 use Rattle.dropadd_desk.specs.Market.{student_count}
 use Rattle.dropadd_desk.specs.Step.{given, held_by, waiting_for}
-use Rattle.dropadd_desk.proofs.DeskLemmas.{fit_for, found_passes, has_get, next_is, none_next_is, place_is}
+use Rattle.market_units.proofs.Memberships.{has_at}
+use Rattle.dropadd_desk.proofs.DeskLemmas.{fit_for, found_passes, next_is, none_next_is, place_is}
 use Rattle.dropadd_desk.proofs.Queues.{none_behind, queue_few}
 use Rattle.dropadd_desk.proofs.StateLemmas.{fits_few, waiting_changed}
 use Rattle.dropadd_desk.proofs.Steps.{behind_keeps, waiting_here}
@@ -62,7 +63,7 @@ give-requires-clause-known c =
     record {
       student =
           subst (λ l. get_or l c.in-Some.place 0 < student_count (market_of c.args.self.now)) (sym list)
-          ((c.args.self.now.hall.queues c.args.section.0).within _ (has_get (waiting_for (state_of c.args.self.now) c.args.section.0) c.in-Some.place is.inside));
+          ((c.args.self.now.hall.queues c.args.section.0).within _ (has_at (waiting_for (state_of c.args.self.now) c.args.section.0) c.in-Some.place 0 is.inside));
       section = c.requires;
     }
 
@@ -74,7 +75,7 @@ give-requires-clause-new c =
     c.in-Some.place (sym c.first_fitting.ensures ∙ c.in-Some.is) in
     subst (λ l. has (held_by (state_of c.args.self.now) (get_or l c.in-Some.place 0)) c.args.section.0 ≡ false) (sym list)
     (c.args.self.now.hall.apart (get_or (waiting_for (state_of c.args.self.now) c.args.section.0) c.in-Some.place 0) c.args.section.0
-    (has_get (waiting_for (state_of c.args.self.now) c.args.section.0) c.in-Some.place is.inside))
+    (has_at (waiting_for (state_of c.args.self.now) c.args.section.0) c.in-Some.place 0 is.inside))
 
 pub give-requires-clause-apart : goal.give-requires-clause-apart
 give-requires-clause-apart c =
@@ -103,7 +104,7 @@ give-requires-clause-few c =
     let next = get_or (waiting_for (state_of c.args.self.now) c.args.section.0) c.in-Some.place 0 in
     let low =
     (c.args.self.now.hall.queues c.args.section.0).within next
-    (has_get (waiting_for (state_of c.args.self.now) c.args.section.0) c.in-Some.place is.inside) in
+    (has_at (waiting_for (state_of c.args.self.now) c.args.section.0) c.in-Some.place 0 is.inside) in
     subst (λ l. length (held_by (state_of c.args.self.now) (get_or l c.in-Some.place 0)) < 8) (sym list)
     (fits_few (market_of c.args.self.now) next c.args.section.0 (held_by (state_of c.args.self.now) next) c.args.self.now.is_market low
     (found_passes (fit_for (market_of c.args.self.now) (state_of c.args.self.now) c.args.section.0) (waiting_for (state_of c.args.self.now) c.args.section.0) c.in-Some.place is))

@@ -2,8 +2,8 @@ use Rattle.std.proofs.Common.{◌<◌, sym, subst}
 use Rattle.std.specs.Prelude.{All}
 use Rattle.dropadd_desk.specs.HallView.{market_of}
 use Rattle.dropadd_desk.specs.Market.{student_count}
-use Rattle.dropadd_desk.proofs.DeskLemmas.{all_within}
 use Rattle.dropadd_desk.proofs.desk.HallDesk.waiting.Goals as goal
+use Rattle.market_units.proofs.Memberships.{all_within}
 
 pub returns-clause-students : goal.returns-clause-students
 returns-clause-students c =

@@ -1,4 +1,4 @@
-use Rattle.std.proofs.Common.{◌≡◌, ◌<◌, ◌≤◌, ◌+◌, ◌*◌, ◌∙◌, None, ap, sym, subst, arith, length, get_or, map, refl}
+use Rattle.std.proofs.Common.{◌≡◌, ◌<◌, ◌≤◌, ◌+◌, ◌∙◌, None, ap, sym, subst, arith, length, get_or, map, refl, ◌*◌}
 use Rattle.std.specs.FinSet as sets
 use Rattle.std.specs.List.{find}
 use Rattle.std.proofs.lemmas.Bool.{le-ltb, lt-ltb}
@@ -11,8 +11,9 @@ use Rattle.dropadd_desk.specs.Fits.{credits_of, exceeds_courses, exceeds_credits
 use Rattle.dropadd_desk.specs.Kept.{AreCaps, AreClashes, IsMarket}
 use Rattle.dropadd_desk.specs.Market.{enrolled, offered, section_count}
 use Rattle.dropadd_desk.proofs.DeskLemmas.{against_clash, against_courses, against_credits, against_none}
-use Rattle.dropadd_desk.proofs.RuleLemmas.{all_below, cap_at, clash_found, credit_at, credits_more, found_first, none_more}
+use Rattle.dropadd_desk.proofs.RuleLemmas.{all_below, cap_at, clash_found, credit_at, credits_more, found_first}
 use Rattle.dropadd_desk.proofs.rules.MarketRules.obstacle.Goals as goal
+use Rattle.bundle_rules.proofs.PlaceLists.{none_more}
 
 pub has-requires : goal.has-requires
 has-requires c =

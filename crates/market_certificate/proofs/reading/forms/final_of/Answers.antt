@@ -1,9 +1,10 @@
 use Rattle.std.proofs.Common.{ℕ, ◌≡◌, ◌++◌, ◌∷◌, List, subst}
 use Rattle.std.specs.Prelude.{codes}
+use Rattle.plain_facts.proofs.Outcomes.{if_none}
 use Rattle.market_units.specs.Name.{name_bytes}
 use Rattle.market_certificate.specs.Texts.{bundle_text}
 use Rattle.market_certificate.specs.Views.{seen}
-use Rattle.market_certificate.proofs.Unformed.{behind_two, if_none}
+use Rattle.market_certificate.proofs.Unformed.{behind_two}
 use Rattle.market_certificate.proofs.reading.forms.final_of.Goals as goal
 
 pub returns-clause-none : goal.returns-clause-none

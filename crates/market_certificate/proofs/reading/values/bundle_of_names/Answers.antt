@@ -5,18 +5,19 @@ use Rattle.std.proofs.lemmas.List.{map-append}
 use Rattle.std.proofs.lemmas.List.Elements.{All-push}
 use Rattle.std.proofs.lemmas.List.Splits.{join_with_byte-slice_split}
 use Rattle.std.proofs.lemmas.Iterator.Splits.{YieldsList-from_slice_split}
+use Rattle.plain_facts.proofs.Lists.{item_of_turn}
 use Rattle.bundle_rules.specs.Bundles.{sections_of}
 use Rattle.bundle_rules.proofs.Bundled.{sections_of-IsBundle}
 use Rattle.market_certificate.specs.Tables.{name_at}
 use Rattle.market_certificate.specs.Views.{seen}
-use Rattle.market_certificate.proofs.Bundles.{all_parts, goes_on_fits, goes_on_with, part_of_turn, parts_so_far}
+use Rattle.market_certificate.proofs.Bundles.{all_parts, goes_on_fits, goes_on_with, parts_so_far}
 use Rattle.market_certificate.proofs.reading.values.bundle_of_names.Goals as goal
 
 pub returns-in_err-section-clause-none : goal.returns-in_err-section-clause-none
 returns-in_err-section-clause-none c =
     rw c.from_residual.ensures (λ bundle is e.
     let t =
-    part_of_turn c.names.yielded _ c.names.yielded_by _ _ _ c.in-Some.is c.next.ensures.steps
+    item_of_turn c.names.yielded _ c.names.yielded_by _ _ _ c.in-Some.is c.next.ensures.steps
     (YieldsList-from_slice_split _ (λ b. eqb b 44) c.args.names.now (cc) (cc) (cc) (λ x b q k. search (rules, tests))) in
     let f =
     parts_so_far c.names.yielded _ c.names.yielded_by
@@ -30,7 +31,7 @@ pub returns-in_err-bundle-clause-none : goal.returns-in_err-bundle-clause-none
 returns-in_err-bundle-clause-none c =
     rw c.from_residual-in_err-bundle.ensures (λ bundle is e.
     let t =
-    part_of_turn c.names.yielded _ c.names.yielded_by _ _ _ c.in-Some.is c.next.ensures.steps
+    item_of_turn c.names.yielded _ c.names.yielded_by _ _ _ c.in-Some.is c.next.ensures.steps
     (YieldsList-from_slice_split _ (λ b. eqb b 44) c.args.names.now (cc) (cc) (cc) (λ x b q k. search (rules, tests))) in
     let f =
     parts_so_far c.names.yielded _ c.names.yielded_by

@@ -6,8 +6,9 @@ use Rattle.own_price.specs.Holding.{Holds}
 use Rattle.own_price.specs.Exchanges.{exchanged, AreHolders}
 use Rattle.demand_api.proofs.Takers.{lent_back}
 use Rattle.own_price.proofs.Exchanging.{exchanged_length}
-use Rattle.own_price.proofs.Raising.{students_demands, others_length, others_within, raised_holds, put_back, held_same}
+use Rattle.own_price.proofs.Raising.{others_length, others_within, raised_holds, put_back, held_same}
 use Rattle.own_price.proofs.held.Held.raise.Goals as goal
+use Rattle.demand_api.proofs.Counts.{length-demands}
 
 pub bundles-requires-clause-range : goal.bundles-requires-clause-range
 bundles-requires-clause-range g c =
@@ -16,7 +17,7 @@ bundles-requires-clause-range g c =
     let are = subst (λ held. AreHolders c.args.section.0 held.bundles c.in_ok-students.students.items) (sym c.self.view_is) c.in_ok-students.ensures in
     rw c.deref-2.ensures.value
     (subst (λ n. All (λ student. student.0 < n) c.in_ok-students.students.items)
-    (ap length held.bundles ∙ students_demands crowd (price_in c.self.inside.prices.items)) are.range)
+    (ap length held.bundles ∙ length-demands crowd (price_in c.self.inside.prices.items)) are.range)
 
 pub exchange_all-requires-clause-same : goal.exchange_all-requires-clause-same
 exchange_all-requires-clause-same g c =

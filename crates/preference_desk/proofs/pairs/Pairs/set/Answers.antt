@@ -3,12 +3,13 @@ use Rattle.std.proofs.lemmas.Int.{to_z-of_z}
 use mir.Val.{SFits, to_z, of_z}
 use mir.Syntax.{w16}
 use Rattle.std.specs.Prelude.{ℤ, unsigned_abs, Option, Some, None}
+use Rattle.std.proofs.lemmas.List.{length-map}
 use Rattle.market_units.specs.declared.units.SectionNo.{SectionNo}
 use Rattle.preference_desk.specs.Places.{place_in, stands}
 use Rattle.preference_desk.specs.Writes.{written, has_room}
 use Rattle.preference_desk.specs.StudentPreferences.{pair_cmp}
 use Rattle.preference_desk.specs.Rows.{ArePairs, pair_entry}
-use Rattle.preference_desk.proofs.RowLemmas.{length-entries, place_fits, place_inside}
+use Rattle.preference_desk.proofs.RowLemmas.{place_fits, place_inside}
 use Rattle.preference_desk.proofs.PairLemmas.{IsAdjusted, adjusted_set}
 use Rattle.preference_desk.proofs.RatingLemmas.{same_place}
 use Rattle.preference_desk.proofs.pairs.Pairs.set.Goals as goal
@@ -26,14 +27,14 @@ pub write-requires-clause-place : goal.write-requires-clause-place
 write-requires-clause-place c =
     let items = c.args.self.now.items.items in
     let place = place_is c.args.sections.lower c.args.sections.higher _ items _ c.place_of-place.ensures c.deref.ensures.value in
-    omega (arith, place, place_fits pair_cmp (c.args.sections.lower.0, c.args.sections.higher.0) (map pair_entry items), length-entries pair_entry items)
+    omega (arith, place, place_fits pair_cmp (c.args.sections.lower.0, c.args.sections.higher.0) (map pair_entry items), length-map items pair_entry)
 
 pub write-requires-clause-inside : goal.write-requires-clause-inside
 write-requires-clause-inside c here =
     let items = c.args.self.now.items.items in
     let place = place_is c.args.sections.lower c.args.sections.higher _ items _ c.place_of-place.ensures c.deref.ensures.value in
     let stands = sym (stands_is c.args.sections.lower c.args.sections.higher _ items _ c.stands_at-stands.ensures c.deref-2.ensures.value) ∙ here in
-    omega (arith, place, place_inside pair_cmp (c.args.sections.lower.0, c.args.sections.higher.0) (map pair_entry items) stands, length-entries pair_entry items)
+    omega (arith, place, place_inside pair_cmp (c.args.sections.lower.0, c.args.sections.higher.0) (map pair_entry items) stands, length-map items pair_entry)
 
 -- what was made of the adjustment as it was passed on is what the adjustment makes
 entry_is : (first second : SectionNo) (n : ℤ) → SFits w16 n → (x : Option (SectionNo × SectionNo × ℤ))

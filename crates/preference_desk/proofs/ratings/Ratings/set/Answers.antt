@@ -1,10 +1,11 @@
 use Rattle.std.proofs.Common.{ℕ, ◌≡◌, ◌≤◌, ◌==◌, ◌∙◌, cond, Bool, List, nat_cmp, map, sym, arith}
 use Rattle.std.specs.Prelude.{Option, Some, None}
+use Rattle.std.proofs.lemmas.List.{length-map}
 use Rattle.market_units.specs.declared.units.SectionNo.{SectionNo}
 use Rattle.preference_desk.specs.Places.{place_in, stands}
 use Rattle.preference_desk.specs.Writes.{written, has_room}
 use Rattle.preference_desk.specs.Rows.{AreRatings, rating_entry}
-use Rattle.preference_desk.proofs.RowLemmas.{length-entries, place_fits, place_inside}
+use Rattle.preference_desk.proofs.RowLemmas.{place_fits, place_inside}
 use Rattle.preference_desk.proofs.RatingLemmas.{IsRated, rated_set, same_place}
 use Rattle.preference_desk.proofs.ratings.Ratings.set.Goals as goal
 
@@ -21,14 +22,14 @@ pub write-requires-clause-place : goal.write-requires-clause-place
 write-requires-clause-place c =
     let items = c.args.self.now.items.items in
     let place = place_is c.args.section _ items _ c.place_of-place.ensures c.deref.ensures.value in
-    omega (arith, place, place_fits nat_cmp c.args.section.0 (map rating_entry items), length-entries rating_entry items)
+    omega (arith, place, place_fits nat_cmp c.args.section.0 (map rating_entry items), length-map items rating_entry)
 
 pub write-requires-clause-inside : goal.write-requires-clause-inside
 write-requires-clause-inside c here =
     let items = c.args.self.now.items.items in
     let place = place_is c.args.section _ items _ c.place_of-place.ensures c.deref.ensures.value in
     let stands = sym (stands_is c.args.section _ items _ c.stands_at-stands.ensures c.deref-2.ensures.value) ∙ here in
-    omega (arith, place, place_inside nat_cmp c.args.section.0 (map rating_entry items) stands, length-entries rating_entry items)
+    omega (arith, place, place_inside nat_cmp c.args.section.0 (map rating_entry items) stands, length-map items rating_entry)
 
 -- what the write leaves, where the row is as it was seen
 after_write : (section : SectionNo) (rating : ℕ) (seen seen' items new : List (SectionNo × ℕ)) (x : Option (SectionNo × ℕ)) (place : ℕ) (here result : Bool)

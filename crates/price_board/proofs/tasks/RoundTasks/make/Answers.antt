@@ -1,27 +1,22 @@
-use Rattle.std.proofs.Common.{ℕ, ◌≡◌, ◌∙◌, length, replicate, arith, ap, sym, vec_len}
+use Rattle.std.proofs.Common.{◌∙◌, length, replicate, arith, ap, sym}
 use Rattle.std.specs.Arc.{arc_value}
 use Rattle.std.proofs.lemmas.List.{length-map, length-replicate}
-use Rattle.demand_api.specs.declared.crowd.Crowd.{Crowd}
-use Rattle.demand_api.specs.Views.{data_of}
-use Rattle.demand_api.proofs.Parts.{students_few, students_length}
+use Rattle.demand_api.proofs.Parts.{students_few}
 use Rattle.price_board.specs.declared.tally.Tally.{Tally}
 use Rattle.price_board.specs.Openings.{terms_of}
 use Rattle.price_board.specs.Terms.{version_count}
 use Rattle.price_board.proofs.Tallying.{nothing_tallied}
 use Rattle.price_board.proofs.tasks.RoundTasks.make.Goals as goal
-
--- a student for each menu
-counted : (n : ℕ) (crowd seen : Crowd) → n ≡ vec_len seen.menus → seen ≡ crowd → n ≡ length (data_of crowd).students
-counted n crowd seen is same = is ∙ ap (λ (x : Crowd). vec_len x.menus) same ∙ crowd.menus.ok.0 ∙ sym (students_length crowd)
+use Rattle.demand_api.proofs.Counts.{crowd_counted}
 
 pub overflow_cast-students : goal.overflow_cast-students
 overflow_cast-students c =
-    let is = counted c.len-students.result (arc_value c.args.crowd) c.deref.result.now c.len-students.ensures c.deref.ensures in
+    let is = crowd_counted c.len-students.result (arc_value c.args.crowd) c.deref.result.now c.len-students.ensures c.deref.ensures in
     omega (arith, is, students_few (arc_value c.args.crowd))
 
 pub invariant_of-result : goal.invariant_of-result
 invariant_of-result c =
-    let is = counted c.len-students.result (arc_value c.args.crowd) c.deref.result.now c.len-students.ensures c.deref.ensures in
+    let is = crowd_counted c.len-students.result (arc_value c.args.crowd) c.deref.result.now c.len-students.ensures c.deref.ensures in
     record {
       students_are = is;
       few_students = omega (arith, is, students_few (arc_value c.args.crowd));
@@ -40,4 +35,4 @@ returns-clause-fresh c =
     ∙ ap (λ n. replicate {A = Tally} n (record { unfilled = c.len-students.result; count = 0 }))
     (c.len.ensures ∙ c.args.round.versions.ok.0 ∙ sym (length-map c.args.round.versions.items _))
     ∙ ap (λ m. replicate {A = Tally} (version_count (terms_of (arc_value c.args.crowd) c.args.round)) (record { unfilled = m; count = 0 }))
-    (counted c.len-students.result (arc_value c.args.crowd) c.deref.result.now c.len-students.ensures c.deref.ensures))
+    (crowd_counted c.len-students.result (arc_value c.args.crowd) c.deref.result.now c.len-students.ensures c.deref.ensures))

@@ -1,0 +1,4 @@
+pub mod Truths
+pub mod Outcomes
+pub mod Lists
+pub mod Numbers
