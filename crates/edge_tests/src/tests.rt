@@ -13,6 +13,7 @@ use std::{fs, io, process};
 
 mod files;
 mod meetings;
+mod words;
 
 // More than one read puts.
 const LONG: u16 = 8193;

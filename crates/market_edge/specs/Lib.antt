@@ -1,10 +1,12 @@
 pub mod BegunLists
 pub mod Faults
 pub mod FileShelves
+pub mod GivenWords
 pub mod Holdings
 pub mod MemoryFiles
 pub mod MemoryShelves
 pub mod MemorySinks
+pub mod MemoryWords
 pub mod Openings
 pub mod Shelves
 pub mod Sinks
@@ -12,3 +14,4 @@ pub mod StdoutSinks
 pub mod SureFiles
 pub mod SureShelves
 pub mod SureSinks
+pub mod Words

@@ -1,9 +1,9 @@
--- What the words of a process are, and what it ends with.
-use Rattle.std.specs.Prelude.{ℕ, ◌≡◌, ◌⊎◌, ◌≤◌, List, [], map, drop, Result, Ok, Err, String}
+-- What a process ends with.
+use Rattle.std.specs.Prelude.{ℕ, ◌≡◌, ◌≤◌, List, [], map, Result, Ok, Err, String, Vec}
 use Rattle.std.proofs.Common.{Global}
 use Rattle.std.specs.String.{string_bytes}
-use Rattle.std.specs.Vec.Iter.{into_iter_items}
-use Rattle.std.specs.declared.vec.IntoIter.{IntoIter}
+use Rattle.market_edge.specs.declared.given_words.NoWords.{NoWords}
+use Rattle.market_edge.specs.declared.given_words.NoWords.TheVariants.{NotText, NoMemory}
 use Rattle.market_edge.specs.declared.shelf.Shelf as Shelf
 use Rattle.market_host.specs.declared.status.Status.{Status}
 use Rattle.market_host.specs.Answers.{IsAnswered, IsWordless}
@@ -11,18 +11,20 @@ use Rattle.market_host.specs.Sights.{Writing, sight}
 use Rattle.market_host.specs.Taking.{Keeps}
 use Rattle.market_host.specs.Traces.{trace}
 
--- the words behind the program's name, as the system hands them over; where it hands over none that
--- are text, there are none
-abbrev pub words_given : {E : Type 0} → Result (IntoIter (String Global) Global) E → List (List ℕ)
-words_given (Ok args) = map string_bytes (drop 1 (into_iter_items args))
-words_given (Err error) = []
+-- a call with these words answers this status, where its shelf was the first and is the second; what
+-- the shelf holds stays, and no count of faults falls
+pub record IsCalled {H : Type 0} (words : List (List ℕ)) (shelf : Shelf.Ghosts H) (old new : H)
+    (writes : Writing) (status : Status) : Type 0 where
+  pub keeps : Keeps shelf old new
+  pub later : writes.faults_before ≤ writes.faults_after
+  pub answered : IsAnswered words (sight shelf old new) (trace shelf old new) writes status
 
--- A process with these words behind its name answers this status, where its shelf was the first and
--- is the second: as a call with these words does; or there is no memory for them, and the shelf
--- stays as it was. What the shelf holds stays, and no count of faults falls.
-abbrev pub EndsProcess : {H : Type 0} → List (List ℕ) → Shelf.Ghosts H → H → H → Writing → Status
-    → Type 0
-EndsProcess words shelf old new writes status =
-    Keeps shelf old new × (writes.faults_before ≤ writes.faults_after)
-    × (IsAnswered words (sight shelf old new) (trace shelf old new) writes status
-    ⊎ (IsWordless writes status × (new ≡ old)))
+-- A process whose words are these, or are not had for this reason, answers this status: as a call
+-- with these words does; as one without words, where a word is not UTF-8; or that memory is wanted
+-- for the words, and then the shelf stays as it was.
+abbrev pub EndsProcess : {H : Type 0} → Result (Vec (String Global) Global) NoWords → Shelf.Ghosts H
+    → H → H → Writing → Status → Type 0
+EndsProcess (Ok words) shelf old new writes status =
+    IsCalled (map string_bytes words.items) shelf old new writes status
+EndsProcess (Err NotText) shelf old new writes status = IsCalled [] shelf old new writes status
+EndsProcess (Err NoMemory) shelf old new writes status = IsWordless writes status × (new ≡ old)

@@ -43,6 +43,6 @@ pub use cause::Cause;
 pub use certificate_checker::Finding;
 pub use host::{course_match, no_memory_for_words};
 pub use market_settings::Key;
-pub use program::exit_code;
+pub use program::{answered, exit_code};
 pub use status::Status;
 pub use sure::sure_match;

@@ -1,12 +1,10 @@
 //! The shipped command: real files in, standard output out, the status as the number of the
 //! process. Nothing is written to standard error.
-// Neither: that `env::args` tells want of memory from words that are not UTF-8, since its two
-// errors are told apart by their kind; what the system refuses before `main`.
+// Neither: what the system refuses before `main`.
 #![tactic(auto)]
 
-use market_edge::{FileShelf, OpenGate, StdoutSink};
+use market_edge::{EnvWords, FileShelf, OpenGate, StdoutSink};
 use market_host::exit_code;
-use std::env;
 use std::process::ExitCode;
 
 #[cfg(test)]
@@ -18,7 +16,7 @@ fn main(rt: HostRuntime) -> ExitCode {
     exit_code(
         &rt,
         rt.alloc(),
-        env::args(&rt),
+        &EnvWords::new(&rt),
         &mut shelf,
         &mut sink,
         &OpenGate,

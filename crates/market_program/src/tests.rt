@@ -1,10 +1,10 @@
 // The program over texts in memory. The cases named for what they show are worked examples that
 // were computed apart from this program.
-use market_edge::{Gate, MemoryShelf, MemorySink, OpenGate};
-use market_host::{Cause, Finding, Status, course_match, exit_code, no_memory_for_words};
+use market_edge::{Gate, MemoryShelf, MemorySink, MemoryWords, NoWords, OpenGate};
+use market_host::{
+    Cause, Finding, Status, answered, course_match, exit_code, no_memory_for_words,
+};
 use std::alloc::Global;
-use std::io;
-use std::io::ErrorKind;
 use std::process::{Abort, ExitCode};
 use std::sync::Wait;
 use std::test::Fail;
@@ -151,59 +151,54 @@ fn each_status_has_its_number(rt: HostRuntime) {
     }
 }
 
-// The words behind the program's name, or why there are none, the number with which the process
-// ends, and what is written.
-type End = (Result<&'static str, ErrorKind>, u8, &'static str);
-
-const ENDS: [End; 6] = [
+// The words behind the program's name, the number with which the process ends, and what is written.
+const ENDS: [(&[u8], u8, &str); 6] = [
     (
-        Ok("course-match quote TWO TIE ann 10 1"),
+        b"quote TWO TIE ann 10 1",
         0,
         "bundle ann [A]\nutility 50\n",
     ),
     (
-        Ok("course-match quote TWO NONE ann 10 1"),
+        b"quote TWO NONE ann 10 1",
         2,
         "input 2 can not be read\n",
     ),
     (
-        Ok("course-match make 2 7 40 15 0"),
+        b"make 2 7 40 15 0",
         5,
         "no prices: least error 3\n",
     ),
-    (Ok("course-match"), 1, USAGE),
-    (Err(ErrorKind::InvalidData), 1, USAGE),
-    (Err(ErrorKind::OutOfMemory), 7, "out of memory\n"),
+    (b"", 1, USAGE),
+    (b"quote TWO TIE ann 10 \xff", 1, USAGE),
+    (b"quote TWO TIE ann 10 1 \xff", 1, USAGE),
 ];
 
 // The process ends with the number of the status: for words behind the program's name, for none,
-// and where the system has none that are text or no memory for them.
+// and where one of them is not UTF-8.
 #[test]
 fn the_process_ends_with_the_number(rt: HostRuntime) -> Result<(), Fail> {
-    for (given, number, text) in ENDS {
-        try_end(&rt, rt.alloc(), given, number, text)?;
+    for (line, number, text) in ENDS {
+        let words = MemoryWords::make(bytes_of_words(rt.alloc(), line)?);
+        let held = named_files(rt.alloc(), "TWO TIE")?;
+        let mut shelf = MemoryShelf::make(rt.alloc(), held, Vec::new(rt.alloc())).expect(&rt, "room");
+        let mut sink = MemorySink::make(rt.alloc(), 100, Vec::new(rt.alloc())).expect(&rt, "room");
+        let code = exit_code(&rt, rt.alloc(), &words, &mut shelf, &mut sink, &OpenGate);
+        assert_eq!(rt; code, ExitCode::from(number), "{text}");
+        assert_eq!(rt; sink.taken(), text.as_bytes());
     }
     Ok(())
 }
 
-fn try_end<R: Threads + Wait + Sync + Abort>(
-    rt: &R,
-    alloc: Global,
-    given: Result<&str, ErrorKind>,
-    number: u8,
-    text: &str,
-) -> Result<(), Fail> {
-    let held = named_files(alloc, "TWO TIE")?;
-    let mut shelf = MemoryShelf::make(alloc, held, Vec::new(alloc)).expect(rt, "room");
-    let mut sink = MemorySink::make(alloc, 100, Vec::new(alloc)).expect(rt, "room");
-    let args = match given {
-        Ok(line) => Ok(words_of(alloc, line)?.into_iter()),
-        Err(kind) => Err(io::Error::from(kind)),
-    };
-    let code = exit_code(rt, alloc, args, &mut shelf, &mut sink, &OpenGate);
-    assert_eq!(rt; code, ExitCode::from(number), "{text}");
-    assert_eq!(rt; sink.taken(), text.as_bytes());
-    Ok(())
+// The words of a line, where there are any, as bytes.
+fn bytes_of_words(alloc: Global, line: &[u8]) -> Result<Vec<Vec<u8>>, Fail> {
+    let mut words = Vec::new(alloc);
+    if line.is_empty() {
+        return Ok(words);
+    }
+    for word in line.split(|byte| *byte == b' ') {
+        words.push(word.to_vec(alloc)?)?;
+    }
+    Ok(words)
 }
 
 const NO_FORMS: &str = "\
@@ -237,9 +232,14 @@ fn no_form(rt: HostRuntime) -> Result<(), Fail> {
 
 // Words for which there is no memory.
 #[test]
-fn no_memory_for_the_words(rt: HostRuntime) {
+fn no_memory_for_the_words(rt: HostRuntime) -> Result<(), Fail> {
+    let held = named_files(rt.alloc(), "TWO TIE")?;
+    let mut shelf = MemoryShelf::make(rt.alloc(), held, Vec::new(rt.alloc())).expect(&rt, "room");
     let mut sink = MemorySink::make(rt.alloc(), 14, Vec::new(rt.alloc())).expect(&rt, "room");
-    assert_eq!(rt; no_memory_for_words(&mut sink), Status::OutOfMemory);
+    let none = Err(NoWords::NoMemory);
+    let status = answered(&rt, rt.alloc(), none, &mut shelf, &mut sink, &OpenGate);
+    assert_eq!(rt; status, Status::OutOfMemory);
     assert_eq!(rt; sink.taken(), b"out of memory\n".as_slice());
     assert_eq!(rt; no_memory_for_words(&mut sink), Status::SinkFault);
+    Ok(())
 }

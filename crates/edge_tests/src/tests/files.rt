@@ -1,7 +1,7 @@
 // A shelf of files whose system fails at a call.
 ghost use Rattle.std.specs.Prelude.{IsErr};
 
-use market_edge::{FileShelf, Taking, read_whole};
+use market_edge::{FileShelf, Shelf, Taking, read_whole};
 use std::fs::{Files, Metadata, OpenFile, OpenOptions};
 use std::io;
 use std::io::{Read, Seek, SeekFrom, Write};
@@ -15,10 +15,11 @@ fn failure<T>() -> io::Result<T>
     Err(io::Error::from(io::ErrorKind::Other))
 }
 
-// Files of five bytes each, read two at a time. Opens and reads together are numbered from 1, and
-// the call of one number fails.
+// Files of five bytes each, read two at a time: one of each name, or one alone. Opens and reads
+// together are numbered from 1, and the call of one number fails.
 #[derive(Drop)]
 struct Failing {
+    name: Option<&'static str>,
     failing_call: u64,
     calls: Arc<AtomicU64>,
 }
@@ -86,7 +87,10 @@ impl Files for Failing {
 
     type Dir = Five;
 
-    fn open_file(&self, _how: &OpenOptions, _path: &str) -> io::Result<Five> {
+    fn open_file(&self, _how: &OpenOptions, path: &str) -> io::Result<Five> {
+        if self.name.is_some_and(|name| name != path) {
+            return failure();
+        }
         if fails(&self.calls, self.failing_call) {
             return failure();
         }
@@ -149,6 +153,7 @@ fn a_failed_read_is_not_tried_again(rt: HostRuntime) -> Result<(), Fail> {
     for (failing_call, want, calls) in cases {
         let made = Arc::new(rt.alloc(), AtomicU64::new(0))?;
         let files = Failing {
+            name: None,
             failing_call,
             calls: made.clone()?,
         };
@@ -163,6 +168,26 @@ fn a_failed_read_is_not_tried_again(rt: HostRuntime) -> Result<(), Fail> {
             calls,
             "call {failing_call} fails"
         );
+    }
+    Ok(())
+}
+
+// The file of exactly the given name is opened, and no other.
+#[test]
+fn the_named_file_is_opened(rt: HostRuntime) -> Result<(), Fail> {
+    let names = [
+        "CAT", " CAT", "CAT ", "CAT\n", "./CAT", "../CAT", "a/../CAT", "cat", "C\u{c4}T", "CA\u{308}T", "-CAT", "",
+    ];
+    for name in names {
+        let files = Failing {
+            name: Some(name),
+            failing_call: 0,
+            calls: Arc::new(rt.alloc(), AtomicU64::new(0))?,
+        };
+        let mut shelf = FileShelf::new(&files);
+        for other in names {
+            assert_eq!(rt; shelf.begin(other).is_ok(), other == name, "{other} of {name}");
+        }
     }
     Ok(())
 }
