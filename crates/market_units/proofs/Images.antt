@@ -1,5 +1,5 @@
 -- What holds of images.
-use Rattle.std.proofs.Common.{List, length, map, sym, subst, arith}
+use Rattle.std.proofs.Common.{List, map, subst, arith}
 use Rattle.std.specs.Prelude.{All}
 use Rattle.std.proofs.lemmas.List.{get_or-map, length-map}
 

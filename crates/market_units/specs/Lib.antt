@@ -2,6 +2,7 @@ pub mod Beginnings
 pub mod Counts
 pub mod EqualNames
 pub mod Laws
+pub mod Limits
 pub mod Members
 pub mod Merges
 pub mod Name

@@ -1,6 +1,7 @@
-//! What holds of names, numbers and subsets: each call here does nothing, and its contract is a
-//! law.
+//! What holds of names, numbers, subsets and limits: each call here does nothing, and its contract
+//! is a law.
 ghost use Rattle.market_units.specs.Laws.{EqualBytesEqualNames, OneNumberASpelling, OneIsEarlier, NotBothAreEarlier, EarlierThanEarlier};
+ghost use Rattle.market_units.specs.Limits.{AreTheLimits};
 
 /// Two names of equal bytes are equal.
 pub fn equal_bytes_equal_names()
@@ -25,4 +26,9 @@ pub fn not_both_are_earlier()
 /// What is earlier than an earlier subset is earlier.
 pub fn earlier_than_earlier()
     ensures { EarlierThanEarlier }
+{}
+
+/// Each limit is the number that the table of limits has for it.
+pub fn the_limits_are_these()
+    ensures { AreTheLimits }
 {}
