@@ -5,6 +5,7 @@ pub mod NameLemmas
 pub mod PairLemmas
 pub mod PreferenceLemmas
 pub mod RatingLemmas
+mod Refusals
 pub mod RowLemmas
 pub mod RowWrites
 pub mod SectionLemmas

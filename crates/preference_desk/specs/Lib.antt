@@ -11,6 +11,7 @@ pub mod PairsView
 pub mod Places
 pub mod PreferencesView
 pub mod RatingsView
+pub mod RefusedCommands
 pub mod Rows
 pub mod Shared
 pub mod StudentPreferences
