@@ -15,7 +15,7 @@ use crate::opens::{Picks, collect, is_open_at, rests_of};
 use crate::prospects::{NO_PROSPECTS, Prospects};
 use crate::pruning::{bound_of, first_with, plain_sum};
 use crate::tangents::Tangents;
-use bundle_rules::{Bundle, Menu, Places, is_ahead, utility};
+use bundle_rules::{Bundle, Places, Rows, is_ahead};
 use market_units::{SectionSet, Tokens};
 
 /// A node: the places below `place` are decided, and of them those of `chosen` are taken.
@@ -38,7 +38,7 @@ pub enum Leaf {
 /// Whether a place is open at the node: not decided, allowed, without a clash with a chosen one,
 /// and within what they leave of the budget, the credit cap and the course cap.
 pub fn is_open(
-    menu: &Menu,
+    menu: &Rows,
     prices: &[Tokens],
     budget: Tokens,
     allowed: &SectionSet,
@@ -81,7 +81,7 @@ pub fn is_open(
 /// The number of a bound that is on the node's menu of bounds: at least 1000 times the utility of
 /// every bundle that can still be reached.
 pub fn bound(
-    menu: &Menu,
+    menu: &Rows,
     prices: &[Tokens],
     budget: Tokens,
     allowed: &SectionSet,
@@ -122,7 +122,7 @@ pub fn bound(
     let mut room = NO_PROSPECTS;
     let from = node.place.min(menu.len());
     let start = collect(&chosen, from, &mut room);
-    let base = Base::of(utility(menu, &node.chosen));
+    let base = Base::of(menu.utility(&node.chosen));
     let list = &room[start..];
     let all = Prospects { list };
     bound_of(base, rests, &all, leaf)
@@ -132,7 +132,7 @@ pub fn bound(
 /// times the champion's utility, or below 1000 times one more than it where the first decided place
 /// on which they differ is the champion's. `None` exactly where none prunes it.
 pub fn bound_closes(
-    menu: &Menu,
+    menu: &Rows,
     prices: &[Tokens],
     budget: Tokens,
     allowed: &SectionSet,
@@ -173,7 +173,7 @@ pub fn bound_closes(
     let mut room = NO_PROSPECTS;
     let from = node.place.min(menu.len());
     let start = collect(&chosen, from, &mut room);
-    let base = Base::of(utility(menu, &node.chosen));
+    let base = Base::of(menu.utility(&node.chosen));
     let list = &room[start..];
     let all = Prospects { list };
     let limit = limit_of(menu, node, places, champion);
@@ -185,14 +185,14 @@ pub fn bound_closes(
 /// A bound below this number prunes the node: 1000 u, u being the champion's utility; or
 /// 1000 (u + 1), where the champion has the first decided place on which it and the chosen ones
 /// differ.
-pub(crate) fn limit_of(menu: &Menu, node: &Node, chosen: &[u8], champion: &Bundle) -> i64
+pub(crate) fn limit_of(menu: &Rows, node: &Node, chosen: &[u8], champion: &Bundle) -> i64
     requires { AllRated (wishes_of menu.now) (sections_of champion.now) }
     ensures { result
         ≡ limit_of (utility (wishes_of menu.now) (sections_of champion.now))
         (is_ahead node.now.place (places_of menu.now (sections_of champion.now)) chosen.now) }
 {
     let places = Places::of(menu, champion);
-    let most = i64::from(utility(menu, champion));
+    let most = i64::from(menu.utility(champion));
     if is_ahead(node.place, places.as_slice(), chosen) {
         1000 * (most + 1)
     } else {

@@ -12,7 +12,7 @@ use crate::Offer;
 use crate::chosen::Chosen;
 use crate::places::{adjustments_with, is_apart, price_of_place};
 use crate::prospects::Prospect;
-use bundle_rules::{Menu, Rated};
+use bundle_rules::{Rated, Rows};
 use market_units::{MAX_ADJUSTMENT, MAX_COURSES, MAX_PRICE, MAX_RATINGS, MAX_SECTION_CREDITS};
 
 /// What the chosen places leave of each resource.
@@ -83,7 +83,7 @@ fn credits_of(picks: &Picks) -> u32
 
 /// The most that a place's adjustments with later open places can add to the utility: the positive
 /// ones, added up.
-pub(crate) fn hopes(menu: &Menu, place: u8, later: &[Prospect]) -> u32
+pub(crate) fn hopes(menu: &Rows, place: u8, later: &[Prospect]) -> u32
     requires on_menu { AreOn menu.now later.now }
     requires place { place < length menu.now.places }
     requires few { length later.now ≤ MAX_RATINGS }
@@ -155,7 +155,7 @@ pub(crate) fn worth_of(rating: u8, adjustments: i32, hopes: u32) -> u32
 }
 
 // The first place of a course on the menu.
-fn course_of(menu: &Menu, course: u16) -> u8
+fn course_of(menu: &Rows, course: u16) -> u8
     ensures { result ≡ first_of_course menu.now.places course }
 {
     first_of_course(menu.places(), course) as u8

@@ -6,12 +6,12 @@ ghost use Rattle.bundle_rules.specs.Demand.{price_in, HasPrices};
 ghost use Rattle.bundle_rules.specs.Menus.{section_at, adjustment_in, clash_in};
 ghost use Rattle.bundle_bounds.specs.Offers.{AreOnMenu};
 
-use bundle_rules::Menu;
+use bundle_rules::Rows;
 use market_units::{MAX_ADJUSTMENT, MAX_COURSES, MAX_PRICE, Tokens};
 
 /// The price of the section at a place of the menu, in tokens. There is a price for each section of
 /// the menu, each at most 1,000,001.
-pub fn price_of_place(menu: &Menu, prices: &[Tokens], place: u8) -> u32
+pub fn price_of_place(menu: &Rows, prices: &[Tokens], place: u8) -> u32
     requires prices { HasPrices menu.now prices.now }
     requires on_menu { place < length menu.now.places }
     ensures value { result ≡ price_in prices.now (section_at menu.now.places place) }
@@ -21,7 +21,7 @@ pub fn price_of_place(menu: &Menu, prices: &[Tokens], place: u8) -> u32
 }
 
 /// Whether the place clashes with none of the chosen ones.
-pub fn is_apart(menu: &Menu, chosen: &[u8], place: u8) -> bool
+pub fn is_apart(menu: &Rows, chosen: &[u8], place: u8) -> bool
     requires on_menu { AreOnMenu menu.now chosen.now }
     requires place { place < length menu.now.places }
     ensures { result ≡ list_all (λ other. not (clash_in menu.now.clashes place other)) chosen.now }
@@ -30,7 +30,7 @@ pub fn is_apart(menu: &Menu, chosen: &[u8], place: u8) -> bool
 }
 
 /// What a place adds to the utility of at most 8 chosen ones by adjustments of pairs.
-pub fn adjustments_with(menu: &Menu, chosen: &[u8], place: u8) -> i32
+pub fn adjustments_with(menu: &Rows, chosen: &[u8], place: u8) -> i32
     requires on_menu { AreOnMenu menu.now chosen.now }
     requires place { place < length menu.now.places }
     requires few { length chosen.now ≤ MAX_COURSES }

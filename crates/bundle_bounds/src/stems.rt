@@ -17,7 +17,7 @@ use crate::prospects::{NO_PROSPECTS, Prospect, Prospects};
 use crate::pruning::{first_with, is_plain_below, plain_sum};
 use crate::sifting::{Widened, rests_after, sift};
 use crate::tangents::Tangents;
-use bundle_rules::{Bundle, Places, is_ahead, utility};
+use bundle_rules::{Bundle, Places, is_ahead};
 use market_units::{MAX_COURSES, MAX_RATINGS};
 
 // The places of a menu, and the sections of a bundle.
@@ -69,7 +69,7 @@ impl Stem {
         let list = &room[start..];
         let all = Prospects { list };
         let plain = plain_sum(&all);
-        let most = utility(offer.menu, champion);
+        let most = offer.menu.utility(champion);
         Stem {
             champion: Places::of(offer.menu, champion),
             most,

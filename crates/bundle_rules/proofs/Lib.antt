@@ -16,3 +16,11 @@ pub mod PlaceLists
 pub mod PlacesFirst
 pub mod Parts
 pub mod GivenBest
+pub mod Puts
+pub mod Renamed
+pub mod RankedRows
+pub mod Naming
+pub mod Positions
+pub mod RankedPairs
+pub mod RankedWords
+pub mod RankedPlaces

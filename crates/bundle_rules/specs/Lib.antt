@@ -17,3 +17,6 @@ pub mod Given
 pub mod Kept
 pub mod Rows
 pub mod Ordinals
+pub mod Ranks
+pub mod Ranking
+pub mod OneProofs

@@ -12,10 +12,16 @@ mod menu;
 mod picks;
 mod place_list;
 mod preferences;
+mod putting;
+mod ranked;
+mod ranking;
+mod rows;
 
 pub use ahead::is_ahead;
 pub use bundle::Bundle;
 pub use demand::{all_allowed, best_plain, has_prices, price_of};
-pub use menu::{Menu, Rated, place_among};
+pub use menu::{Menu, Rated};
 pub use place_list::Places;
 pub use preferences::{feasible, prefers, utility};
+pub use ranked::Ranked;
+pub use rows::{Rows, place_among};

@@ -1,11 +1,12 @@
 // What one student may choose from.
 ghost use Rattle.std.specs.Prelude.{◌≡◌, ◌<◌, ◌≤◌, ◌*◌, ◌+◌, ◌≤ℤ◌, neg_ℤ, ℕ, [], Some, IsTrue, length, IfOk, All, slice_get};
-ghost use Rattle.market_units.specs.declared.limits.TheConstants.{MAX_RATINGS};
-ghost use Rattle.bundle_rules.specs.Kept.{IsTable};
 ghost use Rattle.bundle_rules.specs.Menus.{adjustment_in, clash_in, place_in, IsRated, IsPair, ArePlaces, ArePairs, AreClashes, AreCaps, IsMenu};
 
 use crate::conditions::{are_clashes, are_pairs, are_places};
-use market_units::{MAX_ADJUSTMENT, MAX_COURSES, MAX_CREDITS, MAX_RATINGS, NoMemory, SectionNo};
+use crate::ranking::{Ordered, order_of, rows_in_order};
+use crate::rows::Caps;
+use crate::{Ranked, Rows};
+use market_units::{MAX_ADJUSTMENT, MAX_COURSES, MAX_CREDITS, NoMemory, SectionNo};
 use std::alloc::Global;
 use std::marker::Model;
 
@@ -20,40 +21,27 @@ pub struct Rated {
 
 /// The sections that a student rates, with the adjustments of pairs, the clashes and the two caps.
 /// The sections stand at places, numbered from 0 by ascending ordinal.
+///
+/// Beside them a menu keeps the same rows in the order in which a search tries the places. Nothing
+/// that it says of itself depends on that order.
 #[derive(Drop)]
 pub struct Menu {
-    places: Vec<Rated>,
-    pairs: Vec<(u8, u8, i16)>,
-    // Bits past the last place do not count, though contracts see whole words.
-    clashes: Vec<u64>,
-    credits: u16,
-    courses: u8,
+    rows: Rows,
 
-    // The adjustment of each two places, row by row: one access finds what a search asks wherever
-    // it takes a section. Contracts see the pairs alone.
-    adjustments: Vec<i16>,
+    // The rows in the order of the search, each section named by its position there, and the place
+    // of each position. Contracts see the rows alone.
+    renamed: Rows,
+    order: Vec<u8>,
 }
 
 impl Model for Menu {
-    ghost use Rattle.bundle_rules.specs.{Kept.IsKept, Kept.IsTable, Menus.MenuData};
+    ghost use Rattle.bundle_rules.specs.{Menus.MenuData, Ranks.IsRenamed};
 
     ghost Value = { MenuData };
 
-    ghost view = { λ menu. record {
-      places = menu.places.items;
-      pairs = menu.pairs.items;
-      clashes = menu.clashes.items;
-      credits = menu.credits;
-      courses = menu.courses;
-    } };
+    ghost view = { λ menu. menu.rows };
 
-    ghost invariant = { λ menu. IsKept (record {
-      places = menu.places.items;
-      pairs = menu.pairs.items;
-      clashes = menu.clashes.items;
-      credits = menu.credits;
-      courses = menu.courses;
-    }) menu.adjustments.items };
+    ghost invariant = { λ menu. IsRenamed menu.order.items menu.rows menu.renamed };
 }
 
 impl Menu {
@@ -108,20 +96,24 @@ impl Menu {
               courses = courses;
             }) }
     {
-        let adjustments = adjustment_table(
+        let caps = Caps { credits, courses };
+        let rows = Rows::of(
             alloc,
-            &Pairs {
-                places: places.len(),
-                list: pairs,
-            },
+            places.to_vec(alloc)?,
+            pairs.to_vec(alloc)?,
+            clashes.to_vec(alloc)?,
+            caps,
         )?;
+        let order = order_of(alloc, &rows)?;
+        let ordered = Ordered {
+            rows: &rows,
+            order: &order,
+        };
+        let renamed = rows_in_order(alloc, &ordered)?;
         Ok(Menu {
-            places: places.to_vec(alloc)?,
-            pairs: pairs.to_vec(alloc)?,
-            clashes: clashes.to_vec(alloc)?,
-            credits,
-            courses,
-            adjustments,
+            rows,
+            renamed,
+            order,
         })
     }
 
@@ -130,13 +122,28 @@ impl Menu {
         ensures { IfOk result (λ menu. menu ≡ self.now) }
     {
         Ok(Menu {
-            places: self.places.to_vec(alloc)?,
-            pairs: self.pairs.to_vec(alloc)?,
-            clashes: self.clashes.to_vec(alloc)?,
-            credits: self.credits,
-            courses: self.courses,
-            adjustments: self.adjustments.to_vec(alloc)?,
+            rows: self.rows.copy(alloc)?,
+            renamed: self.renamed.copy(alloc)?,
+            order: self.order.to_vec(alloc)?,
         })
+    }
+
+    /// The rows of the menu.
+    pub fn rows(&self) -> &Rows
+        ensures { result.now ≡ self.now }
+    {
+        &self.rows
+    }
+
+    /// The rows of the menu in the order in which a search tries them.
+    pub fn ranked(&self) -> Ranked<'_>
+        ensures { result.menu.now ≡ self.now }
+    {
+        Ranked {
+            menu: &self.rows,
+            rows: &self.renamed,
+            order: &self.order,
+        }
     }
 
     /// The number of places.
@@ -144,7 +151,7 @@ impl Menu {
         ensures value { result ≡ length self.now.places }
         ensures menu { IsMenu self.now }
     {
-        self.places.len() as u8
+        self.rows.len()
     }
 
     /// The rated sections, ascending: one for each place.
@@ -152,7 +159,7 @@ impl Menu {
         ensures value { result.now ≡ self.now.places }
         ensures menu { IsMenu self.now }
     {
-        &self.places
+        self.rows.places()
     }
 
     /// The section at a place, with its course, rating and credits.
@@ -161,7 +168,7 @@ impl Menu {
         ensures value { slice_get self.now.places place ≡ Some result.now }
         ensures range { IsRated result.now }
     {
-        &self.places[usize::from(place)]
+        self.rows.rated(place)
     }
 
     /// The adjustment of the unordered pair of two places, 0 where it has none.
@@ -172,7 +179,7 @@ impl Menu {
         ensures low { neg_ℤ MAX_ADJUSTMENT ≤ℤ result }
         ensures high { result ≤ℤ MAX_ADJUSTMENT }
     {
-        self.adjustments[usize::from(a) * self.places.len() + usize::from(b)]
+        self.rows.adjustment(a, b)
     }
 
     /// Whether the sections at two places clash.
@@ -181,21 +188,21 @@ impl Menu {
         requires second { b < length self.now.places }
         ensures { result ≡ clash_in self.now.clashes a b }
     {
-        (self.clashes[usize::from(a)] >> b) & 1 == 1
+        self.rows.clash(a, b)
     }
 
     /// The most credits that the student may take.
     pub fn credits(&self) -> u16
         ensures { result ≡ self.now.credits }
     {
-        self.credits
+        self.rows.credits()
     }
 
     /// The most sections that the student may take.
     pub fn courses(&self) -> u8
         ensures { result ≡ self.now.courses }
     {
-        self.courses
+        self.rows.courses()
     }
 
     /// The place of a section, or the number of places where it has none.
@@ -203,59 +210,6 @@ impl Menu {
         ensures value { result ≡ place_in self.now.places section.0 }
         ensures within { result ≤ length self.now.places }
     {
-        place_among(&self.places, section) as u8
-    }
-}
-
-/// The place of a section among these, or their number where it has none.
-pub fn place_among(places: &[Rated], section: SectionNo) -> usize
-    ensures value { result ≡ place_in places.now section.0 }
-    ensures within { result ≤ length places.now }
-{
-    match places {
-        [] => 0,
-        [rated, more @ ..] => {
-            if rated.section == section {
-                0
-            } else {
-                place_among(more, section) + 1
-            }
-        }
-    }
-}
-
-// Pairs of so many places, at most 60, with their adjustments.
-#[derive(Clone, Copy)]
-struct Pairs<'p> {
-    places: usize,
-    list: &'p [(u8, u8, i16)],
-    ghost few: { places ≤ MAX_RATINGS },
-    ghost each: { All (IsPair places) list.now },
-}
-
-// The adjustment of each two places, row by row.
-fn adjustment_table(alloc: Global, pairs: &Pairs) -> Result<Vec<i16>, NoMemory>
-    ensures { IfOk result
-        (λ table. IsTable pairs.now.places pairs.now.list.now table.items) }
-{
-    let mut table = vec![in alloc; 0i16; pairs.places * pairs.places]?;
-    fill(&mut table, pairs);
-    Ok(table)
-}
-
-// Writes the adjustments of the pairs into a table of zeros, the last pair first.
-fn fill(table: &mut [i16], pairs: &Pairs)
-    requires size { length table.old ≡ pairs.now.places * pairs.now.places }
-    requires zeros { IsTable pairs.now.places [] table.old }
-    ensures { IsTable pairs.now.places pairs.now.list.now table.new }
-{
-    let places = pairs.places;
-    match pairs.list {
-        [] => {}
-        [(a, b, by), more @ ..] => {
-            fill(table, &Pairs { places, list: more });
-            table[usize::from(*a) * places + usize::from(*b)] = *by;
-            table[usize::from(*b) * places + usize::from(*a)] = *by;
-        }
+        self.rows.place(section)
     }
 }

@@ -3,7 +3,7 @@ ghost use Rattle.std.specs.Prelude.{◌≡◌, ◌≤◌, length, map};
 ghost use Rattle.market_units.specs.declared.limits.TheConstants.{MAX_COURSES};
 ghost use Rattle.bundle_rules.specs.{Bundles.sections_of, Menus.place_in};
 
-use crate::{Bundle, Menu};
+use crate::{Bundle, Rows};
 use market_units::MAX_COURSES;
 
 const ROOM: usize = MAX_COURSES as usize;
@@ -21,7 +21,7 @@ impl Places {
     ghost use Rattle.bundle_rules.specs.PlaceLists.{listed};
 
     /// The places of the bundle's sections on the menu.
-    pub fn of(menu: &Menu, bundle: &Bundle) -> Places
+    pub fn of(menu: &Rows, bundle: &Bundle) -> Places
         ensures { listed result ≡ map (place_in menu.now.places) (sections_of bundle.now) }
     {
         let mut places = [0; ROOM];

@@ -8,7 +8,7 @@ ghost use Rattle.bundle_rules.specs.{Preferences.IsPreferred, Sets.DiffersFirstI
 ghost use Rattle.bundle_rules.specs.Wishes.{AllRated, IsFeasible, utility, adjustments};
 
 use crate::picks::Picks;
-use crate::{Bundle, Menu, Places, is_ahead};
+use crate::{Bundle, Menu, Places, Rows, is_ahead};
 use market_units::{MAX_ADJUSTMENT, MAX_SECTION_CREDITS};
 
 /// The sum of the bundle's ratings and of the adjustments of its unordered pairs. All its sections
@@ -17,9 +17,7 @@ pub fn utility(menu: &Menu, bundle: &Bundle) -> i32
     requires { AllRated (wishes_of menu.now) (sections_of bundle.now) }
     ensures { result ≡ utility (wishes_of menu.now) (sections_of bundle.now) }
 {
-    let places = Places::of(menu, bundle);
-    let places = places.as_slice();
-    utility_of(&Picks { menu, places })
+    menu.rows().utility(bundle)
 }
 
 /// Whether the student may take the bundle: each section is rated, no two clash, and both caps
@@ -27,12 +25,7 @@ pub fn utility(menu: &Menu, bundle: &Bundle) -> i32
 pub fn feasible(menu: &Menu, bundle: &Bundle) -> bool
     ensures { IsTrue result ↔ IsFeasible (wishes_of menu.now) (sections_of bundle.now) }
 {
-    let places = Places::of(menu, bundle);
-    let places = places.as_slice();
-    if !are_below(places, menu.len()) {
-        return false;
-    }
-    may_take(&Picks { menu, places })
+    menu.rows().feasible(bundle)
 }
 
 /// Whether the first of two feasible bundles is preferred to the second: it has the greater
@@ -43,18 +36,54 @@ pub fn prefers(menu: &Menu, a: &Bundle, b: &Bundle) -> bool
     ensures { IsTrue result
         ↔ IsPreferred (wishes_of menu.now) (sections_of a.now) (sections_of b.now) }
 {
-    let first = utility(menu, a);
-    let second = utility(menu, b);
-    if first == second {
-        comes_first(menu, a, b)
-    } else {
-        first > second
+    menu.rows().prefers(a, b)
+}
+
+impl Rows {
+    /// The sum of the bundle's ratings and of the adjustments of its unordered pairs. All its
+    /// sections are in these rows.
+    pub fn utility(&self, bundle: &Bundle) -> i32
+        requires { AllRated (wishes_of self.now) (sections_of bundle.now) }
+        ensures { result ≡ utility (wishes_of self.now) (sections_of bundle.now) }
+    {
+        let places = Places::of(self, bundle);
+        let places = places.as_slice();
+        utility_of(&Picks { menu: self, places })
+    }
+
+    /// Whether the bundle may be taken: each section is rated, no two clash, and both caps hold.
+    pub fn feasible(&self, bundle: &Bundle) -> bool
+        ensures { IsTrue result ↔ IsFeasible (wishes_of self.now) (sections_of bundle.now) }
+    {
+        let places = Places::of(self, bundle);
+        let places = places.as_slice();
+        if !are_below(places, self.len()) {
+            return false;
+        }
+        may_take(&Picks { menu: self, places })
+    }
+
+    /// Whether the first of two feasible bundles is preferred to the second: it has the greater
+    /// utility, or the same and the lowest section on which they differ.
+    pub fn prefers(&self, a: &Bundle, b: &Bundle) -> bool
+        requires first { IsFeasible (wishes_of self.now) (sections_of a.now) }
+        requires second { IsFeasible (wishes_of self.now) (sections_of b.now) }
+        ensures { IsTrue result
+            ↔ IsPreferred (wishes_of self.now) (sections_of a.now) (sections_of b.now) }
+    {
+        let first = self.utility(a);
+        let second = self.utility(b);
+        if first == second {
+            comes_first(self, a, b)
+        } else {
+            first > second
+        }
     }
 }
 
 // Whether the lowest section on which they differ is in the first: the places of sections ascend as
 // they do.
-fn comes_first(menu: &Menu, a: &Bundle, b: &Bundle) -> bool
+fn comes_first(menu: &Rows, a: &Bundle, b: &Bundle) -> bool
     requires first { AllRated (wishes_of menu.now) (sections_of a.now) }
     requires second { AllRated (wishes_of menu.now) (sections_of b.now) }
     ensures { IsTrue result ↔ DiffersFirstIn (sections_of a.now) (sections_of b.now) }

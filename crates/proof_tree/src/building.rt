@@ -33,6 +33,7 @@ pub fn build(
         (λ text. IsTreeText (offer_of menu.now prices.now budget.0 allowed.now) None
         (sections_of champion.now) text.items) }
 {
+    let menu = menu.rows();
     prove!(menu.len() <= PLACES);
     let offer = Offer {
         menu,
@@ -67,6 +68,7 @@ pub fn build_forced(
         (λ text. IsTreeText (offer_of menu.now prices.now budget.0 allowed.now)
         (Some (place_in menu.now.places section.0)) (sections_of champion.now) text.items) }
 {
+    let menu = menu.rows();
     prove!(menu.len() <= PLACES);
     let place = menu.place(section);
     let offer = Offer {
@@ -143,6 +145,7 @@ pub fn build_into(
         (sections_of champion.now) text
         → length room.old < length text) }
 {
+    let menu = menu.rows();
     prove!(menu.len() <= PLACES);
     let offer = Offer {
         menu,

@@ -172,6 +172,7 @@ pub fn check_tree(
         (IsDefect (offer_of menu.now prices.now budget.0 allowed.now) (sections_of champion.now)
         text.now) }
 {
+    let menu = menu.rows();
     prove!(menu.len() <= PLACES);
     let offer = Offer {
         menu,
@@ -214,6 +215,7 @@ pub fn check_forced(
         (FirstFailsAt (offer_of menu.now prices.now budget.0 allowed.now)
         (Some (place_in menu.now.places section.0)) (sections_of champion.now) text.now) }
 {
+    let menu = menu.rows();
     prove!(menu.len() <= PLACES);
     let place = menu.place(section);
     let offer = Offer {

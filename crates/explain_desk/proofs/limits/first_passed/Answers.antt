@@ -6,7 +6,7 @@ use Rattle.market_units.specs.Members.{has}
 use Rattle.market_units.specs.declared.units.SectionNo.{SectionNo}
 use Rattle.bundle_rules.specs.Bundles.{sections_of}
 use Rattle.bundle_rules.specs.Demand.{IsPriced, price_in}
-use Rattle.bundle_rules.specs.Menus.{place_in, wishes_of}
+use Rattle.bundle_rules.specs.Menus.{place_in, section_at, wishes_of}
 use Rattle.bundle_rules.specs.Ordinals.{ordinals}
 use Rattle.bundle_rules.proofs.Choices.{priced}
 use Rattle.bundle_rules.proofs.Ends.{all_of_ordinals}
@@ -27,7 +27,7 @@ returns-then-price-offered-clause-some c =
     let bundle = sections_of c.args.bundle.now in
     first_price (wishes_of menu) price c.args.offered.now.budget.0 (c.args.section.0 ∷ bundle)
     (over_price (wishes_of menu) price c.args.offered.now.budget.0 c.args.section.0 bundle c.price_of_place.result c.price_of.result
-    (price_told menu c.args.offered.now.prices.now c.args.section.0 c.place-place.result c.price_of_place.result c.price_of_place.ensures.value
+    (price_told menu c.args.offered.now.prices.now c.args.section.0 c.place-place.result c.price_of_place.result (c.price_of_place.ensures.value ∙ ap (λ m. price_in c.args.offered.now.prices.now (section_at m.places c.place-place.result)) c.rows.ensures)
     c.place-place.ensures.value c.requires.section)
     (c.price_of.ensures.value ∙ ap (total price) c.sections-sections.ensures.value) (omega (arith, c.if-price-offered.true)))
 
@@ -78,7 +78,7 @@ returns-then-credits-from-clause-some c =
     ∙ ap (λ xs. w.credits c.args.section.0 + total w.credits xs) c.sections-sections.ensures.value in
     first_credits w price c.args.offered.now.budget.0 (c.args.section.0 ∷ bundle)
     (within_price w price c.args.offered.now.budget.0 c.args.section.0 bundle c.price_of_place.result c.price_of.result
-    (price_told menu c.args.offered.now.prices.now c.args.section.0 c.place-place.result c.price_of_place.result c.price_of_place.ensures.value
+    (price_told menu c.args.offered.now.prices.now c.args.section.0 c.place-place.result c.price_of_place.result (c.price_of_place.ensures.value ∙ ap (λ m. price_in c.args.offered.now.prices.now (section_at m.places c.place-place.result)) c.rows.ensures)
     c.place-place.ensures.value c.requires.section)
     (c.price_of.ensures.value ∙ ap (total price) c.sections-sections.ensures.value) (omega (arith, c.if-price-offered.false)))
     (over_credits w price c.args.offered.now.budget.0 c.args.section.0 bundle (w.credits c.args.section.0) (total w.credits bundle) c.from.result
@@ -98,7 +98,7 @@ returns-then-sections-from-clause-some c =
     let count : length items ≡ length bundle = sym (length-map items (λ (s : SectionNo). s.0)) ∙ ap length c.sections-sections.ensures.value in
     first_courses w price c.args.offered.now.budget.0 (c.args.section.0 ∷ bundle)
     (within_price w price c.args.offered.now.budget.0 c.args.section.0 bundle c.price_of_place.result c.price_of.result
-    (price_told menu c.args.offered.now.prices.now c.args.section.0 c.place-place.result c.price_of_place.result c.price_of_place.ensures.value
+    (price_told menu c.args.offered.now.prices.now c.args.section.0 c.place-place.result c.price_of_place.result (c.price_of_place.ensures.value ∙ ap (λ m. price_in c.args.offered.now.prices.now (section_at m.places c.place-place.result)) c.rows.ensures)
     c.place-place.ensures.value c.requires.section)
     (c.price_of.ensures.value ∙ ap (total price) c.sections-sections.ensures.value) (omega (arith, c.if-price-offered.false)))
     (within_credits w price c.args.offered.now.budget.0 c.args.section.0 bundle (w.credits c.args.section.0) (total w.credits bundle) c.from.result
@@ -120,7 +120,7 @@ returns-clause-none c =
     let count : length items ≡ length bundle = sym (length-map items (λ (s : SectionNo). s.0)) ∙ ap length c.sections-sections.ensures.value in
     passes_none w price c.args.offered.now.budget.0 (c.args.section.0 ∷ bundle)
     (within_price w price c.args.offered.now.budget.0 c.args.section.0 bundle c.price_of_place.result c.price_of.result
-    (price_told menu c.args.offered.now.prices.now c.args.section.0 c.place-place.result c.price_of_place.result c.price_of_place.ensures.value
+    (price_told menu c.args.offered.now.prices.now c.args.section.0 c.place-place.result c.price_of_place.result (c.price_of_place.ensures.value ∙ ap (λ m. price_in c.args.offered.now.prices.now (section_at m.places c.place-place.result)) c.rows.ensures)
     c.place-place.ensures.value c.requires.section)
     (c.price_of.ensures.value ∙ ap (total price) c.sections-sections.ensures.value) (omega (arith, c.if-price-offered.false)))
     (within_credits w price c.args.offered.now.budget.0 c.args.section.0 bundle (w.credits c.args.section.0) (total w.credits bundle) c.from.result

@@ -14,25 +14,31 @@ use Rattle.proof_tree.proofs.building.build_forced.Goals as goal
 
 pub invariant_of-claim : goal.invariant_of-claim
 invariant_of-claim c =
-    let offer = offer_of c.args.menu.now c.args.prices.now c.args.budget.0 c.args.allowed.now in
+    let best_with : IsBestWith (wishes_of c.rows-menu.result.now) (price_in c.args.prices.now) c.args.budget.0 (set.contains c.args.allowed.now) c.args.section.0 (sections_of c.args.champion.now) =
+    subst (λ m. IsBestWith (wishes_of m) (price_in c.args.prices.now) c.args.budget.0 (set.contains c.args.allowed.now) c.args.section.0 (sections_of c.args.champion.now)) (sym c.rows-menu.ensures)
+    c.requires.best in
+    let offer = offer_of c.rows-menu.result.now c.args.prices.now c.args.budget.0 c.args.allowed.now in
     record {
       on_menu =
-          subst (λ p. p < length c.args.menu.now.places) (sym c.place-place.ensures.value)
-          (on_menu offer (sections_of c.args.champion.now) c.requires.best.choice c.args.section.0 c.requires.best.is_wanted);
-      takable = c.requires.best.choice;
+          subst (λ p. p < length c.rows-menu.result.now.places) (sym c.place-place.ensures.value)
+          (on_menu offer (sections_of c.args.champion.now) best_with.choice c.args.section.0 best_with.is_wanted);
+      takable = best_with.choice;
     }
 
 pub written-requires : goal.written-requires
 written-requires c =
-    let offer = offer_of c.args.menu.now c.args.prices.now c.args.budget.0 c.args.allowed.now in
-    let champion = sections_of c.args.champion.now in
-    let low = on_menu offer (sections_of c.args.champion.now) c.requires.best.choice c.args.section.0 c.requires.best.is_wanted in
-    let back : section_at c.args.menu.now.places (place_in c.args.menu.now.places c.args.section.0) ≡ c.args.section.0 =
-    section_at-place_in c.args.menu.now.places c.args.section.0 low in
-    let best =
-    subst (λ s. IsBestWith (wishes_of c.args.menu.now) (price_in c.args.prices.now) c.args.budget.0 (set.contains c.args.allowed.now) s champion) (sym back)
+    let best_with : IsBestWith (wishes_of c.rows-menu.result.now) (price_in c.args.prices.now) c.args.budget.0 (set.contains c.args.allowed.now) c.args.section.0 (sections_of c.args.champion.now) =
+    subst (λ m. IsBestWith (wishes_of m) (price_in c.args.prices.now) c.args.budget.0 (set.contains c.args.allowed.now) c.args.section.0 (sections_of c.args.champion.now)) (sym c.rows-menu.ensures)
     c.requires.best in
+    let offer = offer_of c.rows-menu.result.now c.args.prices.now c.args.budget.0 c.args.allowed.now in
+    let champion = sections_of c.args.champion.now in
+    let low = on_menu offer (sections_of c.args.champion.now) best_with.choice c.args.section.0 best_with.is_wanted in
+    let back : section_at c.rows-menu.result.now.places (place_in c.rows-menu.result.now.places c.args.section.0) ≡ c.args.section.0 =
+    section_at-place_in c.rows-menu.result.now.places c.args.section.0 low in
+    let best =
+    subst (λ s. IsBestWith (wishes_of c.rows-menu.result.now) (price_in c.args.prices.now) c.args.budget.0 (set.contains c.args.allowed.now) s champion) (sym back)
+    best_with in
     subst (λ p. HasTree offer (Some p) champion) (sym c.place-place.ensures.value)
-    ((trees_prove_the_best_with offer (place_in c.args.menu.now.places c.args.section.0) champion c.len.ensures.menu low c.requires.best.choice
-    (ap (has champion) back ∙ c.requires.best.is_wanted)).1
+    ((trees_prove_the_best_with offer (place_in c.rows-menu.result.now.places c.args.section.0) champion c.len.ensures.menu low best_with.choice
+    (ap (has champion) back ∙ best_with.is_wanted)).1
     best)

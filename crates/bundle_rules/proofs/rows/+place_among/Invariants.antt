@@ -1,5 +1,5 @@
 use Rattle.std.proofs.Common.{length}
-use Rattle.bundle_rules.proofs.menu.+place_among.Given as goal
+use Rattle.bundle_rules.proofs.rows.+place_among.Given as goal
 
 abbrev pub decreases-place_among : goal.decreases-place_among
 decreases-place_among l = length l.places.now

@@ -4,7 +4,7 @@ use Rattle.std.proofs.lemmas.Nat.{mul-add-lt}
 use Rattle.plain_facts.proofs.Lists.{first_rest}
 use Rattle.bundle_rules.specs.Menus.{IsPair}
 use Rattle.bundle_rules.proofs.Tables.{put_next}
-use Rattle.bundle_rules.proofs.menu.+fill.Goals as goal
+use Rattle.bundle_rules.proofs.rows.+fill.Goals as goal
 
 pub bounds-table-from-in-len1-up : goal.bounds-table-from-in-len1-up
 bounds-table-from-in-len1-up t c =

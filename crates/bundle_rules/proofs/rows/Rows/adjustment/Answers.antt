@@ -1,7 +1,7 @@
 use Rattle.std.proofs.Common.{◌≡◌, ◌<◌, ◌+◌, ◌*◌, length, refl, sym, subst, arith}
 use Rattle.std.proofs.lemmas.Int.{ints}
 use Rattle.bundle_rules.proofs.Tables.{read_range}
-use Rattle.bundle_rules.proofs.menu.Menu.adjustment.Goals as goal
+use Rattle.bundle_rules.proofs.rows.Rows.adjustment.Goals as goal
 
 pub returns-clause-low : goal.returns-clause-low
 returns-clause-low c =

@@ -3,7 +3,7 @@ use Rattle.bundle_rules.specs.Apart.{MayTake}
 use Rattle.bundle_rules.specs.Bundles.{sections_of}
 use Rattle.bundle_rules.proofs.Bundled.{sections_of-IsBundle}
 use Rattle.bundle_rules.proofs.Feasibility.{feasible_from, feasible_to}
-use Rattle.bundle_rules.proofs.preferences.feasible.Goals as goal
+use Rattle.bundle_rules.proofs.rows.Rows.feasible.Goals as goal
 
 pub invariant_of-may_take : goal.invariant_of-may_take
 invariant_of-may_take c = record {
@@ -16,7 +16,7 @@ pub returns-then-not-are_below : goal.returns-then-not-are_below
 returns-then-not-are_below c =
     let places = c.as_slice-places.ensures.value ∙ c.of-places.ensures in (
       (λ yes'. absurd (true≢false (sym yes'))),
-      (λ is. let may = subst (MayTake c.args.menu.now) (sym places) (feasible_to c.args.menu.now (sections_of c.args.bundle.now) is) in
+      (λ is. let may = subst (MayTake c.args.self.now) (sym places) (feasible_to c.args.self.now (sections_of c.args.bundle.now) is) in
           absurd
           (true≢false
           (sym (c.are_below.ensures.1 (subst (λ count. All (λ place. place < count) c.as_slice-places.result.now) (sym c.len.ensures.value) may.on_menu))
@@ -26,7 +26,7 @@ returns-then-not-are_below c =
 pub returns : goal.returns
 returns c =
     let places = c.as_slice-places.ensures.value ∙ c.of-places.ensures in (
-      (λ yes'. feasible_from c.args.menu.now (sections_of c.args.bundle.now) c.len.ensures.menu (sections_of-IsBundle c.args.bundle.now).ascending
-          (subst (MayTake c.args.menu.now) places (c.may_take.ensures.0 yes'))),
-      (λ is. c.may_take.ensures.1 (subst (MayTake c.args.menu.now) (sym places) (feasible_to c.args.menu.now (sections_of c.args.bundle.now) is))),
+      (λ yes'. feasible_from c.args.self.now (sections_of c.args.bundle.now) c.len.ensures.menu (sections_of-IsBundle c.args.bundle.now).ascending
+          (subst (MayTake c.args.self.now) places (c.may_take.ensures.0 yes'))),
+      (λ is. c.may_take.ensures.1 (subst (MayTake c.args.self.now) (sym places) (feasible_to c.args.self.now (sections_of c.args.bundle.now) is))),
     )
