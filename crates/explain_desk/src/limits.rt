@@ -39,7 +39,8 @@ pub(crate) fn first_passed(offered: &Offered, section: SectionNo, bundle: &Bundl
     let menu = offered.menu;
     let place = menu.place(section);
     let sections = bundle.sections();
-    let price = price_of_place(menu.rows(), offered.prices, place) + price_of(offered.prices, sections);
+    let price = price_of_place(menu.rows(), offered.prices, place)
+        + price_of(offered.prices, sections);
     if price > offered.budget.0 {
         return Some(Limit::Price);
     }

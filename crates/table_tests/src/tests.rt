@@ -4,6 +4,7 @@ mod commands;
 mod drawn_words;
 mod lines;
 mod meetings;
+mod orders;
 mod price_sheets;
 mod rolls;
 mod rows;

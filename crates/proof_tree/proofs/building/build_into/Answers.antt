@@ -95,8 +95,8 @@ returns-in_err-count-in-Signed-clause-none c =
     let size' : length c.nodes.room ≡ length c.args.room.now = c.nodes.invariant.size in
     let symbol_is : length c.as_slice.result.now ≡ length (symbol c.in-Signed.sign) = ap length (c.as_slice.ensures ∙ c.spell-symbol.ensures) in
     let taken : length (take c.nodes.count c.nodes.room) ≡ c.nodes.count = length-take-le c.nodes.count c.nodes.room c.nodes.invariant.within in
-    if_none_any c.from_residual.result _ (λ text is.
-    let longer_text : length (take c.nodes.count c.nodes.room) + length (symbol c.in-Signed.sign) ≤ length text = longer offer None (sections_of c.args.champion.now) (take c.nodes.count c.nodes.room) (spots_of c.rows-menu.result.now (waiting_of c.nodes.walk)) c.nodes.invariant.written c.in-Signed.sign (spots_of c.rows-menu.result.now (waiting_of c.step.new.self)) step text is in omega arith)
+    rw (← c.rows-menu.ensures) (if_none_any c.from_residual.result _ (λ text is.
+    let longer_text : length (take c.nodes.count c.nodes.room) + length (symbol c.in-Signed.sign) ≤ length text = longer offer None (sections_of c.args.champion.now) (take c.nodes.count c.nodes.room) (spots_of c.rows-menu.result.now (waiting_of c.nodes.walk)) c.nodes.invariant.written c.in-Signed.sign (spots_of c.rows-menu.result.now (waiting_of c.step.new.self)) step text is in omega arith))
 
 pub returns-in-Unsigned-clause-some : goal.returns-in-Unsigned-clause-some
 returns-in-Unsigned-clause-some c =
@@ -119,7 +119,8 @@ returns-in-Ended-clause-some c =
     (spots_of c.rows-menu.result.now (waiting_of c.step.new.self)))
     c.in-Ended.is c.step.ensures.step in
     let within : c.nodes.count ≤ length c.nodes.room = c.nodes.invariant.within in
-    let size' : length c.nodes.room ≡ length c.args.room.now = c.nodes.invariant.size in (
+    let size' : length c.nodes.room ≡ length c.args.room.now = c.nodes.invariant.size in
+    rw (← c.rows-menu.ensures) (
       omega arith,
       written_whole offer None (sections_of c.args.champion.now) (take c.nodes.count c.nodes.room) (spots_of c.rows-menu.result.now (waiting_of c.nodes.walk))
           c.nodes.invariant.written step,

@@ -45,7 +45,7 @@ returns-in-Ok-clause-ok c =
     let best =
     (trees_prove_the_best_with offer (place_in c.rows-menu.result.now.places c.args.section.0) champion c.len.ensures.menu low takable
     (ap (has champion) back ∙ c.requires.section)).0
-    (is.0, is.1) in (
+    (is.0, is.1) in rw (← c.rows-menu.ensures) (
       (λ ok. (
         subst (λ s. IsBestWith (wishes_of c.rows-menu.result.now) (price_in c.args.prices.now) c.args.budget.0 (set.contains c.args.allowed.now) s champion) back
             best,
@@ -59,7 +59,7 @@ returns-in-Err-clause-ok c =
     let offer = offer_of c.rows-menu.result.now c.args.prices.now c.args.budget.0 c.args.allowed.now in
     let champion = sections_of c.args.champion.now in
     let fails =
-    subst (λ p. FirstFailsAt offer (Some p) champion c.args.text.now (offset_in c.in-Err.defect)) c.place-place.ensures.value c.in-Err.ensures.fails in (
+    subst (λ p. FirstFailsAt offer (Some p) champion c.args.text.now (offset_in c.in-Err.defect)) c.place-place.ensures.value c.in-Err.ensures.fails in rw (← c.rows-menu.ensures) (
       (λ ok. absurd (false≢true ok)),
       (λ both. absurd
           (no_failure_in_a_tree offer (Some (place_in c.rows-menu.result.now.places c.args.section.0)) champion c.args.text.now (offset_in c.in-Err.defect)

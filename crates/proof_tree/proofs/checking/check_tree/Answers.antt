@@ -21,9 +21,9 @@ returns-clause-ok c =
     c.requires.champion in
     let offer = offer_of c.rows-menu.result.now c.args.prices.now c.args.budget.0 c.args.allowed.now in
     let champion = sections_of c.args.champion.now in
-    ok_iff c.follow.result _ _ _ c.follow.ensures.ok c.follow.ensures.defect
+    rw (← c.rows-menu.ensures) (ok_iff c.follow.result _ _ _ c.follow.ensures.ok c.follow.ensures.defect
     (λ is. ((trees_prove_the_best offer champion c.len.ensures.menu takable).0 (is.0, is.1), is))
-    (λ defect found both. no_defect_in_a_tree offer champion c.args.text.now defect c.len.ensures.menu both.1 (found refl))
+    (λ defect found both. no_defect_in_a_tree offer champion c.args.text.now defect c.len.ensures.menu both.1 (found refl)))
 
 pub returns-clause-defect : goal.returns-clause-defect
-returns-clause-defect c = if_err c.follow.result _ _ c.follow.ensures.defect (λ defect found. found refl)
+returns-clause-defect c = rw (← c.rows-menu.ensures) (if_err c.follow.result _ _ c.follow.ensures.defect (λ defect found. found refl))
