@@ -1,5 +1,5 @@
 use Rattle.bundle_rules.specs.Bundles.{sections_of}
-use Rattle.bundle_rules.proofs.Firsts.{first_rest}
+use Rattle.plain_facts.proofs.Lists.{first_rest}
 use Rattle.bundle_rules.proofs.Puts.{next_of_all}
 use Rattle.bundle_rules.proofs.putting.+with_all.Goals as goal
 

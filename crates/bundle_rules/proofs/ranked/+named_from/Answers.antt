@@ -1,6 +1,6 @@
 use Rattle.std.proofs.Common.{◌<◌, length, get_or, arith}
 use Rattle.bundle_rules.specs.Bundles.{sections_of}
-use Rattle.bundle_rules.proofs.Firsts.{first_rest}
+use Rattle.plain_facts.proofs.Lists.{first_rest}
 use Rattle.bundle_rules.proofs.Naming.{next_is_new, next_named, room_left}
 use Rattle.bundle_rules.proofs.Positions.{read_at, read_low}
 use Rattle.bundle_rules.proofs.ranked.+named_from.Goals as goal
