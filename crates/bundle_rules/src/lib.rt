@@ -1,6 +1,7 @@
 //! Menus, bundles, and which bundle a student wants: utility, what is feasible, what is preferred,
 //! what is best.
-// Neither: how long `best_plain` takes; it tries every choice.
+// Neither: how long `best_plain` takes; it tries every choice. That the order of a search is the one
+// that `Ranked` tells: any order finds the same bundle, and a test shows this one.
 #![tactic(auto)]
 
 mod ahead;

@@ -14,8 +14,7 @@ const PLACES: u8 = MAX_RATINGS as u8;
 /// The rows of a menu, and the same rows in the order in which a search tries the places: those with
 /// a positive adjustment first, and of each kind the highest rated first. There each section is
 /// named by its position, from 0 on.
-// Neither: that the order is this one. A search finds the same bundle in any order, sooner in this
-// one.
+// A search finds the same bundle in any order, sooner in this one, so no fact asks for it.
 #[derive(Clone, Copy)]
 pub struct Ranked<'m> {
     pub menu: &'m Rows,
