@@ -11,21 +11,11 @@ use Rattle.bundle_rules.specs.declared.menu.Rated.{Rated}
 use Rattle.bundle_rules.specs.Menus.{IsMenu, section_at, place_in, wishes_of, by_place}
 use Rattle.bundle_rules.specs.Existence.Places.{section_at-place_in, rated_on_menu}
 use Rattle.bundle_rules.proofs.Feasibility.{credits_by_place, section_has}
+pub use Rattle.bundle_rules.proofs.Renamed.{place_in-section_at}
 use Rattle.bundle_rules.proofs.PlacesFirst.{AllOnMenu, place_in-rises}
 use Rattle.bundle_bounds.specs.Offers.{OfferData, price_at, allowed_at, places_of}
 use Rattle.bundle_bounds.specs.Laws.{IsTakable}
 use Rattle.bundle_bounds.proofs.Openness.{MayBeTaken}
-
--- the place of the section at a place is that place
-pub place_in-section_at : (places : List Rated) (j : ℕ) → IsAscending (map (λ rated. rated.section.0) places) → j < length places
-    → place_in places (section_at places j) ≡ j
-place_in-section_at [] j up low = absurd (omega arith)
-place_in-section_at (rated ∷ places) zero up low = let same : (rated.section.0 == rated.section.0) ≡ true = grind (arith, nat_tests) in rw same refl
-place_in-section_at (rated ∷ places) (suc j) up low =
-    let above : rated.section.0 < section_at places j =
-    has-above rated.section.0 (map (λ r. r.section.0) places) (section_at places j) up.0 (section_has places j (omega arith)) in
-    let other : (rated.section.0 == section_at places j) ≡ false = grind (arith, nat_tests) in
-    rw other (ap suc (place_in-section_at places j up.1 (omega arith)))
 
 -- a place of the bundle is that of one of its sections
 pub has-places : (places : List Rated) (ss : List ℕ) (p : ℕ) → has (map (place_in places) ss) p ≡ true → (s : ℕ) × (has ss s ≡ true) × (place_in places s ≡ p)

@@ -14,15 +14,11 @@ use Rattle.bundle_rules.specs.declared.menu.Rated.{Rated}
 use Rattle.bundle_rules.specs.Demand.{price_in}
 use Rattle.bundle_rules.specs.Menus.{course_at, MenuData, IsMenu, section_at, credits_at, rating_at, adjustment_in}
 use Rattle.bundle_rules.specs.Existence.Places.{rating_at-is, credits_at-is}
+use Rattle.bundle_rules.proofs.RankedPlaces.{course_at-get}
 use Rattle.bundle_bounds.specs.declared.prospects.Prospect.{Prospect}
 use Rattle.bundle_bounds.specs.Offers.{OfferData, offer_of, allowed_at, price_at}
 use Rattle.bundle_bounds.specs.Opens.{above_zero, is_apart, is_open, budget_left, credits_left, courses_left, opens_from, open_places, first_of_course, prospect, prospects}
 use Rattle.market_units.proofs.Sums.{total-map}
-
-course_at-is : (places : List Rated) (k : ℕ) (rated : Rated) → slice_get places k ≡ Some rated → course_at places k ≡ rated.course
-course_at-is [] k rated is = cc is
-course_at-is (r ∷ places) zero rated is = ap (λ x. x.course) (same_Some r rated is)
-course_at-is (r ∷ places) (suc k) rated is = course_at-is places k rated is
 
 first_low : (places : List Rated) (p : ℕ) → p < length places → first_of_course places (course_at places p) ≤ p
 first_low [] p low = absurd (omega arith)
@@ -49,7 +45,7 @@ prospect_is menu prices budget allowed chosen place later rated course worth pri
     let s = signed_total (λ other. adjustment_in menu.pairs other place) chosen in
     let hopes_is : h ≡ total (λ other. above_zero (adjustment_in menu.pairs place other)) (map (λ other. other.place) later) =
     h_is ∙ sym (total-map (λ other. above_zero (adjustment_in menu.pairs place other)) (λ other. other.place) later) in
-    let first = course_is ∙ ap (first_of_course menu.places) (sym (course_at-is menu.places place rated at)) in
+    let first = course_is ∙ ap (first_of_course menu.places) (sym (course_at-get menu.places place rated at)) in
     let second =
     worth_is ∙ ap (λ x. above_zero ((pos x +ℤ a) +ℤ pos h)) rating_is ∙ ap (λ x. above_zero ((pos r +ℤ x) +ℤ pos h)) a_is
     ∙ ap (λ x. above_zero ((pos r +ℤ s) +ℤ pos x)) hopes_is in
@@ -61,7 +57,7 @@ pub course_low : (menu : MenuData) (place : ℕ) (rated : Rated) (course : ℕ) 
 course_low menu place rated course is on at course_is =
     let low = first_low menu.places place on in
     let same : course ≡ first_of_course menu.places (course_at menu.places place) =
-    course_is ∙ ap (first_of_course menu.places) (sym (course_at-is menu.places place rated at)) in
+    course_is ∙ ap (first_of_course menu.places) (sym (course_at-get menu.places place rated at)) in
     let few = is.places.few in omega arith
 
 -- the places of what is known of places are these places

@@ -4,6 +4,7 @@ use Rattle.std.specs.Prelude.{nat_lt}
 use Rattle.std.proofs.lemmas.Bool.{cases_Bool}
 use Rattle.std.proofs.lemmas.Bool.Decides.{nat_tests}
 use Rattle.std.proofs.lemmas.Int.{ints}
+use Rattle.plain_facts.proofs.Numbers.{true_lt}
 use Rattle.market_units.specs.Members.{has}
 use Rattle.market_units.specs.Totals.{total}
 use Rattle.bundle_rules.specs.Sets.{AllAbove, IsAscending}
@@ -11,16 +12,15 @@ use Rattle.bundle_rules.specs.Wishes.{Wishes, adjustments, utility}
 use Rattle.market_units.specs.declared.units.SectionNo.{SectionNo}
 use Rattle.bundle_rules.specs.Ordinals.{ordinals}
 use Rattle.bundle_rules.specs.Ranks.{put, ascending, AreDistinct}
+use Rattle.bundle_rules.proofs.Ascents.{above_all}
 use Rattle.bundle_rules.specs.Existence.Members.{has-here, has-there}
 
-or_swap : (a b c : Bool) → (a || (b || c)) ≡ (b || (a || c))
-or_swap true true c = refl
-or_swap true false c = refl
-or_swap false true c = refl
-or_swap false false c = refl
-
-below_of : (a b : ℕ) → nat_lt a b ≡ true → a < b
-below_of a b t = grind (arith, nat_tests)
+-- a test that stands behind another one may stand before it
+pub or_past : (a b c d : Bool) → d ≡ (b || c) → (a || d) ≡ (b || (a || c))
+or_past true true c d is = refl
+or_past true false c d is = refl
+or_past false true c d is = is
+or_past false false c d is = is
 
 not_below_of : (a b : ℕ) → nat_lt a b ≡ false → b ≤ a
 not_below_of a b t = grind (arith, nat_tests)
@@ -30,7 +30,7 @@ pub has-put : (s : ℕ) (ts : List ℕ) (t : ℕ) → has (put s ts) t ≡ (s ==
 has-put s [] t = refl
 has-put s (u ∷ ts) t = elim (cases_Bool (nat_lt s u)) [
   | inl low ↦ rw low refl
-  | inr high ↦ rw (high, has-put s ts t) (or_swap (u == t) (s == t) (has ts t))
+  | inr high ↦ rw high (or_past (u == t) (s == t) (has ts t) (has (put s ts) t) (has-put s ts t))
 ]
 
 pub has-ascending : (ss : List ℕ) (t : ℕ) → has (ascending ss) t ≡ has ss t
@@ -38,10 +38,6 @@ has-ascending [] t = refl
 has-ascending (s ∷ ss) t = has-put s (ascending ss) t ∙ ap (λ b. s == t || b) (has-ascending ss t)
 
 -- the order
-above_all : (x y : ℕ) (ys : List ℕ) → x < y → AllAbove y ys → AllAbove x ys
-above_all x y [] low above = tt
-above_all x y (z ∷ zs) low above = ((let h : y < z = above.0 in omega arith), above_all x y zs low above.1)
-
 AllAbove-put : (r s : ℕ) (ts : List ℕ) → r < s → AllAbove r ts → AllAbove r (put s ts)
 AllAbove-put r s [] low above = (low, tt)
 AllAbove-put r s (u ∷ ts) low above = elim (cases_Bool (nat_lt s u)) [
@@ -61,7 +57,7 @@ not_rest u ts s out = elim (cases_Bool (has ts s)) [
 pub IsAscending-put : (s : ℕ) (ts : List ℕ) → IsAscending ts → has ts s ≡ false → IsAscending (put s ts)
 IsAscending-put s [] up out = (tt, tt)
 IsAscending-put s (u ∷ ts) up out = elim (cases_Bool (nat_lt s u)) [
-  | inl under ↦ rw under ((below_of s u under, above_all s u ts (below_of s u under) up.0), up)
+  | inl under ↦ rw under ((true_lt s u under, above_all s u ts (true_lt s u under) up.0), up)
   | inr over ↦
       let low : u < s = (let h : u ≤ s = not_below_of s u over in let n : u ≢ s = not_head u ts s out in omega arith) in
       rw over (AllAbove-put u s ts low up.0, IsAscending-put s ts up.1 (not_rest u ts s out))

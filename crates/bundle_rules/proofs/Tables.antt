@@ -54,7 +54,7 @@ named_not : (pair : ℕ × ℕ × ℤ) (a b : ℕ) → ((pair.0 == a && pair.1 =
     → (((pair.0 ≡ a) × (pair.1 ≡ b)) → ⊥) × (((pair.0 ≡ b) × (pair.1 ≡ a)) → ⊥)
 named_not pair a b t = ((λ e. grind (arith, nat_tests)), (λ e. grind (arith, nat_tests)))
 
-first_within : (places : ℕ) (pair : ℕ × ℕ × ℤ) → IsPair places pair → pair.0 < places
+pub first_within : (places : ℕ) (pair : ℕ × ℕ × ℤ) → IsPair places pair → pair.0 < places
 first_within places pair is = let one : pair.0 < pair.1 = is.ordered in let two : pair.1 < places = is.on_menu in omega arith
 
 -- a pair written at both of its places

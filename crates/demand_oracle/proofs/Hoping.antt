@@ -9,6 +9,7 @@ use Rattle.std.proofs.lemmas.Bool.{cases_Bool, cases_order}
 use Rattle.std.proofs.lemmas.List.{get_or-set_same, get_or-set_other}
 use Rattle.market_units.specs.declared.units.Tokens.{Tokens}
 use Rattle.market_units.specs.Totals.{total}
+pub use Rattle.bundle_rules.proofs.Renamed.{adjustment_mutual}
 use Rattle.bundle_rules.specs.declared.menu.Rated.{Rated}
 use Rattle.bundle_rules.specs.Menus.{MenuData, IsMenu, adjustment_in}
 use Rattle.bundle_rules.specs.Places.{places_from}
@@ -72,18 +73,6 @@ module _ (offer : OfferData) where
       let all' : t ≤ 200 * (length offer.menu.places - k) = all in
       let few : length offer.menu.places ≤ 60 = menu.places.few in
       let goal : t ≤ 12000 = omega arith in goal
-
--- the adjustment of two places is that of them in the other order
-pub adjustment_mutual : (pairs : List (ℕ × ℕ × ℤ)) (a b : ℕ) → adjustment_in pairs a b ≡ adjustment_in pairs b a
-adjustment_mutual [] a b = refl
-adjustment_mutual (pair ∷ pairs) a b =
-    elim (cases_Bool (pair.0 == a && pair.1 == b)) [
-      | inl one ↦ elim (cases_Bool (pair.0 == b && pair.1 == a)) [ inl other ↦ rw (one, other) refl | inr not_other ↦ rw (one, not_other) refl ]
-      | inr not_one ↦ elim (cases_Bool (pair.0 == b && pair.1 == a)) [
-        | inl other ↦ rw (not_one, other) refl
-        | inr not_other ↦ rw (not_one, not_other) (adjustment_mutual pairs a b)
-      ]
-    ]
 
 -- whether the place of a section that was read is allowed
 pub allowed_read : (menu : MenuData) (prices : List Tokens) (budget : ℕ) (allowed : fin.FinSet nat_cmp) (place : ℕ) (rated : Rated)

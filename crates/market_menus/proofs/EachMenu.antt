@@ -16,7 +16,8 @@ use Rattle.course_catalog.specs.Sections.{Section, sections_clash}
 use Rattle.preference_desk.specs.Rows.{ArePairs, AreRatings, IsAdjustment, IsRating, pair_entry, rating_entry}
 use Rattle.preference_desk.specs.StudentPreferences.{StudentPreferences, pair_cmp}
 use Rattle.student_roll.specs.Students.{IsListed, IsStudent, Student}
-use Rattle.market_menus.specs.ClashWords.{AreClashWords, IsClashWord, word_with}
+use Rattle.bundle_rules.specs.Ranking.{word_with}
+use Rattle.market_menus.specs.ClashWords.{AreClashWords, IsClashWord}
 use Rattle.market_menus.specs.Limits.{EachHasAMenu, MayBeHad}
 use Rattle.market_menus.specs.MenusOf.{AreMenusOf, IsMenuOf, rated_of}
 use Rattle.market_menus.specs.PairPlaces.{pair_among}
@@ -24,7 +25,8 @@ use Rattle.market_menus.proofs.ClashFacts.{are_clashes}
 use Rattle.market_menus.proofs.PairFacts.{are_pairs}
 use Rattle.market_menus.proofs.PlaceFacts.{AreGoodPlaces, good_places}
 use Rattle.market_menus.proofs.StudentFacts.{is_menu, menu_data}
-use Rattle.market_menus.proofs.WordBits.{AreWordsTo, IsWordTo, word_at_end, word_at_start, word_more, words_more}
+use Rattle.bundle_rules.proofs.RankedWords.{IsWordTo, word_at_start, word_more}
+use Rattle.market_menus.proofs.WordBits.{AreWordsTo, word_at_end, words_more}
 
 -- the rows in which a desk has these ratings and adjustments
 rating_row : ℕ × ℕ → SectionNo × ℕ

@@ -19,7 +19,7 @@ use Rattle.preference_desk.specs.StudentPreferences.{SectionsBelow, StudentPrefe
 use Rattle.preference_desk.proofs.BelowLemmas.{rated_below}
 use Rattle.market_menus.specs.MenusOf.{rated_of}
 use Rattle.market_menus.proofs.Orders.{ascending_keys, equal_is}
-use Rattle.market_menus.proofs.WordBits.{section_at-get_or}
+use Rattle.bundle_rules.proofs.RankedRows.{section_at-get_or}
 
 pub map_twice : {A B C : Type 0} (g : B → C) (f : A → B) (xs : List A) → map (λ x. g (f x)) xs ≡ map g (map f xs)
 map_twice g f [] = refl

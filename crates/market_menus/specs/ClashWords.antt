@@ -1,5 +1,5 @@
 -- Words of clashes.
-use Rattle.std.specs.Prelude.{ℕ, ◌≡◌, ◌<◌, ◌*◌, ◌%◌, ◌^◌, Bool, ◌==◌, ◌&&◌, nat_lt, if◌then◌else◌, List, length, bit_or}
+use Rattle.std.specs.Prelude.{ℕ, ◌≡◌, ◌<◌, Bool, ◌==◌, ◌&&◌, nat_lt, List, length}
 use Rattle.std.specs.Int.{bit_at}
 use Rattle.bundle_rules.specs.declared.menu.Rated.{Rated}
 use Rattle.bundle_rules.specs.Menus.{clash_in, section_at}
@@ -21,7 +21,3 @@ pub record AreClashWords (catalog : List Section) (places : List Rated)
   pub whole : length words ≡ length places
   pub each : (a b : ℕ) → a < length places
       → clash_in words a b ≡ clashes_at catalog places (section_at places a) b
-
--- a word with this bit set, where that is asked
-abbrev pub word_with : ℕ → ℕ → Bool → ℕ
-word_with word bit is_set = if is_set then bit_or word (1 * 2 ^ bit % 2 ^ 64) else word

@@ -1,6 +1,7 @@
 // Which places of a menu clash.
 ghost use Rattle.std.specs.Prelude.{◌≡◌, ◌<◌, IfOk, length};
-ghost use Rattle.market_menus.specs.ClashWords.{AreClashWords, IsClashWord, word_with};
+ghost use Rattle.bundle_rules.specs.Ranking.{word_with};
+ghost use Rattle.market_menus.specs.ClashWords.{AreClashWords, IsClashWord};
 
 use crate::places::Places;
 use market_units::{NoMemory, SectionNo};

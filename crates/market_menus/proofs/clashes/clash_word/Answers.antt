@@ -1,7 +1,8 @@
 use Rattle.std.proofs.Common.{◌∙◌, ap, sym, arith}
 use Rattle.bundle_rules.specs.Menus.{section_at}
 use Rattle.course_catalog.specs.Sections.{sections_clash}
-use Rattle.market_menus.proofs.WordBits.{section_at-get_or, word_more}
+use Rattle.bundle_rules.proofs.RankedRows.{section_at-get_or}
+use Rattle.bundle_rules.proofs.RankedWords.{word_more}
 use Rattle.market_menus.proofs.clashes.clash_word.Goals as goal
 
 pub others-preserved : goal.others-preserved

@@ -1,6 +1,6 @@
 use Rattle.bundle_rules.specs.Menus.{section_at}
 use Rattle.course_catalog.specs.Sections.{sections_clash}
-use Rattle.market_menus.proofs.WordBits.{IsWordTo}
+use Rattle.bundle_rules.proofs.RankedWords.{IsWordTo}
 use Rattle.market_menus.proofs.clashes.clash_word.Given as goal
 
 abbrev pub invariant-others : goal.invariant-others

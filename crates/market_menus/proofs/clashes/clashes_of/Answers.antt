@@ -1,5 +1,6 @@
 use Rattle.std.proofs.Common.{length-append, arith}
-use Rattle.market_menus.proofs.WordBits.{section_at-get_or, words_more}
+use Rattle.bundle_rules.proofs.RankedRows.{section_at-get_or}
+use Rattle.market_menus.proofs.WordBits.{words_more}
 use Rattle.market_menus.proofs.clashes.clashes_of.Goals as goal
 
 pub places-preserved : goal.places-preserved
