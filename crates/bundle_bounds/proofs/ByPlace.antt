@@ -1,16 +1,15 @@
 -- Bundles by their places on the menu.
-use Rattle.std.proofs.Common.{◌≡◌, ℕ, zero, suc, ◌+◌, ◌<◌, Bool, true, false, ◌==◌, List, [], ◌∷◌, length, map, refl, sym, ap, ◌∙◌, arith, inl, inr}
+use Rattle.std.proofs.Common.{◌≡◌, ℕ, ◌+◌, ◌<◌, Bool, true, false, List, [], ◌∷◌, length, map, refl, sym, ap, ◌∙◌, arith, inl, inr}
 use Rattle.std.proofs.lemmas.Bool.{false≢true}
 use Rattle.std.proofs.lemmas.List.{length-map}
-use Rattle.std.proofs.lemmas.Bool.Decides.{nat_tests}
 use Rattle.market_units.specs.Totals.{total}
 use Rattle.market_units.specs.Members.{has}
 use Rattle.bundle_rules.specs.Sets.{AllAbove, IsAscending}
-use Rattle.bundle_rules.specs.Existence.Members.{has-here, has-there, has-cases, has-above}
+use Rattle.bundle_rules.specs.Existence.Members.{has-here, has-there, has-cases}
 use Rattle.bundle_rules.specs.declared.menu.Rated.{Rated}
 use Rattle.bundle_rules.specs.Menus.{IsMenu, section_at, place_in, wishes_of, by_place}
 use Rattle.bundle_rules.specs.Existence.Places.{section_at-place_in, rated_on_menu}
-use Rattle.bundle_rules.proofs.Feasibility.{credits_by_place, section_has}
+use Rattle.bundle_rules.proofs.Feasibility.{credits_by_place}
 pub use Rattle.bundle_rules.proofs.Renamed.{place_in-section_at}
 use Rattle.bundle_rules.proofs.PlacesFirst.{AllOnMenu, place_in-rises}
 use Rattle.bundle_bounds.specs.Offers.{OfferData, price_at, allowed_at, places_of}

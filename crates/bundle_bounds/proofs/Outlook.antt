@@ -7,7 +7,6 @@ use Rattle.std.proofs.Math.Seq.{take-length}
 use Rattle.std.proofs.lemmas.List.{length-drop}
 use Rattle.std.proofs.lemmas.Bool.{cases_Bool, cases_lt}
 use Rattle.std.proofs.lemmas.Bool.Decides.{nat_tests}
-use Rattle.std.proofs.lemmas.Option.{same_Some}
 use Rattle.market_units.specs.declared.units.Tokens.{Tokens}
 use Rattle.market_units.specs.Totals.{total, signed_total}
 use Rattle.bundle_rules.specs.declared.menu.Rated.{Rated}
