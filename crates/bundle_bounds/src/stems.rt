@@ -51,6 +51,7 @@ impl Stem {
     ghost use Rattle.bundle_bounds.specs.Stems.{IsStem};
 
     /// The stem at the root: no place is decided.
+    #[inline(always)]
     pub fn root(offer: &Offer, champion: &Bundle) -> Stem
         requires champion { IsFeasible (wishes_of offer.now.menu.now) (sections_of champion.now) }
         ensures { IsStem (data_of offer.now)
@@ -120,8 +121,6 @@ impl Stem {
         if self.is_quiet {
             return None;
         }
-        // A bound is sought on the champion's own path too, though none prunes there: a law for
-        // that would spare 2 ns a node.
         let base = Base::of(self.utility);
         // Most nodes end here, before the tangents are copied.
         if is_plain_below(base, self.limit, self.plain) {

@@ -14,3 +14,4 @@ pub mod Stands
 pub mod NoDefects
 pub mod Following
 pub mod Writing
+pub mod OnWay

@@ -1,8 +1,11 @@
 -- What is asked of a node of a tree.
 use Rattle.std.specs.Prelude.{ℕ, List}
 use Rattle.bundle_rules.specs.Bundles.{sections_of}
+use Rattle.bundle_bounds.specs.declared.nodes.Leaf.{Leaf}
 use Rattle.bundle_bounds.specs.declared.stems.Stem.{Stem}
 use Rattle.bundle_bounds.specs.Offers.{places_of}
+use Rattle.bundle_bounds.specs.Bounds.{bounds, IsFirstPruning, NonePrunes}
+use Rattle.bundle_bounds.specs.Laws.{Completes}
 use Rattle.bundle_bounds.specs.Stems.{IsStem}
 use Rattle.proof_tree.specs.declared.signs.Sign.{Sign}
 use Rattle.proof_tree.specs.declared.visit.Visit.{Visit}
@@ -42,3 +45,23 @@ abbrev pub HasStemAt : Visit → List Stem → ℕ → Type 0
 HasStemAt visit stems at =
     IsStemAt (offer_in visit.claim) (champion_in visit.claim) stems at visit.node.place
     (sections_of visit.node.chosen)
+
+-- the champion's sections at decided places are those that are chosen at the node
+abbrev pub IsCompleted : Visit → Type 0
+IsCompleted visit =
+    Completes (offer_in visit.claim) visit.node.place (sections_of visit.node.chosen)
+    (champion_in visit.claim)
+
+-- the leaf of the first bound that prunes the node
+abbrev pub IsFirstPruningAt : Visit → Leaf → Type 0
+IsFirstPruningAt visit =
+    IsFirstPruning (offer_in visit.claim) visit.node.place (chosen_at visit)
+    (champions_places visit.claim)
+    (bounds (offer_in visit.claim) visit.node.place (chosen_at visit))
+
+-- no bound prunes the node
+abbrev pub NonePrunesAt : Visit → Type 0
+NonePrunesAt visit =
+    NonePrunes (offer_in visit.claim) visit.node.place (chosen_at visit)
+    (champions_places visit.claim)
+    (bounds (offer_in visit.claim) visit.node.place (chosen_at visit))

@@ -13,6 +13,7 @@ mod symbol_bytes;
 mod symbols;
 mod visit;
 mod walk;
+mod ways;
 
 pub use building::{build, build_forced, build_into};
 pub use checking::{check_forced, check_tree};

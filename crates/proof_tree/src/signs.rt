@@ -3,10 +3,11 @@ ghost use Rattle.std.specs.Prelude.{◌≡◌, ◌↔◌, ℕ, List, Some, IsTru
 ghost use Rattle.bundle_rules.specs.{Bundles.sections_of, Menus.IsMenu};
 ghost use Rattle.bundle_bounds.specs.{Offers.OfferData, Opens.is_open};
 ghost use Rattle.proof_tree.specs.{Claims.offer_in, Claims.champion_in, Trees.IsSign, Trees.GoesOn};
-ghost use Rattle.proof_tree.specs.Visits.{HasNoSignAt, IsShutAt, IsSignAt, IsStemThere};
+ghost use Rattle.proof_tree.specs.Visits.{HasNoSignAt, IsFirstPruningAt, IsShutAt, IsSignAt, IsStemThere, NonePrunesAt};
 
 use crate::visit::Visit;
 use crate::walk::PLACES;
+use crate::ways::is_on_way;
 use bundle_bounds::{Leaf, Node, Stem, is_open};
 
 /// What stands at a node of a tree, the first of these that fits.
@@ -86,6 +87,23 @@ fn is_place(required: Option<u8>, place: u8) -> bool
     }
 }
 
+// The first bound that prunes the node. None does on the champion's way: each bound is at least what
+// the champion itself is worth.
+#[inline(always)]
+fn pruning_at(visit: &Visit, stem: &mut Stem) -> Option<Leaf>
+    requires stem { IsStemThere visit.now stem.old }
+    ensures stem { IsStemThere visit.now stem.new }
+    ensures first { IfSome result (IsFirstPruningAt visit.now) }
+    ensures none { IfNone result (NonePrunesAt visit.now) }
+{
+    let claim = &visit.claim;
+    prove!(claim.offer.menu.len() <= PLACES);
+    if is_on_way(visit) {
+        return None;
+    }
+    stem.pruning(claim.offer, claim.champion, &visit.node)
+}
+
 /// The canonical sign of a node, or `None` where it has none: all places are decided, the chosen
 /// sections are not the champion, and no bound prunes it. The stem is that of the node, and keeps
 /// what is computed.
@@ -105,7 +123,7 @@ pub(crate) fn sign_at(visit: &Visit, stem: &mut Stem) -> Option<Sign>
     if is_shut(visit) {
         return Some(Sign::Shut);
     }
-    let pruning = stem.pruning(claim.offer, claim.champion, &visit.node);
+    let pruning = pruning_at(visit, stem);
     if let Some(leaf) = pruning {
         return Some(Sign::Pruned(leaf));
     }

@@ -43,6 +43,7 @@ impl Walk {
     ghost use Rattle.proof_tree.specs.Steps.{waiting_of, spots_of};
 
     /// The walk that begins at the root: no place is decided, and no section is chosen.
+    #[inline(always)]
     pub(crate) fn start(claim: &Claim) -> Walk
         ensures waiting { (menu : MenuData) → spots_of menu (waiting_of result) ≡ (0, []) ∷ [] }
         ensures may_wait { (offer : OfferData) → AreWaiting offer result }
