@@ -13,7 +13,7 @@ pub at_most_above : (z : ℤ) → z ≤ℤ pos (above_zero z)
 at_most_above (pos n) = omega (arith, ints)
 at_most_above (negsuc n) = omega (arith, ints)
 
-signed_total-append : (f : ℕ → ℤ) (xs ys : List ℕ) → signed_total f (xs ++ ys) ≡ signed_total f xs +ℤ signed_total f ys
+pub signed_total-append : (f : ℕ → ℤ) (xs ys : List ℕ) → signed_total f (xs ++ ys) ≡ signed_total f xs +ℤ signed_total f ys
 signed_total-append f [] ys = let z : ℤ = signed_total f ys in let goal : z ≡ pos 0 +ℤ z = omega (arith, ints) in goal
 signed_total-append f (x ∷ xs) ys =
     let rest = signed_total-append f xs ys in

@@ -18,6 +18,7 @@ pub mod LeafPlaces
 pub mod Knowing
 pub mod Adding
 pub mod Without
+pub mod Hopes
 pub mod Prefixes
 pub mod StayingOpen
 pub mod Stemming

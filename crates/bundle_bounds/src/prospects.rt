@@ -25,15 +25,15 @@ pub(crate) struct Rate {
     ghost high: { price ≤ 20000000 },
 }
 
-/// An open place: the first place of its course, by which courses are told apart, the most that it
-/// can add to the utility, its price and its credits.
+/// An open place: the first place of its course, by which courses are told apart, its credits, the
+/// most that it can add to the utility, and its price. In this order it takes 12 bytes.
 #[derive(Clone, Copy, Debug)]
 pub(crate) struct Prospect {
     pub(crate) place: u8,
     pub(crate) course: u8,
+    pub(crate) credits: u16,
     pub(crate) worth: u32,
     pub(crate) price: u32,
-    pub(crate) credits: u16,
 }
 
 /// What is known of open places, at most 60, each within its range.

@@ -145,10 +145,10 @@ fn first_of_resource(
     ensures last { IfSome last.new (IsTangent left.rest left.resource all.now.list.now) }
 {
     let mut known = known_by(base, limit, last);
-    if known.is_all() {
-        return None;
-    }
     for prospect in all.list {
+        if known.is_all() {
+            return None;
+        }
         if is_below(base, limit, left, all, prospect, &mut known, last) {
             return Some(leaf_of(left.resource, prospect.place));
         }

@@ -1,15 +1,17 @@
 // The open places that stay open beside one more chosen place.
-ghost use Rattle.std.specs.Prelude.{◌≡◌, ◌<◌, ◌≤◌, ◌-◌, ◌++◌, ◌∷◌, [], ℕ, List, not, nat_le, ◌&&◌, true, length, drop, All};
+ghost use Rattle.std.specs.Prelude.{◌≡◌, ◌<◌, ◌≤◌, ◌-◌, ◌++◌, ◌∷◌, [], ℕ, List, ◌+ℤ◌, pos, not, nat_le, ◌&&◌, true, length, drop, All};
 ghost use Rattle.std.specs.List.{AllByRecursion};
-ghost use Rattle.bundle_rules.specs.Menus.{clash_in};
+ghost use Rattle.market_units.specs.Totals.{total};
+ghost use Rattle.bundle_rules.specs.Menus.{adjustment_in, clash_in};
 ghost use Rattle.bundle_bounds.specs.Modest.{IsModest, AreOn};
-ghost use Rattle.bundle_bounds.specs.Opens.{is_open, open_among, prospects};
+ghost use Rattle.bundle_bounds.specs.Opens.{above_zero, is_open, open_among, prospects};
 ghost use Rattle.bundle_bounds.specs.Views.{data_of};
 
 use crate::chosen::Chosen;
 use crate::opens::{Rests, hopes, worth_of};
 use crate::places::adjustments_with;
 use crate::prospects::{Prospect, Prospects};
+use bundle_rules::Menu;
 use market_units::MAX_RATINGS;
 
 /// What is left of the budget, the credits and the courses once one more place is chosen; 0 where
@@ -53,6 +55,30 @@ fn stays_open(wider: &Widened, one: &Prospect) -> bool
     u32::from(one.credits) <= rests.credits && !menu.clash(one.place, wider.last)
 }
 
+// What the adjustments of an open place with later ones can add, from what it added by itself before
+// the last place was chosen. Where that was its whole worth, no later place could add to it, so none
+// of those that are left can.
+fn hopes_left(menu: &Menu, one: &Prospect, before: i32, later: &[Prospect]) -> u32
+    requires on_menu { AreOn menu.now later.now }
+    requires place { one.now.place < length menu.now.places }
+    requires few { length later.now ≤ MAX_RATINGS }
+    requires worth { one.now.worth ≤ 20000 }
+    ensures value { (all : ℕ) → one.now.worth ≡ above_zero (before +ℤ pos all)
+        → total (λ other. above_zero (adjustment_in menu.now.pairs one.now.place other.place))
+        later.now
+        ≤ all
+        → result
+        ≡ total (λ other. above_zero (adjustment_in menu.now.pairs one.now.place other.place))
+        later.now }
+    ensures high { result ≤ 12000 }
+{
+    if one.worth as i32 == before {
+        0
+    } else {
+        hopes(menu, one.place, later)
+    }
+}
+
 /// Writes the prospects of those open places that stay open beside the last chosen one to the end
 /// of the room, and gives where they begin.
 pub(crate) fn sift(wider: &Widened, all: &Prospects, room: &mut [Prospect; MAX_RATINGS]) -> usize
@@ -76,12 +102,15 @@ pub(crate) fn sift(wider: &Widened, all: &Prospects, room: &mut [Prospect; MAX_R
         if !stays_open(wider, one) {
             continue;
         }
+        let rating = menu.rated(one.place).rating;
         let adjustments = adjustments_with(menu, wider.chosen.places, one.place);
-        let later_ones = hopes(menu, one.place, &room[start..]);
+        let own = i32::from(rating) + adjustments;
+        let before = own - i32::from(menu.adjustment(wider.last, one.place));
+        let later_ones = hopes_left(menu, one, before, &room[start..]);
         room[start - 1] = Prospect {
             place: one.place,
             course: one.course,
-            worth: worth_of(menu.rated(one.place).rating, adjustments, later_ones),
+            worth: worth_of(rating, adjustments, later_ones),
             price: one.price,
             credits: one.credits,
         };

@@ -38,6 +38,7 @@ fn is_end(visit: &Visit) -> bool
 }
 
 // Whether the required place is undecided and not open.
+#[inline(always)]
 fn is_shut(visit: &Visit) -> bool
     ensures { IsTrue result ↔ IsShutAt visit.now }
 {

@@ -8,8 +8,8 @@ use Rattle.bundle_bounds.proofs.pruning.first_of_resource.Goals as goal
 pub returns-then-is_all-clause-none : goal.returns-then-is_all-clause-none
 returns-then-is_all-clause-none c =
     let l : to_z w64 (of_z w64 c.args.limit) ≡ c.args.limit = omega (arith, ints) in
-    none_where_known c.args.base.number c.args.limit c.args.left.rest c.args.left.resource c.args.all.now.list.now c.known_by-known.result
-    ((rw l at c.known_by-known.ensures) c.args.left.rest c.args.left.resource c.args.all.now.list.now c.requires.last) (c.is_all.ensures c.if-is_all.true) c.args.all.now.list.now c.args.all.now.modest
+    none_where_known c.args.base.number c.args.limit c.args.left.rest c.args.left.resource c.args.all.now.list.now c.loop-prospect.known
+    (rw l at c.loop-prospect.invariant.known_is) (c.is_all.ensures c.if-is_all.true) c.args.all.now.list.now c.args.all.now.modest
 
 pub returns-then-is_below-clause-first : goal.returns-then-is_below-clause-first
 returns-then-is_below-clause-first c =

@@ -5,8 +5,9 @@ use Rattle.std.proofs.lemmas.Int.{ints}
 use Rattle.std.proofs.lemmas.List.Elements.{All-nil}
 use Rattle.bundle_bounds.specs.declared.prospects.Prospect.{Prospect}
 use Rattle.bundle_bounds.specs.Views.{data_of}
-use Rattle.bundle_bounds.specs.Opens.{above_zero, budget_left, credits_left, courses_left, is_open, prospect, prospects}
+use Rattle.bundle_bounds.specs.Opens.{above_zero, budget_left, credits_left, courses_left, hopes, is_open, prospect, prospects}
 use Rattle.bundle_bounds.specs.Modest.{IsModest}
+use Rattle.bundle_bounds.proofs.Hopes.{hopes_fewer, worth_without}
 use Rattle.bundle_bounds.proofs.BelowLimit.{nothing_behind, rest_of_room}
 use Rattle.bundle_bounds.proofs.Outlook.{put_front, all_cons}
 use Rattle.bundle_bounds.proofs.StayingOpen.{length-prospects, split_here, beside_is, open_beside, put_kept, shut_kept}
@@ -86,8 +87,8 @@ loop-index-preserved c =
     let modest = c.args.all.now.modest (c.loop-index.index - 1) no_prospect low in
     let a = c.adjustments_with-adjustments.result in
     let back : to_z w32 (of_z w32 a) ≡ a = omega (arith, ints) in
-    let worth : c.worth_of.result ≡ above_zero ((pos c.rated.result.now.rating +ℤ a) +ℤ pos c.hopes-later_ones.result) =
-    c.worth_of.ensures.value ∙ ap (λ x. above_zero ((pos c.rated.result.now.rating +ℤ x) +ℤ pos c.hopes-later_ones.result)) back in
+    let worth : c.worth_of.result ≡ above_zero ((pos c.rated.result.now.rating +ℤ a) +ℤ pos c.hopes_left-later_ones.result) =
+    c.worth_of.ensures.value ∙ ap (λ x. above_zero ((pos c.rated.result.now.rating +ℤ x) +ℤ pos c.hopes_left-later_ones.result)) back in
     let here : Prospect = record { place = one.place; course = one.course; worth = c.worth_of.result; price = one.price; credits = one.credits } in
     let P : Prospect → Type 0 = λ other. other.place < length c.args.wider.now.chosen.offer.now.menu.now.places in
     record {
@@ -108,12 +109,19 @@ loop-index-preserved c =
           split.one_is (are.budget_is ∙ ap (budget_left offer) chosen_is) (are.credits_is ∙ ap (credits_left offer) chosen_is)
           (are.courses_is ∙ ap (courses_left offer) chosen_is) c.stays_open.ensures)
           ∙ yes in
+          let kept_is = so_far ∙ ap (λ n. prospects offer places (filter (is_open offer places) (drop n others))) next in
+          let fewer = hopes_fewer offer places one.place (is_open offer places) later _ (rest_of_room room start whole ∙ kept_is) in
+          let hopes_are =
+          c.hopes_left-later_ones.ensures.value (hopes offer one.place later)
+          (worth_without offer before places c.args.wider.now.last one.place later one c.rated.result.now a c.adjustment.result _ split.one_is
+          c.rated.ensures.value chosen_is c.adjustments_with-adjustments.ensures.value c.adjustment.ensures.value (omega (arith, ints)))
+          fewer in
           put_kept offer places one.place later room start here some within opened
-          (so_far ∙ ap (λ n. prospects offer places (filter (is_open offer places) (drop n others))) next)
+          kept_is
           (beside_is c.args.wider.now.chosen.offer.now.menu.now c.args.wider.now.chosen.offer.now.prices.now c.args.wider.now.chosen.offer.now.budget.0
           c.args.wider.now.chosen.offer.now.allowed.now before places one.place later _ one c.rated.result.now
-          c.worth_of.result a c.hopes-later_ones.result split.one_is c.rated.ensures.value worth c.adjustments_with-adjustments.ensures.value
-          c.hopes-later_ones.ensures.value
+          c.worth_of.result a c.hopes_left-later_ones.result split.one_is c.rated.ensures.value worth c.adjustments_with-adjustments.ensures.value
+          hopes_are
           ∙ ap (λ l. prospect offer places one.place (map (λ (p : Prospect). p.place) l)) (rest_of_room room start whole))
           ∙ ap (λ l. prospects offer places (filter (is_open offer places) l)) split.front;
       modest =
