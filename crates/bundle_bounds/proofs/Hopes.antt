@@ -2,7 +2,6 @@
 use Rattle.std.proofs.Common.{◌≡◌, ℕ, ◌≤◌, ◌+◌, Bool, true, false, List, [], ◌∷◌, ◌++◌, map, Some, sym, ap, subst, ◌∙◌, arith, inl, inr}
 use Rattle.std.specs.Prelude.{ℤ, pos, ◌+ℤ◌, ◌-ℤ◌, slice_get, filter}
 use Rattle.std.proofs.lemmas.Int.{ints}
-use Rattle.std.proofs.lemmas.Bool.{cases_Bool}
 use Rattle.market_units.specs.Totals.{total, signed_total}
 use Rattle.bundle_rules.specs.declared.menu.Rated.{Rated}
 use Rattle.bundle_rules.specs.Menus.{adjustment_in, rating_at}
@@ -11,16 +10,9 @@ use Rattle.bundle_bounds.specs.declared.prospects.Prospect.{Prospect}
 use Rattle.bundle_bounds.specs.Offers.{OfferData}
 use Rattle.bundle_bounds.specs.Opens.{above_zero, hopes, prospect, prospects}
 use Rattle.bundle_bounds.proofs.Gains.{signed_total-append}
-use Rattle.bundle_bounds.proofs.Outlook.{total-map, places-prospects}
-
-total_filter : (f : ℕ → ℕ) (keep : ℕ → Bool) (xs : List ℕ) → total f (filter keep xs) ≤ total f xs
-total_filter f keep [] = omega arith
-total_filter f keep (x ∷ xs) =
-    let rest = total_filter f keep xs in
-    elim (cases_Bool (keep x)) [
-      | inl kept ↦ rw kept (omega (arith, rest))
-      | inr left ↦ rw left (omega (arith, rest))
-    ]
+use Rattle.bundle_rules.proofs.Parts.{total_filter}
+use Rattle.market_units.proofs.Sums.{total-map}
+use Rattle.bundle_bounds.proofs.Outlook.{places-prospects}
 
 -- those that are left of the later places can add no more than all of them
 pub hopes_fewer : (offer : OfferData) (cs : List ℕ) (place : ℕ) (keep : ℕ → Bool) (later : List ℕ) (kept : List Prospect)

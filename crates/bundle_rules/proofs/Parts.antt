@@ -1,6 +1,7 @@
 -- What is a part of a choice is a choice.
 use Rattle.std.proofs.Common.{◌≡◌, ◌<◌, ◌≤◌, ◌+◌, ℕ, Bool, true, List, [], ◌∷◌, length, arith, refl, subst, inl, inr}
-use Rattle.std.proofs.lemmas.Bool.{cases_order, false≢true}
+use Rattle.std.specs.List.{filter}
+use Rattle.std.proofs.lemmas.Bool.{cases_Bool, cases_order, false≢true}
 use Rattle.market_units.specs.Totals.{total}
 use Rattle.market_units.specs.Members.{has}
 use Rattle.bundle_rules.specs.Sets.{AllAbove, IsAscending}
@@ -71,3 +72,13 @@ choice_part w price budget allowed a b up part is =
 -- a section of a choice alone is a choice
 pub alone_part : (s : ℕ) (b : List ℕ) → has b s ≡ true → IsPart (s ∷ []) b
 alone_part s b is t in_it = elim (has-cases s [] t in_it) [ inl here ↦ subst (λ u. has b u ≡ true) here is | inr there ↦ absurd (false≢true there) ]
+
+-- the sum over what is left of a set is no greater
+pub total_filter : (f : ℕ → ℕ) (keep : ℕ → Bool) (xs : List ℕ) → total f (filter keep xs) ≤ total f xs
+total_filter f keep [] = omega arith
+total_filter f keep (x ∷ xs) =
+    let rest = total_filter f keep xs in
+    elim (cases_Bool (keep x)) [
+      | inl kept ↦ rw kept (omega (arith, rest))
+      | inr left ↦ rw left (omega (arith, rest))
+    ]

@@ -18,6 +18,7 @@ use Rattle.dropadd_desk.specs.declared.reply.HallReply.TheVariants as reply
 use Rattle.dropadd_desk.specs.declared.shared.HallState.{HallState}
 use Rattle.dropadd_desk.specs.Market.{Market, enrolled, offered, section_count, student_count}
 use Rattle.bundle_rules.specs.Sets.{without_section}
+use Rattle.bundle_rules.proofs.Parts.{total_filter}
 use Rattle.dropadd_desk.specs.Sets.{with_section}
 use Rattle.dropadd_desk.specs.Fits.{credits_of, fits, lowest_clash, exceeds_courses, exceeds_credits}
 use Rattle.dropadd_desk.specs.Halls.{IsHall}
@@ -33,15 +34,6 @@ use Rattle.dropadd_desk.proofs.Stepped.{first_none, has_at, so_none}
 use Rattle.dropadd_desk.proofs.Steps.{behind_keeps, held_here, held_there, without_keeps}
 
 -- sums over parts of a set
-total_filter : (f : ℕ → ℕ) (p : ℕ → Bool) (xs : List ℕ) → total f (filter p xs) ≤ total f xs
-total_filter f p [] = omega arith
-total_filter f p (x ∷ xs) =
-    let rest = total_filter f p xs in
-    elim (cases_Bool (p x)) [
-      | inl kept ↦ rw kept (omega (arith, rest))
-      | inr out ↦ rw out (omega (arith, rest))
-    ]
-
 total_parts : (f : ℕ → ℕ) (s : ℕ) (xs : List ℕ) → total f (filter (λ t. nat_lt t s) xs) + total f (filter (λ t. nat_lt s t) xs) ≤ total f xs
 total_parts f s [] = omega arith
 total_parts f s (x ∷ xs) =
