@@ -8,14 +8,13 @@ use Rattle.bundle_rules.specs.Menus.{section_at, credits_at, wishes_of}
 use Rattle.bundle_rules.specs.Places.{menu_sections}
 use Rattle.bundle_bounds.specs.Laws.{IsTakable, IsNode}
 use Rattle.bundle_bounds.specs.Offers.{OfferData, price_at}
-use Rattle.bundle_bounds.specs.Prunings.{MayPrune}
 use Rattle.bundle_bounds.proofs.Openings.{node_later, node_with, node_without}
 use Rattle.demand_oracle.specs.declared.summed_node.SummedNode.{SummedNode}
 use Rattle.demand_oracle.specs.declared.question.Question.{Question}
 use Rattle.demand_oracle.specs.Champions.{IsChampion}
 use Rattle.demand_oracle.specs.OpenWords.{Clashes, IsWordOf, StaysOpen, IsOpenWord}
-use Rattle.demand_oracle.specs.Questions.{IsQuestion, offer_asked, wanted_in}
-use Rattle.demand_oracle.specs.Search.{IsBetter, IsSearched}
+use Rattle.demand_oracle.specs.Questions.{IsQuestion, offer_asked, aim_of}
+use Rattle.demand_oracle.specs.Search.{IsBetter, IsSearched, MayBePruned}
 use Rattle.demand_oracle.specs.SummedNodes.{chosen_of, IsSummed}
 use Rattle.demand_oracle.proofs.OpenPlaces.{passed_here, shut_where_clear, allowed_alone, next_open, clear_before, word_falls, word_after, word_apart}
 use Rattle.demand_oracle.proofs.Openings.{takable_where_open_at, open_at_where_takable}
@@ -30,15 +29,15 @@ pub record GoesOn (question : Question) (summed first : SummedNode) (word : ℕ)
   pub is_word : IsOpenWord (offer_asked question) from (chosen_of summed) word
   pub is_champion : IsChampion (offer_asked question) champion
   pub same_result : (result : List ℕ)
-      → IsSearched (offer_asked question) (wanted_in question) from (chosen_of summed) (drop from (menu_sections question.offer.now.menu.now)) (chosen_of champion) result
-      → IsSearched (offer_asked question) (wanted_in question) summed.node.place (chosen_of summed)
+      → IsSearched (offer_asked question) (aim_of question) from (chosen_of summed) (drop from (menu_sections question.offer.now.menu.now)) (chosen_of champion) result
+      → IsSearched (offer_asked question) (aim_of question) summed.node.place (chosen_of summed)
       (drop summed.node.place (menu_sections question.offer.now.menu.now)) (chosen_of first) result
 
 -- what is compared at the end, of the sections that the nodes have chosen
 pub compared : (question : Question) (summed champion result : SummedNode)
-    → (IsBetter (wishes_of question.offer.now.menu.now) (wanted_in question) (chosen_of summed) (chosen_of champion) × (result ≡ summed))
-    ⊎ ((IsBetter (wishes_of question.offer.now.menu.now) (wanted_in question) (chosen_of summed) (chosen_of champion) → ⊥) × (result ≡ champion))
-    → (k : ℕ) → IsSearched (offer_asked question) (wanted_in question) k (chosen_of summed) [] (chosen_of champion) (chosen_of result)
+    → (IsBetter (wishes_of question.offer.now.menu.now) (aim_of question) (chosen_of summed) (chosen_of champion) × (result ≡ summed))
+    ⊎ ((IsBetter (wishes_of question.offer.now.menu.now) (aim_of question) (chosen_of summed) (chosen_of champion) → ⊥) × (result ≡ champion))
+    → (k : ℕ) → IsSearched (offer_asked question) (aim_of question) k (chosen_of summed) [] (chosen_of champion) (chosen_of result)
 compared question summed champion result (inl more) k = inl (more.0, ap chosen_of more.1)
 compared question summed champion result (inr none) k = inr (none.0, ap chosen_of none.1)
 
@@ -51,38 +50,38 @@ module _ (question : Question) (asked : IsQuestion question) (summed : SummedNod
   chosen = chosen_of summed
 
   abbrev Searched : ℕ → List ℕ → List ℕ → Type 0
-  Searched k champion result = IsSearched (offer_asked question) (wanted_in question) k (chosen_of summed) (drop k (menu_sections question.offer.now.menu.now)) champion result
+  Searched k champion result = IsSearched (offer_asked question) (aim_of question) k (chosen_of summed) (drop k (menu_sections question.offer.now.menu.now)) champion result
 
   -- as many sections are chosen as may be taken
   pub whole_searched : (champion result : List ℕ) → question.offer.now.menu.now.courses ≤ length (chosen_of summed)
-      → IsSearched (offer_asked question) (wanted_in question) summed.node.place (chosen_of summed) [] champion result
+      → IsSearched (offer_asked question) (aim_of question) summed.node.place (chosen_of summed) [] champion result
       → Searched summed.node.place champion result
   whole_searched champion result full ended =
-      full_to_end offer (wanted_in question) summed.node.place chosen (drop summed.node.place (menu_sections question.offer.now.menu.now)) champion result full ended
+      full_to_end offer (aim_of question) summed.node.place chosen (drop summed.node.place (menu_sections question.offer.now.menu.now)) champion result full ended
 
   -- the node is pruned
   pub lost_searched : (champion : List ℕ) → summed.node.place < length question.offer.now.menu.now.places
-      → MayPrune (offer_asked question) (wanted_in question) summed.node.place (chosen_of summed) champion → Searched summed.node.place champion champion
-  lost_searched champion low may = pruned_here offer (wanted_in question) summed.node.place chosen low champion may
+      → MayBePruned (offer_asked question) (aim_of question) summed.node.place (chosen_of summed) champion → Searched summed.node.place champion champion
+  lost_searched champion low may = pruned_here offer (aim_of question) summed.node.place chosen low champion may
 
   module _ (first : SummedNode) (word : ℕ) (champion : SummedNode) (on : GoesOn question summed first word champion) where
-    node_from : IsNode offer on.from chosen
+    pub node_from : IsNode (offer_asked question) on.from (chosen_of summed)
     node_from = node_later offer summed.node.place on.from chosen on.later node
 
     -- no place is open
     pub end_searched : (result : SummedNode) → word ≡ 0
-        → ((k : ℕ) → IsSearched (offer_asked question) (wanted_in question) k (chosen_of summed) [] (chosen_of champion) (chosen_of result))
+        → ((k : ℕ) → IsSearched (offer_asked question) (aim_of question) k (chosen_of summed) [] (chosen_of champion) (chosen_of result))
         → Searched summed.node.place (chosen_of first) (chosen_of result)
     end_searched result none ended =
         let n : ℕ = length question.offer.now.menu.now.places in
         on.same_result (chosen_of result) (elim (cases_lt on.from (length question.offer.now.menu.now.places)) [
           | inl before ↦
-              passed_here offer (wanted_in question) chosen on.from n (omega arith) (omega arith)
+              passed_here offer (aim_of question) chosen on.from n (omega arith) (omega arith)
               (λ p at below.
               shut_where_clear offer asked.menu on.from chosen node_from word on.is_word p at below (rw none (bit_at-zero p)))
               (chosen_of champion) (chosen_of result)
-              (ended_here offer (wanted_in question) n chosen (chosen_of champion) (chosen_of result) (omega arith) (ended n))
-          | inr past ↦ ended_here offer (wanted_in question) on.from chosen (chosen_of champion) (chosen_of result) past (ended on.from)
+              (ended_here offer (aim_of question) n chosen (chosen_of champion) (chosen_of result) (omega arith) (ended n))
+          | inr past ↦ ended_here offer (aim_of question) on.from chosen (chosen_of champion) (chosen_of result) past (ended on.from)
         ])
 
     module _ (fits : word < 2 ^ 64) (some : 0 < word) where
@@ -99,6 +98,9 @@ module _ (question : Question) (asked : IsQuestion question) (summed : SummedNod
       pub next_on_menu : trailing_zeros w64 word < length question.offer.now.menu.now.places
       next_on_menu = opened.on_menu
 
+      pub next_from : on.from ≤ trailing_zeros w64 word
+      next_from = opened.undecided
+
       -- the word of the places that clash with it
       pub next_clashes : IsWordOf (Clashes question.offer.now.menu.now (trailing_zeros w64 word)) (length question.offer.now.menu.now.places)
           (slice_index question.goods.now.clashes (trailing_zeros w64 word))
@@ -111,16 +113,16 @@ module _ (question : Question) (asked : IsQuestion question) (summed : SummedNod
       from_next : (result : List ℕ) → Searched place (chosen_of champion) result → Searched summed.node.place (chosen_of first) result
       from_next result searched =
           on.same_result result
-          (passed_here offer (wanted_in question) chosen on.from place opened.undecided (omega (arith, next_on_menu))
+          (passed_here offer (aim_of question) chosen on.from place opened.undecided (omega (arith, next_on_menu))
           (λ p at below.
           shut_where_clear offer asked.menu on.from chosen node_from word on.is_word p at (omega (arith, next_on_menu))
           (clear_before offer asked.menu on.from chosen word fits some on.is_word p below)) (chosen_of champion) result searched)
 
       -- the node is pruned there
-      pub prune_searched : MayPrune (offer_asked question) (wanted_in question) (trailing_zeros w64 word) (chosen_of summed) (chosen_of champion)
+      pub prune_searched : MayBePruned (offer_asked question) (aim_of question) (trailing_zeros w64 word) (chosen_of summed) (chosen_of champion)
           → Searched summed.node.place (chosen_of first) (chosen_of champion)
       prune_searched may =
-          from_next (chosen_of champion) (pruned_here offer (wanted_in question) place chosen next_on_menu (chosen_of champion) may)
+          from_next (chosen_of champion) (pruned_here offer (aim_of question) place chosen next_on_menu (chosen_of champion) may)
 
       -- its section is within what is left exactly where it may be taken
       pub fits_where_takable : IsTakable (offer_asked question) (chosen_of summed ++ section_at question.offer.now.menu.now.places (trailing_zeros w64 word) ∷ [])
@@ -151,7 +153,7 @@ module _ (question : Question) (asked : IsQuestion question) (summed : SummedNod
         later = omega (arith, next_later);
         is_word = word_later;
         is_champion = on.is_champion;
-        same_result = λ result searched. from_next result (shut_here offer (wanted_in question) place chosen next_on_menu (chosen_of champion) result shut searched);
+        same_result = λ result searched. from_next result (shut_here offer (aim_of question) place chosen next_on_menu (chosen_of champion) result shut searched);
       }
 
       module _ (takable : IsTakable (offer_asked question) (chosen_of summed ++ section_at question.offer.now.menu.now.places (trailing_zeros w64 word) ∷ [])) where
@@ -174,13 +176,13 @@ module _ (question : Question) (asked : IsQuestion question) (summed : SummedNod
             falls = word_falls offer asked.menu on.from chosen word fits some on.is_word
 
         module _ (new : SummedNode) (is_new : IsChampion (offer_asked question) new)
-            (searched : IsSearched (offer_asked question) (wanted_in question) (trailing_zeros w64 word + 1)
+            (searched : IsSearched (offer_asked question) (aim_of question) (trailing_zeros w64 word + 1)
             (chosen_of summed ++ section_at question.offer.now.menu.now.places (trailing_zeros w64 word) ∷ [])
             (drop (trailing_zeros w64 word + 1) (menu_sections question.offer.now.menu.now)) (chosen_of champion) (chosen_of new)) where
           open_searched : (result : List ℕ) → Searched (place + 1) (chosen_of new) result → Searched summed.node.place (chosen_of first) result
           open_searched result without =
               from_next result
-              (open_here offer (wanted_in question) place chosen next_on_menu (chosen_of champion) (chosen_of new) result takable searched without)
+              (open_here offer (aim_of question) place chosen next_on_menu (chosen_of champion) (chosen_of new) result takable searched without)
 
           -- it was taken, and is then left out
           pub taken_goes_on : GoesOn question summed first (bit_and word (bit_not w64 (1 * 2 ^ trailing_zeros w64 word % 2 ^ 64))) new
@@ -196,6 +198,6 @@ module _ (question : Question) (asked : IsQuestion question) (summed : SummedNod
           pub given_searched : question.given ≡ Some (trailing_zeros w64 word) → Searched summed.node.place (chosen_of first) (chosen_of new)
           given_searched given =
               open_searched (chosen_of new)
-              (none_wanted offer (wanted_in question) (place + 1) chosen (drop (place + 1) (menu_sections question.offer.now.menu.now)) (chosen_of new)
+              (none_wanted offer (aim_of question) (place + 1) chosen (drop (place + 1) (menu_sections question.offer.now.menu.now)) (chosen_of new)
               (node_without offer place chosen node_next)
               (λ bundle may completes. rw given (lacks_passed offer asked.menu place next_on_menu chosen node_next bundle may completes)))

@@ -1,5 +1,5 @@
 -- Words of open places, and the search that passes over the others.
-use Rattle.std.proofs.Common.{◌≡◌, ◌≢◌, ◌<◌, ◌≤◌, ◌+◌, ◌-◌, ◌*◌, ◌%◌, min, ◌^◌, ◌++◌, ℕ, zero, suc, Bool, true, ◌&&◌, not, List, [], ◌∷◌, length, drop, refl, sym, ◌∙◌, ap, subst, inl, inr, arith, w64}
+use Rattle.std.proofs.Common.{◌≡◌, ◌≢◌, ◌<◌, ◌≤◌, ◌+◌, ◌-◌, ◌*◌, ◌%◌, min, ◌^◌, ◌++◌, ℕ, zero, suc, true, ◌&&◌, not, List, [], ◌∷◌, length, drop, refl, sym, ◌∙◌, ap, subst, inl, inr, arith, w64}
 use Rattle.std.specs.Prelude.{bit_and}
 use Rattle.std.specs.Int.{bit_at, bit_not, trailing_zeros}
 use Rattle.std.proofs.lemmas.Bool.{cases_eq, cases_lt, true≢false, cases_Bool}
@@ -15,11 +15,10 @@ use Rattle.bundle_rules.proofs.Parts.{choice_part}
 use Rattle.bundle_bounds.specs.Offers.{OfferData, places_of, allowed_at}
 use Rattle.bundle_bounds.specs.Opens.{is_apart}
 use Rattle.bundle_bounds.specs.Laws.{IsTakable, IsNode}
-use Rattle.bundle_bounds.specs.Prunings.{MayPrune}
 use Rattle.bundle_bounds.proofs.ByPlace.{place_in-section_at}
 use Rattle.bundle_bounds.proofs.Openings.{node_later, open_where_takable}
 use Rattle.demand_oracle.specs.OpenWords.{IsAlone, IsWordOf, Clashes, StaysOpen, IsOpenWord}
-use Rattle.demand_oracle.specs.Search.{IsSearched}
+use Rattle.demand_oracle.specs.Search.{Aim, IsSearched, MayBePruned}
 use Rattle.demand_oracle.proofs.SummedNodes.{pruned_here, shut_here}
 
 -- a place that is apart from chosen ones with one more
@@ -30,30 +29,30 @@ apart_last offer (c ∷ cs) q p = elim (cases_Bool (clash_in offer.menu.clashes 
   | inr not_ ↦ rw not_ (apart_last offer cs q p)
 ]
 
-module _ (offer : OfferData) (wanted : List ℕ → Bool) (chosen : List ℕ) where
+module _ (offer : OfferData) (aim : Aim) (chosen : List ℕ) where
   -- so many places from k on may not be taken, and are passed over
   pass : (k gap : ℕ) → k + gap ≤ length offer.menu.places
       → ((p : ℕ) → k ≤ p → p < k + gap → IsTakable offer (chosen ++ section_at offer.menu.places p ∷ []) → ⊥) → (champion result : List ℕ)
-      → IsSearched offer wanted (k + gap) chosen (drop (k + gap) (menu_sections offer.menu)) champion result
-      → IsSearched offer wanted k chosen (drop k (menu_sections offer.menu)) champion result
+      → IsSearched offer aim (k + gap) chosen (drop (k + gap) (menu_sections offer.menu)) champion result
+      → IsSearched offer aim k chosen (drop k (menu_sections offer.menu)) champion result
   pass k zero high shut champion result searched =
       let none : k + 0 ≡ k = omega arith in
-      subst (λ n. IsSearched offer wanted n chosen (drop n (menu_sections offer.menu)) champion result) none searched
+      subst (λ n. IsSearched offer aim n chosen (drop n (menu_sections offer.menu)) champion result) none searched
   pass k (suc gap) high shut champion result searched =
       let next : k + suc gap ≡ (k + 1) + gap = omega arith in
-      shut_here offer wanted k chosen (omega arith) champion result (shut k (omega arith) (omega arith))
+      shut_here offer aim k chosen (omega arith) champion result (shut k (omega arith) (omega arith))
       (pass (k + 1) gap (omega arith) (λ p from below. shut p (omega arith) (omega arith)) champion result
-      (subst (λ n. IsSearched offer wanted n chosen (drop n (menu_sections offer.menu)) champion result) next searched))
+      (subst (λ n. IsSearched offer aim n chosen (drop n (menu_sections offer.menu)) champion result) next searched))
 
   -- the places from k on that are before another one may not be taken
   pub passed_here : (k place : ℕ) → k ≤ place → place ≤ length offer.menu.places
       → ((p : ℕ) → k ≤ p → p < place → IsTakable offer (chosen ++ section_at offer.menu.places p ∷ []) → ⊥) → (champion result : List ℕ)
-      → IsSearched offer wanted place chosen (drop place (menu_sections offer.menu)) champion result
-      → IsSearched offer wanted k chosen (drop k (menu_sections offer.menu)) champion result
+      → IsSearched offer aim place chosen (drop place (menu_sections offer.menu)) champion result
+      → IsSearched offer aim k chosen (drop k (menu_sections offer.menu)) champion result
   passed_here k place from high shut champion result searched =
       let gap : k + (place - k) ≡ place = omega arith in
       pass k (place - k) (omega arith) (λ p at below. shut p at (omega arith)) champion result
-      (subst (λ n. IsSearched offer wanted n chosen (drop n (menu_sections offer.menu)) champion result) (sym gap) searched)
+      (subst (λ n. IsSearched offer aim n chosen (drop n (menu_sections offer.menu)) champion result) (sym gap) searched)
 
 module _ (offer : OfferData) (menu : IsMenu offer.menu) (k : ℕ) (chosen : List ℕ) (node : IsNode offer k chosen) where
   -- a place whose section may be taken with the chosen ones stays open
@@ -149,18 +148,18 @@ module _ (offer : OfferData) (menu : IsMenu offer.menu) (k : ℕ) (chosen : List
   )
 
 -- a node that may be pruned at its next open place is searched
-pub pruned_at_next : (offer : OfferData) (menu : IsMenu offer.menu) (wanted : List ℕ → Bool) (k : ℕ) (chosen : List ℕ) → IsNode offer k chosen → (word : ℕ)
+pub pruned_at_next : (offer : OfferData) (menu : IsMenu offer.menu) (aim : Aim) (k : ℕ) (chosen : List ℕ) → IsNode offer k chosen → (word : ℕ)
     → word < 2 ^ 64 → 0 < word → IsOpenWord offer k chosen word → (champion : List ℕ)
-    → MayPrune offer wanted (trailing_zeros w64 word) chosen champion
-    → IsSearched offer wanted k chosen (drop k (menu_sections offer.menu)) champion champion
-pruned_at_next offer menu wanted k chosen node word fits some is champion may =
+    → MayBePruned offer aim (trailing_zeros w64 word) chosen champion
+    → IsSearched offer aim k chosen (drop k (menu_sections offer.menu)) champion champion
+pruned_at_next offer menu aim k chosen node word fits some is champion may =
     let opened = next_open offer menu k chosen word fits some is in
     let place : ℕ = trailing_zeros w64 word in
-    passed_here offer wanted chosen k place opened.undecided (omega (arith, opened.on_menu))
+    passed_here offer aim chosen k place opened.undecided (omega (arith, opened.on_menu))
     (λ p at below.
     shut_where_clear offer menu k chosen node word is p at (omega (arith, opened.on_menu)) (clear_before offer menu k chosen word fits some is p below))
     champion champion
-    (pruned_here offer wanted place chosen opened.on_menu champion may)
+    (pruned_here offer aim place chosen opened.on_menu champion may)
 
 module _ (offer : OfferData) (menu : IsMenu offer.menu) (k place : ℕ) (chosen : List ℕ) (low : place < length offer.menu.places) (word clashes : ℕ)
     (fits : word < 2 ^ 64) (clashes_fit : clashes < 2 ^ 64) (is : IsOpenWord offer k chosen word)

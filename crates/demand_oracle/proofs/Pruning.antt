@@ -1,5 +1,5 @@
 -- Where less can be reached from a node than its champion's utility, the champion is as good as all that completes it.
-use Rattle.std.proofs.Common.{◌≡◌, ◌≤◌, ◌<◌, ℕ, Bool, true, List, [], ◌∷◌, length, refl, sym, ◌∙◌, ap, subst, inl, inr, arith}
+use Rattle.std.proofs.Common.{◌≡◌, ◌≤◌, ◌<◌, ℕ, true, List, [], ◌∷◌, length, refl, sym, ◌∙◌, ap, subst, inl, inr, arith}
 use Rattle.std.specs.Prelude.{ℤ, pos, ◌+ℤ◌, ◌-ℤ◌, ◌*ℤ◌, ◌<ℤ◌, ◌≤ℤ◌, ◌^◌}
 use Rattle.std.proofs.lemmas.Int.{ints}
 use Rattle.market_units.specs.Totals.{total}
@@ -12,7 +12,7 @@ use Rattle.bundle_bounds.specs.Offers.{OfferData, places_of}
 use Rattle.demand_oracle.specs.Values.{hopes_from}
 use Rattle.demand_oracle.specs.Covers.{IsAdded}
 use Rattle.demand_oracle.specs.Reaches.{number_at, HoldsHopes}
-use Rattle.bundle_bounds.specs.Prunings.{MayPrune, ComesFirst}
+use Rattle.demand_oracle.specs.Search.{Aim, MayBePruned, WinsEachTie}
 
 -- what is compared at a node: what may be added, what is hoped for, both utilities, and what lacks
 pub record IsWeighed (offer : OfferData) (k : ℕ) (chosen champion : List ℕ) (added : ℤ) (hopes : ℕ) (u worth lacking : ℤ) : Type 0 where
@@ -23,7 +23,7 @@ pub record IsWeighed (offer : OfferData) (k : ℕ) (chosen champion : List ℕ) 
   pub lacks : lacking ≡ (worth -ℤ u) -ℤ pos hopes
   pub high : lacking ≤ℤ pos (2 ^ 34)
 
-module _ (offer : OfferData) (wanted : List ℕ → Bool) (k : ℕ) (chosen champion : List ℕ) (added : ℤ) (hopes : ℕ) (u worth lacking : ℤ)
+module _ (offer : OfferData) (aim : Aim) (k : ℕ) (chosen champion : List ℕ) (added : ℤ) (hopes : ℕ) (u worth lacking : ℤ)
     (is : IsWeighed offer k chosen champion added hopes u worth lacking) where
   -- a bundle that completes the node has no more than what is hoped for and added
   most_reached : (bundle : List ℕ)
@@ -34,7 +34,7 @@ module _ (offer : OfferData) (wanted : List ℕ → Bool) (k : ℕ) (chosen cham
   most_reached bundle reached = rw (is.u_is, is.hopes_are) reached
 
   -- less than the champion has can be reached
-  pub less_prunes : added <ℤ (pos 1000000 *ℤ lacking) → MayPrune offer wanted k chosen champion
+  pub less_prunes : added <ℤ (pos 1000000 *ℤ lacking) → MayBePruned offer aim k chosen champion
   less_prunes below bundle may is_wanted completes =
       let lacks = is.lacks in
       let high = is.high in
@@ -48,7 +48,7 @@ module _ (offer : OfferData) (wanted : List ℕ → Bool) (k : ℕ) (chosen cham
       ]
 
   -- no more than the champion has can be reached, and the champion comes first
-  pub no_more_prunes : added <ℤ (pos 1000000 *ℤ (lacking +ℤ pos 1)) → ComesFirst offer k chosen champion → MayPrune offer wanted k chosen champion
+  pub no_more_prunes : added <ℤ (pos 1000000 *ℤ (lacking +ℤ pos 1)) → WinsEachTie aim.name offer k chosen champion → MayBePruned offer aim k chosen champion
   no_more_prunes below first bundle may is_wanted completes =
       let lacks = is.lacks in
       let high = is.high in

@@ -11,16 +11,19 @@ use Rattle.bundle_rules.specs.Given.{IsBestOf}
 use Rattle.bundle_rules.specs.Extensions.{Extends}
 use Rattle.bundle_rules.specs.Existence.Members.{has-here, has-there, has-above, IsAscending-middle}
 use Rattle.bundle_rules.specs.Existence.Fronts.{choice_front}
-use Rattle.bundle_rules.specs.Existence.Extending.{with_or_without, nothing_later}
+use Rattle.bundle_rules.specs.Existence.Extending.{with_or_without}
 use Rattle.bundle_rules.proofs.BestBits.{choice_among}
 use Rattle.bundle_bounds.specs.Offers.{OfferData}
 use Rattle.bundle_bounds.specs.Laws.{IsTakable, IsNode, Completes}
 use Rattle.bundle_bounds.proofs.NodeFacts.{nothing_chosen}
 use Rattle.bundle_bounds.proofs.Openings.{node_with, node_without}
-use Rattle.bundle_bounds.specs.Prunings.{IsAsGood}
-use Rattle.demand_oracle.specs.Search.{IsSearched, LeadsWanted}
-use Rattle.demand_oracle.specs.Laws.{SearchFindsTheBest}
-use Rattle.demand_oracle.proofs.Goodness.{as_good_trans, as_good_where_other, as_good_where_not, over_other}
+use Rattle.demand_oracle.specs.Names.{AreNames, IsPreferredByName}
+use Rattle.demand_oracle.specs.Search.{Aim, IsAsGoodByName, IsSearched, LeadsAim, LeadsWanted}
+use Rattle.demand_oracle.specs.Laws.{SearchFindsTheBest, OwnNumbersAreNames}
+use Rattle.bundle_rules.specs.Preferences.{IsPreferred}
+use Rattle.demand_oracle.proofs.Goodness as plain
+use Rattle.demand_oracle.proofs.Naming.{lowest_first}
+use Rattle.demand_oracle.proofs.NamedGoodness.{as_good_trans, as_good_where_not, over_other}
 
 -- the sections of places
 abbrev pub sections : List Rated → List ℕ
@@ -81,46 +84,39 @@ module _ (offer : OfferData) (menu : IsMenu offer.menu) where
       (λ is. decided_section offer.menu.places k place menu.places.ascending low on (extends.among _ is))
 
   -- what a search leaves: as good as the champion before and as all below the node that are wanted
-  pub record IsFound (wanted : List ℕ → Bool) (chosen undecided champion result : List ℕ) : Type 0 where
+  pub record IsFound (aim : Aim) (chosen undecided champion result : List ℕ) : Type 0 where
     pub takable : IsTakable offer result
-    pub over_champion : IsAsGood offer result champion
-    pub over_all : (bundle : List ℕ) → IsTakable offer bundle → wanted bundle ≡ true → Extends chosen undecided bundle → IsAsGood offer result bundle
+    pub over_champion : IsAsGoodByName aim.name offer result champion
+    pub over_all : (bundle : List ℕ) → IsTakable offer bundle → aim.wanted bundle ≡ true → Extends chosen undecided bundle → IsAsGoodByName aim.name offer result bundle
 
   -- what extends the chosen sections by nothing is the chosen sections
-  over_extensions : (chosen : List ℕ) → IsTakable offer chosen → (bundle : List ℕ) → IsTakable offer bundle → Extends chosen [] bundle
-      → IsAsGood offer chosen bundle
-  over_extensions chosen takable bundle is extends =
-      as_good_where_other offer chosen bundle takable.feasible.set is.feasible.set
-      ((nothing_later (wishes_of offer.menu) offer.price offer.budget offer.allowed chosen takable).preferred bundle is extends)
-
   no_more : (front other : List ℕ) (e : Extends front [] other) (more : List ℕ) → e.more ≡ more → other ≡ front
   no_more front other e [] is = e.whole ∙ ap (λ xs. front ++ xs) is ∙ append-nil front
   no_more front other e (x ∷ xs) is = absurd (true≢false (sym (e.among x (subst (λ ys. has ys x ≡ true) (sym is) (has-here x xs)))))
 
-  module _ (wanted : List ℕ → Bool) where
+  module _ (aim : Aim) (names : AreNames (wishes_of offer.menu) aim.name) where
     finds : (k : ℕ) (chosen undecided champion result : List ℕ) → IsNode offer k chosen → undecided ≡ drop k (menu_sections offer.menu)
         → IsAscending (chosen ++ undecided) → IsTakable offer champion
-        → IsSearched offer wanted k chosen undecided champion result → IsFound wanted chosen undecided champion result
+        → IsSearched offer aim k chosen undecided champion result → IsFound aim chosen undecided champion result
     finds k chosen [] champion result node is up takable (inl more) =
-        subst (IsFound wanted chosen [] champion) (sym more.1)
+        subst (IsFound aim chosen [] champion) (sym more.1)
         record {
           takable = node.takable;
           over_champion = inr more.0.1;
-          over_all = λ bundle may is_wanted extends. over_extensions chosen node.takable bundle
-              may extends;
+          over_all = λ bundle may is_wanted extends. inl (no_more chosen bundle extends extends.more refl);
         }
     finds k chosen [] champion result node is up takable (inr none) =
-        subst (IsFound wanted chosen [] champion) (sym none.1) record {
+        subst (IsFound aim chosen [] champion) (sym none.1) record {
           takable = takable;
           over_champion = inl refl;
           over_all = λ bundle may is_wanted extends.
               let same : bundle ≡ chosen = no_more chosen bundle extends extends.more refl in
-              subst (IsAsGood offer champion) (sym same)
-              (as_good_where_not offer champion chosen takable.feasible.set node.takable.feasible.set
-              (λ more. none.0 (subst (λ b. wanted b ≡ true) same is_wanted, more)));
+              subst (IsAsGoodByName aim.name offer champion) (sym same)
+              (as_good_where_not offer aim.name names champion chosen takable node.takable
+              (λ more. none.0 (subst (λ b. aim.wanted b ≡ true) same is_wanted, more)));
         }
     finds k chosen (s ∷ undecided) champion result node is up takable (inl pruned) =
-        subst (IsFound wanted chosen (s ∷ undecided) champion) (sym pruned.1) record {
+        subst (IsFound aim chosen (s ∷ undecided) champion) (sym pruned.1) record {
           takable = takable;
           over_champion = inl refl;
           over_all =
@@ -139,9 +135,9 @@ module _ (offer : OfferData) (menu : IsMenu offer.menu) where
         both.3 in
         record {
           takable = second.takable;
-          over_champion = as_good_trans offer result both.0 champion second.over_champion first.over_champion;
+          over_champion = as_good_trans offer aim.name result both.0 champion second.over_champion first.over_champion;
           over_all = λ bundle may is_wanted extends. elim (with_or_without chosen s undecided bundle up may.feasible.set extends) [
-            | inl with_it ↦ as_good_trans offer result both.0 bundle second.over_champion (first.over_all bundle may is_wanted with_it)
+            | inl with_it ↦ as_good_trans offer aim.name result both.0 bundle second.over_champion (first.over_all bundle may is_wanted with_it)
             | inr without ↦ second.over_all bundle may is_wanted without
           ];
         }
@@ -164,20 +160,20 @@ module _ (offer : OfferData) (menu : IsMenu offer.menu) where
         }
 
   -- a search that begins with a wanted champion leaves a wanted one
-  stays_wanted : (wanted : List ℕ → Bool) (k : ℕ) (chosen undecided champion result : List ℕ) → wanted champion ≡ true
-      → IsSearched offer wanted k chosen undecided champion result → wanted result ≡ true
-  stays_wanted wanted k chosen [] champion result fits (inl more) = subst (λ b. wanted b ≡ true) (sym more.1) more.0.0
-  stays_wanted wanted k chosen [] champion result fits (inr none) = subst (λ b. wanted b ≡ true) (sym none.1) fits
-  stays_wanted wanted k chosen (s ∷ undecided) champion result fits (inl pruned) = subst (λ b. wanted b ≡ true) (sym pruned.1) fits
-  stays_wanted wanted k chosen (s ∷ undecided) champion result fits (inr (inl both)) =
-      stays_wanted wanted (k + 1) chosen undecided both.0 result (stays_wanted wanted (k + 1) (chosen ++ s ∷ []) undecided champion both.0 fits both.2) both.3
-  stays_wanted wanted k chosen (s ∷ undecided) champion result fits (inr (inr shut)) = stays_wanted wanted (k + 1) chosen undecided champion result fits shut.1
+  stays_wanted : (aim : Aim) (k : ℕ) (chosen undecided champion result : List ℕ) → aim.wanted champion ≡ true
+      → IsSearched offer aim k chosen undecided champion result → aim.wanted result ≡ true
+  stays_wanted aim k chosen [] champion result fits (inl more) = subst (λ b. aim.wanted b ≡ true) (sym more.1) more.0.0
+  stays_wanted aim k chosen [] champion result fits (inr none) = subst (λ b. aim.wanted b ≡ true) (sym none.1) fits
+  stays_wanted aim k chosen (s ∷ undecided) champion result fits (inl pruned) = subst (λ b. aim.wanted b ≡ true) (sym pruned.1) fits
+  stays_wanted aim k chosen (s ∷ undecided) champion result fits (inr (inl both)) =
+      stays_wanted aim (k + 1) chosen undecided both.0 result (stays_wanted aim (k + 1) (chosen ++ s ∷ []) undecided champion both.0 fits both.2) both.3
+  stays_wanted aim k chosen (s ∷ undecided) champion result fits (inr (inr shut)) = stays_wanted aim (k + 1) chosen undecided champion result fits shut.1
 
   -- a search of all places leaves what leads all that is wanted
-  pub leads_wanted : (wanted : List ℕ → Bool) (champion result : List ℕ) → IsTakable offer champion
-      → IsSearched offer wanted 0 [] (menu_sections offer.menu) champion result → LeadsWanted offer wanted result
-  leads_wanted wanted champion result takable searched =
-      let found = finds wanted 0 [] (menu_sections offer.menu) champion result (nothing_chosen offer 0) refl menu.places.ascending takable searched in
+  pub leads_aim : (aim : Aim) (champion result : List ℕ) → AreNames (wishes_of offer.menu) aim.name → IsTakable offer champion
+      → IsSearched offer aim 0 [] (menu_sections offer.menu) champion result → LeadsAim offer aim result
+  leads_aim aim champion result names takable searched =
+      let found = finds aim names 0 [] (menu_sections offer.menu) champion result (nothing_chosen offer 0) refl menu.places.ascending takable searched in
       record {
         takable = found.takable;
         over =
@@ -186,9 +182,9 @@ module _ (offer : OfferData) (menu : IsMenu offer.menu) where
       }
 
   -- and a wanted one, where it began with one
-  pub wanted_at_end : (wanted : List ℕ → Bool) (champion result : List ℕ) → wanted champion ≡ true
-      → IsSearched offer wanted 0 [] (menu_sections offer.menu) champion result → wanted result ≡ true
-  wanted_at_end wanted champion result = stays_wanted wanted 0 [] (menu_sections offer.menu) champion result
+  pub wanted_at_end : (aim : Aim) (champion result : List ℕ) → aim.wanted champion ≡ true
+      → IsSearched offer aim 0 [] (menu_sections offer.menu) champion result → aim.wanted result ≡ true
+  wanted_at_end aim champion result = stays_wanted aim 0 [] (menu_sections offer.menu) champion result
 
 -- what leads all that is wanted, and is wanted, is the best of it
 pub best_of_wanted : (offer : OfferData) (wanted : List ℕ → Bool) (bundle : List ℕ) → LeadsWanted offer wanted bundle → wanted bundle ≡ true
@@ -196,10 +192,27 @@ pub best_of_wanted : (offer : OfferData) (wanted : List ℕ → Bool) (bundle : 
 best_of_wanted offer wanted bundle leads fits = record {
   choice = leads.takable;
   is_wanted = fits;
-  preferred = λ other is is_wanted apart. over_other offer bundle other apart (leads.over other is is_wanted);
+  preferred = λ other is is_wanted apart. plain.over_other offer bundle other apart (leads.over other is is_wanted);
 }
 
 pub search_finds_the_best : SearchFindsTheBest
-search_finds_the_best offer wanted champion result menu takable fits searched =
-    best_of_wanted offer wanted result (leads_wanted offer menu wanted champion result takable searched)
-    (wanted_at_end offer menu wanted champion result fits searched)
+search_finds_the_best offer aim champion result menu names takable fits searched =
+    let leads = leads_aim offer menu aim champion result names takable searched in
+    record {
+      takable = leads.takable;
+      is_wanted = wanted_at_end offer menu aim champion result fits searched;
+      preferred = λ other is is_wanted apart. over_other offer aim.name result other apart (leads.over other is is_wanted);
+    }
+
+by_number : (offer : OfferData) (a b : List ℕ) → IsTakable offer a → IsTakable offer b → IsPreferredByName (λ s. s) (wishes_of offer.menu) a b
+    → IsPreferred (wishes_of offer.menu) a b
+by_number offer a b may may' (inl more) = inl more
+by_number offer a b may may' (inr tie) = inr (tie.0, lowest_first a b may.feasible.set may'.feasible.set tie.1)
+
+-- where each section is called by its own number, it is the best as ever
+pub own_numbers_are_names : OwnNumbersAreNames
+own_numbers_are_names offer wanted bundle best = record {
+  choice = best.takable;
+  is_wanted = best.is_wanted;
+  preferred = λ other is is_wanted apart. by_number offer bundle other best.takable is (best.preferred other is is_wanted apart);
+}

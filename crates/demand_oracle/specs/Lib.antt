@@ -4,6 +4,7 @@ pub mod Champions
 pub mod Columns
 pub mod Covers
 pub mod Laws
+pub mod Names
 pub mod OpenWords
 pub mod Questions
 pub mod Reaches

@@ -2,20 +2,21 @@
 ghost use Rattle.std.specs.Prelude.{◌≡◌, ◌<◌, ◌≤◌, ◌+◌, ◌-◌, ◌⊎◌, ◌↔◌, ℕ, List, Some, IfSome, IsTrue, length, slice_index, drop};
 ghost use Rattle.market_units.specs.declared.limits.TheConstants.{MAX_RATINGS};
 ghost use Rattle.bundle_rules.specs.{Bundles.sections_of, Menus.wishes_of, Menus.credits_at};
-ghost use Rattle.bundle_rules.specs.{Places.menu_sections, Wishes.IsFeasible};
+ghost use Rattle.bundle_rules.specs.{Places.menu_sections};
 ghost use Rattle.bundle_bounds.specs.{Laws.IsNode, Offers.price_at};
-ghost use Rattle.bundle_bounds.specs.Prunings.{MayPrune};
 ghost use Rattle.demand_oracle.specs.{Champions.IsChampion, Columns.IsColumnFor};
 ghost use Rattle.demand_oracle.specs.OpenWords.{IsOpenWord};
-ghost use Rattle.demand_oracle.specs.Questions.{IsQuestion, offer_asked, wanted_in};
-ghost use Rattle.demand_oracle.specs.Search.{wanted_by, IsBetter, IsSearched};
-ghost use Rattle.demand_oracle.specs.SummedNodes.{chosen_of, with_place_of, IsSummed, IsSummedOf};
+ghost use Rattle.demand_oracle.specs.Questions.{IsQuestion, offer_asked, aim_of};
+ghost use Rattle.demand_oracle.specs.Search.{wanted_by, IsBetter, IsSearched, MayBePruned};
+ghost use Rattle.demand_oracle.specs.SummedNodes.{chosen_of, with_place_of, IsSummedOf};
 
+use crate::closing::prunes;
+use crate::names::word_of;
 use crate::question::Question;
 use crate::reach::{Column, is_below, lacking};
 use crate::step::Step;
 use crate::summed_node::SummedNode;
-use bundle_rules::{Bundle, Menu, prefers};
+use bundle_rules::{Bundle, Rows};
 
 /// Searches what completes a node, and leaves the best of that and of the champion. The word has a
 /// bit for each undecided place that may be taken alone and clashes with no chosen one. How many
@@ -33,7 +34,7 @@ pub(crate) fn below(
         (chosen_of summed.now) word }
     requires champion { IsChampion (offer_asked question.now) champion.old }
     ensures champion { IsChampion (offer_asked question.now) champion.new }
-    ensures searched { IsSearched (offer_asked question.now) (wanted_in question.now)
+    ensures searched { IsSearched (offer_asked question.now) (aim_of question.now)
         summed.now.node.place (chosen_of summed.now)
         (drop summed.now.node.place (menu_sections (offer_asked question.now).menu))
         (chosen_of champion.old) (chosen_of champion.new) }
@@ -41,7 +42,7 @@ pub(crate) fn below(
     let menu = question.offer.menu;
     let reach = question.reach;
     if summed.courses_left(menu) == 0 {
-        put_better(menu, question.given, summed, champion);
+        put_better(question, summed, champion);
         return 0;
     }
     if is_lost(question, summed, word) {
@@ -53,7 +54,7 @@ pub(crate) fn below(
     'places: while left != 0 {
         let place = left.trailing_zeros() as u8;
         opened = opened.saturating_add(1);
-        if reach.prunes(menu, &column, summed, place, champion) {
+        if prunes(question, &column, summed, place, left, champion) {
             return opened;
         }
         left &= !(1u64 << place);
@@ -75,7 +76,7 @@ pub(crate) fn below(
             return opened;
         }
     }
-    put_better(menu, question.given, summed, champion);
+    put_better(question, summed, champion);
     opened
 }
 
@@ -120,7 +121,7 @@ fn falls_short(
         (with_place_of (offer_asked question.now).menu summed.now place) apart }
     requires champion { IsChampion (offer_asked question.now) champion.now }
     ensures { IsTrue result
-        → IsSearched (offer_asked question.now) (wanted_in question.now) (place + 1)
+        → IsSearched (offer_asked question.now) (aim_of question.now) (place + 1)
         (with_place_of (offer_asked question.now).menu summed.now place)
         (drop (place + 1) (menu_sections (offer_asked question.now).menu))
         (chosen_of champion.now) (chosen_of champion.now) }
@@ -182,7 +183,7 @@ fn is_lost(question: &Question, summed: &SummedNode, word: u64) -> bool
     ensures undecided { IsTrue result
         → summed.now.node.place < length (offer_asked question.now).menu.places }
     ensures lost { (champion : List ℕ) → IsTrue result
-        → MayPrune (offer_asked question.now) (wanted_in question.now) summed.now.node.place
+        → MayBePruned (offer_asked question.now) (aim_of question.now) summed.now.node.place
         (chosen_of summed.now) champion }
 {
     match question.given {
@@ -212,7 +213,7 @@ fn is_given(given: Option<u8>, place: u8) -> bool
 
 // Whether the bundle has the section of the given place, where one is given.
 #[inline(always)]
-fn is_wanted(menu: &Menu, given: Option<u8>, bundle: &Bundle) -> bool
+fn is_wanted(menu: &Rows, given: Option<u8>, bundle: &Bundle) -> bool
     requires { IfSome given (λ place. place < length menu.now.places) }
     ensures { result ≡ wanted_by menu.now given (sections_of bundle.now) }
 {
@@ -225,27 +226,41 @@ fn is_wanted(menu: &Menu, given: Option<u8>, bundle: &Bundle) -> bool
 // Puts the node in the place of the champion, where its sections are wanted and preferred to those
 // of the champion.
 #[inline(always)]
-fn put_better(menu: &Menu, given: Option<u8>, summed: &SummedNode, champion: &mut SummedNode)
-    requires given { IfSome given (λ place. place < length menu.now.places) }
-    requires summed { (price : ℕ → ℕ) × IsSummed menu.now price summed.now }
-    requires champion { (price : ℕ → ℕ) × IsSummed menu.now price champion.old }
-    requires chosen { IsFeasible (wishes_of menu.now) (chosen_of summed.now) }
-    requires held { IsFeasible (wishes_of menu.now) (chosen_of champion.old) }
-    ensures { (IsBetter (wishes_of menu.now) (wanted_by menu.now given) (chosen_of summed.now)
-        (chosen_of champion.old)
+fn put_better(question: &Question, summed: &SummedNode, champion: &mut SummedNode)
+    requires question { IsQuestion question.now }
+    requires summed { IsSummedOf (offer_asked question.now) summed.now }
+    requires champion { IsSummedOf (offer_asked question.now) champion.old }
+    ensures { (IsBetter (wishes_of (offer_asked question.now).menu) (aim_of question.now)
+        (chosen_of summed.now) (chosen_of champion.old)
         × (champion.new ≡ summed.now))
-        ⊎ ((¬ IsBetter (wishes_of menu.now) (wanted_by menu.now given) (chosen_of summed.now)
-        (chosen_of champion.old))
+        ⊎ ((¬ IsBetter (wishes_of (offer_asked question.now).menu) (aim_of question.now)
+        (chosen_of summed.now) (chosen_of champion.old))
         × (champion.new ≡ champion.old)) }
 {
-    if !is_wanted(menu, given, &summed.node.chosen) {
-        return;
+    if is_better(question, summed, champion) {
+        *champion = *summed;
+    }
+}
+
+// Whether the node's sections are wanted and preferred to those of the champion.
+#[inline(always)]
+fn is_better(question: &Question, summed: &SummedNode, champion: &SummedNode) -> bool
+    requires question { IsQuestion question.now }
+    requires summed { IsSummedOf (offer_asked question.now) summed.now }
+    requires champion { IsSummedOf (offer_asked question.now) champion.now }
+    ensures { IsTrue result
+        ↔ IsBetter (wishes_of (offer_asked question.now).menu) (aim_of question.now)
+        (chosen_of summed.now) (chosen_of champion.now) }
+{
+    if !is_wanted(question.offer.menu, question.given, &summed.node.chosen) {
+        return false;
     }
     if summed.utility() < champion.utility() {
-        return;
+        return false;
     }
-    if !prefers(menu, &summed.node.chosen, &champion.node.chosen) {
-        return;
+    if champion.utility() < summed.utility() {
+        return true;
     }
-    *champion = *summed;
+    let word = word_of(champion.places());
+    question.names.stand_first(summed.places(), word)
 }

@@ -12,7 +12,7 @@ use crate::step::Step;
 use crate::summed_node::SummedNode;
 use crate::tables::{MOST_PLACES, PLACES};
 use bundle_bounds::{Offer, price_of_place};
-use bundle_rules::Menu;
+use bundle_rules::Rows;
 
 // Rows by place, so that a search reads one number where it asks one thing. Bit q of a word stands
 // for place q.
@@ -61,7 +61,7 @@ fn prices_of(offer: &Offer) -> [u32; PLACES]
 }
 
 // The credits of each place.
-fn credits_of(menu: &Menu) -> [u16; PLACES]
+fn credits_of(menu: &Rows) -> [u16; PLACES]
     ensures { (place : ℕ) → place < length menu.now.places
         → slice_index result place ≡ credits_at menu.now.places place }
 {

@@ -7,19 +7,23 @@ ghost use Rattle.bundle_rules.specs.Demand.{price_in, HasPrices, IsBest};
 ghost use Rattle.bundle_rules.specs.Given.{IsBestWith, SomeHas};
 ghost use Rattle.bundle_rules.specs.Menus.{wishes_of, section_at};
 ghost use Rattle.market_units.specs.Members.{has};
-ghost use Rattle.bundle_bounds.specs.{Laws.IsTakable, Views.data_of};
+ghost use Rattle.bundle_bounds.specs.{Laws.IsTakable, Offers.offer_of, Views.data_of};
 ghost use Rattle.demand_oracle.specs.{Beside.LeadsThoseWithout, Champions.IsChampion};
-ghost use Rattle.demand_oracle.specs.Search.{wanted_by, LeadsWanted};
+ghost use Rattle.demand_oracle.specs.Search.{aim_by, wanted_by, LeadsAim, LeadsWanted};
+ghost use Rattle.demand_oracle.specs.Names.{HoldsNames};
 ghost use Rattle.demand_oracle.specs.SummedNodes.{chosen_of};
 
 use crate::asked::Asked;
 use crate::below::below;
 use crate::goods::Goods;
+use crate::names::Names;
 use crate::question::Question;
-use crate::reach::{Reach, begun_with, places_in};
+use crate::reach::{Reach, begun_with};
+use crate::renaming::{allowed_in_order, given_in_order, positions_of, prices_in_order};
 use crate::spot::Spot;
 use crate::step::{Step, node_of};
 use crate::summed_node::SummedNode;
+use crate::tables::MOST_PLACES;
 use bundle_bounds::Offer;
 use bundle_rules::{Bundle, Menu, prefers};
 use market_units::{NoMemory, SectionNo, SectionSet, Tokens};
@@ -87,7 +91,7 @@ pub fn demand(
         (sections_of result) }
 {
     let offer = Offer {
-        menu,
+        menu: menu.rows(),
         prices,
         budget,
         allowed,
@@ -96,7 +100,7 @@ pub fn demand(
         offer: &offer,
         given: None,
     };
-    search(&mut workspace.frames, &asked, None)
+    search(&mut workspace.frames, menu, &asked, None)
 }
 
 /// The same, found sooner where this bundle, or what may be taken of it, is nearly the best. Any
@@ -114,7 +118,7 @@ pub fn demand_from(
         (sections_of result) }
 {
     let offer = Offer {
-        menu,
+        menu: menu.rows(),
         prices,
         budget,
         allowed,
@@ -123,7 +127,7 @@ pub fn demand_from(
         offer: &offer,
         given: None,
     };
-    search(&mut workspace.frames, &asked, Some(first))
+    search(&mut workspace.frames, menu, &asked, Some(first))
 }
 
 /// The best bundle with a given section: the feasible one of allowed sections with this one among
@@ -148,17 +152,17 @@ pub fn demand_with(
 {
     workspace.frames.opened = 0;
     let offer = Offer {
-        menu,
+        menu: menu.rows(),
         prices,
         budget,
         allowed,
     };
-    let place = place_alone(&offer, section)?;
+    let place = place_alone(menu, &offer, section)?;
     let asked = Asked {
         offer: &offer,
         given: Some(place),
     };
-    let bundle = search(&mut workspace.frames, &asked, None);
+    let bundle = search(&mut workspace.frames, menu, &asked, None);
     Some(bundle)
 }
 
@@ -183,12 +187,12 @@ pub fn demand_beside(
 {
     workspace.frames.opened = 0;
     let offer = Offer {
-        menu,
+        menu: menu.rows(),
         prices,
         budget,
         allowed,
     };
-    let Some(place) = place_alone(&offer, section) else {
+    let Some(place) = place_alone(menu, &offer, section) else {
         return *first;
     };
     let given = Some(place);
@@ -196,7 +200,7 @@ pub fn demand_beside(
         offer: &offer,
         given,
     };
-    let found = search(&mut workspace.frames, &asked, Some(first));
+    let found = search(&mut workspace.frames, menu, &asked, Some(first));
     if prefers(menu, first, &found) {
         return *first;
     }
@@ -204,21 +208,22 @@ pub fn demand_beside(
 }
 
 // The place of a section that may be taken alone; `None` exactly where it may be in no bundle.
-fn place_alone(offer: &Offer, section: SectionNo) -> Option<u8>
+fn place_alone(menu: &Menu, offer: &Offer, section: SectionNo) -> Option<u8>
+    requires { menu.now ≡ offer.now.menu.now }
     ensures place { IfSome result
         (λ place. (place < length offer.now.menu.now.places)
-        × (section_at offer.now.menu.now.places place ≡ section.0)) }
+        × (section_at menu.now.places place ≡ section.0)) }
     ensures alone { IfSome result
         (λ place. IsTakable (data_of offer.now)
         (section_at offer.now.menu.now.places place ∷ [])) }
     ensures none { IfNone result
-        (¬ SomeHas (wishes_of offer.now.menu.now) (price_in offer.now.prices.now)
+        (¬ SomeHas (wishes_of menu.now) (price_in offer.now.prices.now)
         offer.now.budget.0 (set.contains offer.now.allowed.now)
         section.0) }
 {
-    let menu = offer.menu;
-    let place = menu.place(section);
-    if place >= menu.len() {
+    let rows = offer.menu;
+    let place = rows.place(section);
+    if place >= rows.len() {
         return None;
     }
     let root = SummedNode::root();
@@ -233,14 +238,15 @@ fn place_alone(offer: &Offer, section: SectionNo) -> Option<u8>
     Some(place)
 }
 
-// What the search below the root leaves. Where a first bundle is told, the search may begin with it,
-// and where a place is given too, it may end with it: with what is as good as all bundles with the
-// section.
-fn search(frames: &mut Frames, asked: &Asked, first: Option<&Bundle>) -> Bundle
-    ensures leads { LeadsWanted (data_of asked.now.offer.now)
-        (wanted_by asked.now.offer.now.menu.now asked.now.given) (sections_of result) }
-    ensures wanted { IfNone first.entry
-        (wanted_by asked.now.offer.now.menu.now asked.now.given (sections_of result) ≡ true) }
+// What the search below the root leaves. Where a first bundle is told, as a word of places, the
+// search may begin with it, and where a place is given too, it may end with it: with what is as good
+// as all bundles with the section.
+fn found(frames: &mut Frames, asked: &Asked, names: &Names, first: Option<u64>) -> SummedNode
+    requires { HoldsNames asked.now.offer.now.menu.now names.now }
+    ensures leads { LeadsAim (data_of asked.now.offer.now)
+        (aim_by asked.now.offer.now.menu.now asked.now.given names.now) (chosen_of result) }
+    ensures wanted { IfNone first
+        (wanted_by asked.now.offer.now.menu.now asked.now.given (chosen_of result) ≡ true) }
 {
     let offer = asked.offer;
     frames.reach.measure(offer);
@@ -252,17 +258,18 @@ fn search(frames: &mut Frames, asked: &Asked, first: Option<&Bundle>) -> Bundle
         given: asked.given,
         reach,
         goods: &goods,
+        names,
     };
     frames.opened = below(&question, &SummedNode::root(), goods.alone, &mut champion);
-    champion.node.chosen
+    champion
 }
 
 // The champion that a search begins with: where a place is given, its section alone, or what may be
 // taken of the first bundle where one is told; and where none is given a node that begins well, or
 // that of the first bundle where it is worth no less.
-fn first_champion(reach: &Reach, asked: &Asked, first: Option<&Bundle>) -> SummedNode
+fn first_champion(reach: &Reach, asked: &Asked, first: Option<u64>) -> SummedNode
     ensures champion { IsChampion (data_of asked.now.offer.now) result }
-    ensures wanted { IfNone first.entry
+    ensures wanted { IfNone first
         (wanted_by asked.now.offer.now.menu.now asked.now.given (chosen_of result) ≡ true) }
 {
     let offer = asked.offer;
@@ -270,10 +277,10 @@ fn first_champion(reach: &Reach, asked: &Asked, first: Option<&Bundle>) -> Summe
         return begun_beside(&Spot { offer, place }, first);
     }
     let drafted = begun_with(offer, reach.drafted(offer));
-    let Some(bundle) = first else {
+    let Some(word) = first else {
         return drafted;
     };
-    let begun = begun_with(offer, places_in(offer.menu, bundle));
+    let begun = begun_with(offer, word);
     if begun.utility() >= drafted.utility() {
         return begun;
     }
@@ -282,17 +289,51 @@ fn first_champion(reach: &Reach, asked: &Asked, first: Option<&Bundle>) -> Summe
 
 // The section of the given place alone, or what may be taken of the first bundle, where one is
 // told.
-fn begun_beside(spot: &Spot, first: Option<&Bundle>) -> SummedNode
+fn begun_beside(spot: &Spot, first: Option<u64>) -> SummedNode
     requires alone { IsTakable (data_of spot.now.offer.now)
         (section_at spot.now.offer.now.menu.now.places spot.now.place ∷ []) }
     ensures champion { IsChampion (data_of spot.now.offer.now) result }
-    ensures wanted { IfNone first.entry
+    ensures wanted { IfNone first
         (has (chosen_of result)
         (section_at spot.now.offer.now.menu.now.places spot.now.place) ≡ true) }
 {
     let offer = spot.offer;
     match first {
-        Some(bundle) => begun_with(offer, places_in(offer.menu, bundle)),
+        Some(word) => begun_with(offer, word),
         None => node_of(spot),
     }
+}
+
+// The best bundle of what is asked, found over the positions of the menu's search order. Where a
+// first bundle is told, the search may begin with it, and where a place is given too, it may end
+// with it: with what is as good as all bundles with the section.
+fn search(frames: &mut Frames, menu: &Menu, asked: &Asked, first: Option<&Bundle>) -> Bundle
+    requires { menu.now ≡ asked.now.offer.now.menu.now }
+    ensures leads { LeadsWanted
+        (offer_of menu.now asked.now.offer.now.prices.now asked.now.offer.now.budget.0
+        asked.now.offer.now.allowed.now)
+        (wanted_by menu.now asked.now.given) (sections_of result) }
+    ensures wanted { IfNone first.entry
+        (wanted_by menu.now asked.now.given (sections_of result) ≡ true) }
+{
+    let ranked = menu.ranked();
+    prove!(ranked.menu.len() <= MOST_PLACES);
+    prove!(ranked.rows.len() <= MOST_PLACES);
+    let prices = prices_in_order(&ranked, asked.offer);
+    let allowed = allowed_in_order(&ranked, asked.offer);
+    let offer = Offer {
+        menu: ranked.rows,
+        prices: &prices,
+        budget: asked.offer.budget,
+        allowed: &allowed,
+    };
+    let given = given_in_order(&ranked, asked);
+    let renamed = Asked {
+        offer: &offer,
+        given,
+    };
+    let names = Names::of(&ranked);
+    let word = positions_of(&ranked, first);
+    let best = found(frames, &renamed, &names, word);
+    ranked.named(&best.node.chosen)
 }

@@ -22,7 +22,7 @@ use crate::tables::{
 };
 use crate::unit::Unit;
 use bundle_bounds::Offer;
-use bundle_rules::{Bundle, Menu};
+use bundle_rules::{Bundle, Rows};
 use market_units::Tokens;
 
 // More than can be added at any node, in millionths of a point of utility.
@@ -32,7 +32,7 @@ const ENOUGH: u64 = 1 << 62;
 #[derive(Drop)]
 pub struct Reach {
     lightest: u16,
-    hopes: [[u16; PLACES]; ROWS],
+    pub(crate) hopes: [[u16; PLACES]; ROWS],
     multipliers: Multipliers,
     // What can be added where money is counted in units, and not at a multiplier.
     credits: Multipliers,
@@ -89,7 +89,7 @@ impl Reach {
     /// What is looked up in all places for the sections that a node has chosen. The table is one that
     /// was measured for the same menu and budget.
     #[inline(always)]
-    pub fn column(&self, menu: &Menu, budget: Tokens, summed: &SummedNode) -> Column
+    pub fn column(&self, menu: &Rows, budget: Tokens, summed: &SummedNode) -> Column
         ensures { IsColumn menu.now budget.0 self.now summed.now result }
     {
         self.column_for(
@@ -129,43 +129,6 @@ impl Reach {
             units: units as usize,
             paid,
         }
-    }
-
-    /// Whether nothing that completes the node where the places below this one are decided can be
-    /// better than the champion: less can be reached than its utility, or less than one more, and
-    /// the first decided section on which they differ is the champion's. So nothing that is wanted
-    /// can, whatever bundles are wanted. The table is one that was measured for the same menu and
-    /// budget, and the column is that of the node's sections.
-    #[inline(always)]
-    pub fn prunes(
-        &self,
-        menu: &Menu,
-        column: &Column,
-        summed: &SummedNode,
-        place: u8,
-        champion: &SummedNode,
-    ) -> bool
-        requires summed { (price : ℕ → ℕ) × IsSummed menu.now price summed.now }
-        requires place { place ≤ length menu.now.places }
-        ensures { (wanted : List ℕ → Bool) (prices : List Tokens) (budget : ℕ) (allowed : set.FinSet nat_cmp) → IsReach (offer_of menu.now prices budget allowed) self.now
-            → IsColumn menu.now budget self.now summed.now column.now
-            → IsSummed menu.now (price_in prices) summed.now → IsNode (offer_of menu.now prices budget allowed) place (chosen_of summed.now)
-            → IsSummed menu.now (price_in prices) champion.now → IsTakable (offer_of menu.now prices budget allowed) (chosen_of champion.now)
-            → IsTrue result → MayPrune (offer_of menu.now prices budget allowed) wanted place (chosen_of summed.now) (chosen_of champion.now) }
-    {
-        prove!(place <= menu.len());
-        let added = self.added(column, place);
-        let short = lacking(champion.utility(), summed.utility(), 0);
-        // Adjustments can only add, so they are looked up where the rest is too little.
-        if !is_below(added, short + 1) {
-            return false;
-        }
-        let hoped = hopes_of(&self.hopes[usize::from(place)], summed.places());
-        let lacking = lacking(champion.utility(), summed.utility(), hoped);
-        if is_below(added, lacking) {
-            return true;
-        }
-        is_below(added, lacking + 1) && summed.is_behind(place, champion)
     }
 
     /// The places of a node that begins well, as bits: chosen one after another, each the one that
@@ -210,7 +173,7 @@ impl Reach {
 }
 
 /// The places of a menu whose sections a bundle has, as bits.
-pub fn places_in(menu: &Menu, bundle: &Bundle) -> u64 {
+pub fn places_in(menu: &Rows, bundle: &Bundle) -> u64 {
     let mut word = 0;
     for place in 0..menu.len() {
         word |= u64::from(bundle.has(menu.rated(place).section)) << place;

@@ -1,18 +1,13 @@
 // A node of the search with its sums, so that nothing of it is computed anew.
-ghost use Rattle.std.specs.Prelude.{◌≡◌, ◌≤◌, ◌-◌, [], ℕ, List, IsTrue, length};
-ghost use Rattle.std.specs.Ordering.{nat_cmp};
-ghost use Rattle.std.specs.FinSet as set;
+ghost use Rattle.std.specs.Prelude.{◌≡◌, ◌≤◌, ◌-◌, [], ℕ, length};
 ghost use Rattle.market_units.specs.declared.limits.TheConstants.{MAX_COURSES};
-ghost use Rattle.market_units.specs.declared.units.Tokens.{Tokens};
-ghost use Rattle.bundle_rules.specs.Demand.{price_in};
-ghost use Rattle.bundle_rules.specs.Menus.{MenuData, IsMenu, wishes_of};
+ghost use Rattle.bundle_rules.specs.Menus.{MenuData, wishes_of};
 ghost use Rattle.bundle_rules.specs.Wishes.{utility};
-ghost use Rattle.bundle_bounds.specs.Laws.{IsTakable, IsNode};
-ghost use Rattle.bundle_bounds.specs.{Offers.offer_of, Offers.places_of, Prunings.ComesFirst};
+ghost use Rattle.bundle_bounds.specs.Offers.{places_of};
 
 use crate::tables::MOST_PLACES;
 use bundle_bounds::Node;
-use bundle_rules::{Bundle, Menu, is_ahead};
+use bundle_rules::{Bundle, Rows};
 use market_units::{MAX_COURSES, Tokens};
 
 const ROOM: usize = MAX_COURSES as usize;
@@ -75,7 +70,7 @@ impl SummedNode {
     }
 
     /// What they leave of the credit cap.
-    pub(crate) fn credits_left(&self, menu: &Menu) -> u32
+    pub(crate) fn credits_left(&self, menu: &Rows) -> u32
         ensures value { result ≡ menu.now.credits - self.now.credits }
         ensures high { result ≤ 65535 }
     {
@@ -83,23 +78,12 @@ impl SummedNode {
     }
 
     /// What they leave of the course cap.
-    pub(crate) fn courses_left(&self, menu: &Menu) -> u8
+    pub(crate) fn courses_left(&self, menu: &Rows) -> u8
         ensures value { result ≡ menu.now.courses - length (chosen_of self.now) }
         ensures high { result ≤ MAX_COURSES }
     {
         prove!(menu.len() <= MOST_PLACES);
         menu.courses()
             .saturating_sub(self.node.chosen.sections().len() as u8)
-    }
-
-    /// Whether the champion has the first section on which it differs from all that completes the
-    /// node where the places below this one are decided.
-    pub(crate) fn is_behind(&self, place: u8, champion: &SummedNode) -> bool
-        ensures { (menu : MenuData) (prices : List Tokens) (budget : ℕ) (allowed : set.FinSet nat_cmp) → IsMenu menu
-            → IsSummed menu (price_in prices) self.now → IsNode (offer_of menu prices budget allowed) place (chosen_of self.now)
-            → IsSummed menu (price_in prices) champion.now → IsTakable (offer_of menu prices budget allowed) (chosen_of champion.now) → IsTrue result
-            → ComesFirst (offer_of menu prices budget allowed) place (chosen_of self.now) (chosen_of champion.now) }
-    {
-        is_ahead(place, champion.places(), self.places())
     }
 }

@@ -11,7 +11,7 @@ use crate::multipliers::Multipliers;
 use crate::spot::Spot;
 use crate::unit::Unit;
 use bundle_bounds::{Offer, price_of_place};
-use bundle_rules::Menu;
+use bundle_rules::Rows;
 use market_units::{MAX_ADJUSTMENT, MAX_COURSES, MAX_RATINGS, MAX_SECTION_CREDITS};
 
 pub(crate) const ROWS: usize = MAX_RATINGS + 1;
@@ -127,7 +127,7 @@ pub(crate) fn put_most(
 }
 
 // Writes that no place is left to add anything.
-fn put_nothing(menu: &Menu, most: &mut Table)
+fn put_nothing(menu: &Rows, most: &mut Table)
     ensures { (count units : ℕ) → count ≤ MAX_COURSES
         → within_at most.new (length menu.now.places) count units ≡ 0 }
 {

@@ -1,6 +1,6 @@
 // A menu whose best bundle is plain to see, and made menus at which trying all bundles tells the
 // answer.
-ghost use Rattle.std.specs.Prelude.{◌<◌};
+ghost use Rattle.std.specs.Prelude.{◌≡◌, ◌<◌};
 
 use super::*;
 use bundle_bounds::Offer;
@@ -272,10 +272,11 @@ fn the_best_with_a_given_section(rt: HostRuntime) -> Result<(), Fail> {
 }
 
 // The best bundle, found beside the best one without a section.
-fn best_beside(workspace: &mut Workspace, offer: &Offer, section: SectionNo) -> Bundle
-    requires { section.0 < MAX_SECTIONS }
+fn best_beside(workspace: &mut Workspace, menu: &Menu, offer: &Offer, section: SectionNo) -> Bundle
+    requires menu { menu.now ≡ offer.now.menu.now }
+    requires section { section.0 < MAX_SECTIONS }
 {
-    let (menu, prices) = (offer.menu, offer.prices);
+    let prices = offer.prices;
     let fewer = offer.allowed.without(section);
     let first = demand(workspace, menu, prices, offer.budget, &fewer);
     demand_beside(
@@ -291,8 +292,15 @@ fn best_beside(workspace: &mut Workspace, offer: &Offer, section: SectionNo) -> 
 
 // The best bundle, found beside itself: where it has the section, the search begins with a bundle
 // that has it.
-fn best_beside_itself(workspace: &mut Workspace, offer: &Offer, section: SectionNo) -> Bundle {
-    let (menu, prices) = (offer.menu, offer.prices);
+fn best_beside_itself(
+    workspace: &mut Workspace,
+    menu: &Menu,
+    offer: &Offer,
+    section: SectionNo,
+) -> Bundle
+    requires { menu.now ≡ offer.now.menu.now }
+{
+    let prices = offer.prices;
     let first = demand(workspace, menu, prices, offer.budget, offer.allowed);
     demand_beside(
         workspace,
@@ -321,15 +329,15 @@ fn the_best_beside_one_without_a_section(rt: HostRuntime) -> Result<(), Fail> {
         let section = menu.rated(place).section;
         assert!(rt; has_prices(&menu, &prices));
         let offer = Offer {
-            menu: &menu,
+            menu: menu.rows(),
             prices: &prices,
             budget,
             allowed: &allowed,
         };
-        let best = best_beside(&mut workspace, &offer, section);
+        let best = best_beside(&mut workspace, &menu, &offer, section);
         let plain = demand(&mut workspace, &menu, &prices, budget, &allowed);
         assert!(rt; best == plain, "at turn {turn}");
-        let again = best_beside_itself(&mut workspace, &offer, section);
+        let again = best_beside_itself(&mut workspace, &menu, &offer, section);
         assert!(rt; again == plain, "at turn {turn}");
         with_it = with_it.wrapping_add(u32::from(best.has(section)));
         without = without.wrapping_add(u32::from(!best.has(section)));

@@ -1,8 +1,15 @@
 // Tables of small menus, and which nodes they prune, worked by hand.
 ghost use Rattle.std.specs.Prelude.{◌≤◌, length};
+ghost use Rattle.bundle_bounds.specs.Views.{data_of};
+ghost use Rattle.demand_oracle.specs.SummedNodes.{IsSummedOf};
 
 use super::*;
-use bundle_rules::{Rated, has_prices};
+use crate::closing::prunes;
+use crate::goods::Goods;
+use crate::names::Names;
+use crate::question::Question;
+use crate::tables::MOST_PLACES;
+use bundle_rules::{Menu, Rated, has_prices};
 use market_units::{SectionNo, SectionSet};
 use std::alloc::Global;
 use std::process::Abort;
@@ -49,11 +56,33 @@ fn menu_of<R: Abort>(rt: &R, alloc: Global, case: &Case) -> Menu {
     .expect(rt, "memory")
 }
 
-// Whether a node is pruned where the places below the step's are decided.
-fn is_pruned(reach: &Reach, step: &Step, champion: &SummedNode) -> bool {
+const ORDER: [u8; 3] = [0, 1, 2];
+
+// Whether a node is pruned where the places below the step's are decided, and each section is called
+// by its place.
+fn is_pruned(reach: &Reach, step: &Step, champion: &SummedNode) -> bool
+    requires { IsSummedOf (data_of step.now.offer.now) champion.now }
+{
     let offer = step.offer;
+    prove!(offer.menu.len() <= MOST_PLACES);
     let column = reach.column(offer.menu, offer.budget, step.summed);
-    reach.prunes(offer.menu, &column, step.summed, step.place, champion)
+    let goods = Goods::of(offer);
+    let mut before = [0; PLACES];
+    before[1] = 1;
+    before[2] = 3;
+    let names = Names {
+        order: &ORDER,
+        before,
+    };
+    let question = Question {
+        offer,
+        given: None,
+        reach,
+        goods: &goods,
+        names: &names,
+    };
+    let left = goods.alone >> step.place << step.place;
+    prunes(&question, &column, step.summed, step.place, left, champion)
 }
 
 // Which nodes of a menu without clashes and adjustments are pruned for a champion: that at the
@@ -136,20 +165,21 @@ fn prunings<R: Abort>(rt: &R, alloc: Global, case: &Pruned) -> [bool; 3] {
     assert!(rt; menu.len() >= 2);
     let all = SectionSet::full(3);
     let offer = Offer {
-        menu: &menu,
+        menu: menu.rows(),
         prices: case.prices,
         budget: case.budget,
         allowed: &all,
     };
     let bundle = Bundle::of(case.champion).expect(rt, "a bundle");
-    let champion = begun_with(&offer, places_in(&menu, &bundle));
+    let champion = begun_with(&offer, places_in(menu.rows(), &bundle));
     assert_eq!(rt; champion.node.chosen.sections(), case.champion);
     nodes_pruned(rt, &offer, &champion)
 }
 
 // The three nodes of a menu with two places at least.
 fn nodes_pruned<R: Abort>(rt: &R, offer: &Offer, champion: &SummedNode) -> [bool; 3]
-    requires { 2 ≤ length offer.now.menu.now.places }
+    requires two { 2 ≤ length offer.now.menu.now.places }
+    requires champion { IsSummedOf (data_of offer.now) champion.now }
 {
     let mut reach = Reach::empty();
     reach.measure(offer);
@@ -198,7 +228,7 @@ fn the_numbers_of_a_table(rt: HostRuntime) -> Result<(), Fail> {
     assert!(rt; has_prices(&menu, &prices));
     let all = SectionSet::full(4);
     let offer = Offer {
-        menu: &menu,
+        menu: menu.rows(),
         prices: &prices,
         budget: Tokens(0),
         allowed: &all,
@@ -223,7 +253,7 @@ fn the_numbers_of_a_table(rt: HostRuntime) -> Result<(), Fail> {
     // Without the third section nothing adds to the last.
     let without = all.without(SectionNo(2));
     let offer = Offer {
-        menu: &menu,
+        menu: menu.rows(),
         prices: &prices,
         budget: Tokens(0),
         allowed: &without,
@@ -252,7 +282,7 @@ fn what_so_many_units_are_enough_for(rt: HostRuntime) -> Result<(), Fail> {
     assert!(rt; has_prices(&menu, &prices));
     let all = SectionSet::full(2);
     let offer = Offer {
-        menu: &menu,
+        menu: menu.rows(),
         prices: &prices,
         budget: Tokens(30),
         allowed: &all,

@@ -4,10 +4,10 @@ use Rattle.std.specs.Int.{bit_not, trailing_zeros}
 use Rattle.std.proofs.lemmas.Bool.{true≢false}
 use Rattle.std.proofs.lemmas.Nat.{and_le_l}
 use Rattle.bundle_rules.specs.Menus.{section_at}
-use Rattle.demand_oracle.specs.Questions.{offer_asked, wanted_in}
+use Rattle.demand_oracle.specs.Questions.{offer_asked}
 use Rattle.demand_oracle.specs.SummedNodes.{chosen_of}
 use Rattle.demand_oracle.proofs.OpenPlaces.{word_falls}
-use Rattle.demand_oracle.proofs.Descending.{compared, next_clashes, whole_searched, lost_searched, end_searched, next_later, next_on_menu, node_next, prune_searched, fits_where_takable, takable_where_fits, shut_goes_on, node_taken, word_taken, taken_goes_on, given_searched}
+use Rattle.demand_oracle.proofs.Descending.{compared, next_clashes, whole_searched, lost_searched, end_searched, next_later, next_on_menu, node_from, next_from, prune_searched, fits_where_takable, takable_where_fits, shut_goes_on, node_taken, word_taken, taken_goes_on, given_searched}
 use Rattle.demand_oracle.proofs.below.+below.Goals as goal
 
 pub returns-then-courses_left-eq0-clause-searched : goal.returns-then-courses_left-eq0-clause-searched
@@ -32,11 +32,12 @@ pub returns-then-prunes-clause-searched : goal.returns-then-prunes-clause-search
 returns-then-prunes-clause-searched t c =
     prune_searched c.args.question.now c.requires.question c.args.summed.now c.requires.summed c.requires.node c.args.champion.now c.places.left c.places.champion
     c.places.invariant.goes_on (search rules) (omega arith)
-    (c.prunes.ensures (wanted_in c.args.question.now) c.args.question.now.offer.now.prices.now c.args.question.now.offer.now.budget.0 c.args.question.now.offer.now.allowed.now
-    c.requires.question.reach c.column-column.ensures c.requires.summed
-    (node_next c.args.question.now c.requires.question c.args.summed.now c.requires.summed c.requires.node c.args.champion.now c.places.left c.places.champion
+    (c.prunes.ensures c.places.invariant.goes_on.from c.requires.question c.column-column.ensures
+    (node_from c.args.question.now c.requires.question c.args.summed.now c.requires.summed c.requires.node c.args.champion.now c.places.left c.places.champion
+    c.places.invariant.goes_on)
+    (next_from c.args.question.now c.requires.question c.args.summed.now c.requires.summed c.requires.node c.args.champion.now c.places.left c.places.champion
     c.places.invariant.goes_on (search rules) (omega arith))
-    c.places.invariant.goes_on.is_champion.sums c.places.invariant.goes_on.is_champion.takable c.if-prunes.true)
+    c.places.invariant.goes_on.is_word c.places.invariant.goes_on.is_champion c.if-prunes.true)
 
 pub fits-requires : goal.fits-requires
 fits-requires t c =

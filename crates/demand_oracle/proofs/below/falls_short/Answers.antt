@@ -4,7 +4,7 @@ use Rattle.std.specs.Int.{trailing_zeros}
 use Rattle.std.proofs.lemmas.Int.{ints}
 use Rattle.bundle_rules.proofs.Feasibility.{utility_by_place}
 use Rattle.bundle_bounds.proofs.Openings.{node_later}
-use Rattle.demand_oracle.specs.Questions.{offer_asked, wanted_in}
+use Rattle.demand_oracle.specs.Questions.{offer_asked, aim_of}
 use Rattle.demand_oracle.specs.SummedNodes.{chosen_of, with_place_of}
 use Rattle.demand_oracle.proofs.Columns.{column_with, hopes_with}
 use Rattle.demand_oracle.proofs.OpenPlaces.{next_open, pruned_at_next}
@@ -50,9 +50,9 @@ returns c yes_ =
     let node = node_later offer (place + 1) next chosen opened.undecided c.requires.node in
     let test = c.is_below-2.ensures.0 yes_ in
     let below : c.added-added.result <ℤ (pos 1000000 *ℤ c.lacking-2.result) = omega (arith, ints, test) in
-    pruned_at_next offer c.requires.question.menu (wanted_in question) (place + 1) chosen c.requires.node c.args.apart (search rules) (omega arith)
+    pruned_at_next offer c.requires.question.menu (aim_of question) (place + 1) chosen c.requires.node c.args.apart (search rules) (omega arith)
     c.requires.word champion
-    (less_prunes offer (wanted_in question) next chosen champion c.added-added.result c.hoped_with-hoped.result c.utility_with-utility.result
+    (less_prunes offer (aim_of question) next chosen champion c.added-added.result c.hoped_with-hoped.result c.utility_with-utility.result
     c.utility-2.result c.lacking-2.result
     record {
       is_added =

@@ -1,4 +1,4 @@
-use Rattle.std.proofs.Common.{◌≡◌, ◌<◌, ◌≤◌, ◌+◌, ◌-◌, ◌*◌, ℕ, ◌∙◌, arith}
+use Rattle.std.proofs.Common.{◌≡◌, ◌≤◌, ◌+◌, ◌-◌, ◌*◌, ℕ, ◌∙◌, arith}
 use Rattle.demand_oracle.specs.Reaches.{number_at, within_at}
 use Rattle.demand_oracle.proofs.Hoping.{row_other}
 use Rattle.demand_oracle.proofs.tables.put_counts.Goals as goal
