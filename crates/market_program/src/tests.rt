@@ -1,9 +1,7 @@
 // The program over texts in memory. The cases named for what they show are worked examples that
 // were computed apart from this program.
 use market_edge::{Gate, MemoryShelf, MemorySink, MemoryWords, NoWords, OpenGate};
-use market_host::{
-    Cause, Finding, Status, answered, course_match, exit_code, no_memory_for_words,
-};
+use market_host::{Cause, Finding, Status, answered, course_match, exit_code, no_memory_for_words};
 use std::alloc::Global;
 use std::process::{Abort, ExitCode};
 use std::sync::Wait;
@@ -153,21 +151,9 @@ fn each_status_has_its_number(rt: HostRuntime) {
 
 // The words behind the program's name, the number with which the process ends, and what is written.
 const ENDS: [(&[u8], u8, &str); 6] = [
-    (
-        b"quote TWO TIE ann 10 1",
-        0,
-        "bundle ann [A]\nutility 50\n",
-    ),
-    (
-        b"quote TWO NONE ann 10 1",
-        2,
-        "input 2 can not be read\n",
-    ),
-    (
-        b"make 2 7 40 15 0",
-        5,
-        "no prices: least error 3\n",
-    ),
+    (b"quote TWO TIE ann 10 1", 0, "bundle ann [A]\nutility 50\n"),
+    (b"quote TWO NONE ann 10 1", 2, "input 2 can not be read\n"),
+    (b"make 2 7 40 15 0", 5, "no prices: least error 3\n"),
     (b"", 1, USAGE),
     (b"quote TWO TIE ann 10 \xff", 1, USAGE),
     (b"quote TWO TIE ann 10 1 \xff", 1, USAGE),
@@ -180,7 +166,9 @@ fn the_process_ends_with_the_number(rt: HostRuntime) -> Result<(), Fail> {
     for (line, number, text) in ENDS {
         let words = MemoryWords::make(bytes_of_words(rt.alloc(), line)?);
         let held = named_files(rt.alloc(), "TWO TIE")?;
-        let mut shelf = MemoryShelf::make(rt.alloc(), held, Vec::new(rt.alloc())).expect(&rt, "room");
+        let mut shelf = MemoryShelf::make(rt.alloc(), held, Vec::new(rt.alloc())).expect(
+            &rt, "room",
+        );
         let mut sink = MemorySink::make(rt.alloc(), 100, Vec::new(rt.alloc())).expect(&rt, "room");
         let code = exit_code(&rt, rt.alloc(), &words, &mut shelf, &mut sink, &OpenGate);
         assert_eq!(rt; code, ExitCode::from(number), "{text}");

@@ -176,7 +176,18 @@ fn a_failed_read_is_not_tried_again(rt: HostRuntime) -> Result<(), Fail> {
 #[test]
 fn the_named_file_is_opened(rt: HostRuntime) -> Result<(), Fail> {
     let names = [
-        "CAT", " CAT", "CAT ", "CAT\n", "./CAT", "../CAT", "a/../CAT", "cat", "C\u{c4}T", "CA\u{308}T", "-CAT", "",
+        "CAT",
+        " CAT",
+        "CAT ",
+        "CAT\n",
+        "./CAT",
+        "../CAT",
+        "a/../CAT",
+        "cat",
+        "C\u{c4}T",
+        "CA\u{308}T",
+        "-CAT",
+        "",
     ];
     for name in names {
         let files = Failing {
@@ -186,7 +197,11 @@ fn the_named_file_is_opened(rt: HostRuntime) -> Result<(), Fail> {
         };
         let mut shelf = FileShelf::new(&files);
         for other in names {
-            assert_eq!(rt; shelf.begin(other).is_ok(), other == name, "{other} of {name}");
+            assert_eq!(rt;
+                shelf.begin(other).is_ok(),
+                other == name,
+                "{other} of {name}"
+            );
         }
     }
     Ok(())
