@@ -11,7 +11,7 @@ use crate::chosen::Chosen;
 use crate::opens::{Rests, hopes, worth_of};
 use crate::places::adjustments_with;
 use crate::prospects::{Prospect, Prospects};
-use bundle_rules::Menu;
+use bundle_rules::Rows;
 use market_units::MAX_RATINGS;
 
 /// What is left of the budget, the credits and the courses once one more place is chosen; 0 where
@@ -58,7 +58,7 @@ fn stays_open(wider: &Widened, one: &Prospect) -> bool
 // What the adjustments of an open place with later ones can add, from what it added by itself before
 // the last place was chosen. Where that was its whole worth, no later place could add to it, so none
 // of those that are left can.
-fn hopes_left(menu: &Menu, one: &Prospect, before: i32, later: &[Prospect]) -> u32
+fn hopes_left(menu: &Rows, one: &Prospect, before: i32, later: &[Prospect]) -> u32
     requires on_menu { AreOn menu.now later.now }
     requires place { one.now.place < length menu.now.places }
     requires few { length later.now ≤ MAX_RATINGS }
