@@ -17,7 +17,6 @@ MayPrune offer wanted k chosen champion =
     (bundle : List ℕ) → IsTakable offer bundle → wanted bundle ≡ true
     → Completes offer k chosen bundle → IsAsGood offer champion bundle
 
--- for every takable bundle that completes the node: the first section that only one of it and the
 -- champion has is the champion's
 abbrev pub ComesFirst : OfferData → ℕ → List ℕ → List ℕ → Type 0
 ComesFirst offer k chosen champion =
