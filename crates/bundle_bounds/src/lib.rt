@@ -18,7 +18,7 @@ mod stems;
 mod tangents;
 mod words;
 
-pub use nodes::{Leaf, Node, bound, bound_closes, is_open};
+pub use nodes::{Leaf, Node, bound, bound_closes, is_open, is_open_in};
 pub use offer::Offer;
 pub use places::{adjustments_with, is_apart, price_of_place};
 pub use stems::Stem;

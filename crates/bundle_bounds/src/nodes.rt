@@ -6,7 +6,7 @@ ghost use Rattle.bundle_rules.specs.{Menus.wishes_of, Wishes.AllRated, Wishes.Is
 ghost use Rattle.bundle_bounds.specs.Ahead.{limit_of, first_pruning};
 ghost use Rattle.bundle_bounds.specs.Bounds.{bounds, HasBound, IsFirstPruning, NonePrunes};
 ghost use Rattle.bundle_bounds.specs.{Laws.IsNode, Offers.offer_of, Offers.places_of};
-ghost use Rattle.bundle_bounds.specs.Opens.{is_open};
+ghost use Rattle.bundle_bounds.specs.{Opens.is_open, Views.data_of};
 
 use crate::Offer;
 use crate::base::Base;
@@ -15,7 +15,7 @@ use crate::opens::{Picks, collect, is_open_at, rests_of};
 use crate::prospects::{NO_PROSPECTS, Prospects};
 use crate::pruning::{bound_of, first_with, plain_sum};
 use crate::tangents::Tangents;
-use bundle_rules::{Bundle, Places, Rows, is_ahead};
+use bundle_rules::{Bundle, Menu, Places, Rows, is_ahead};
 use market_units::{SectionSet, Tokens};
 
 /// A node: the places below `place` are decided, and of them those of `chosen` are taken.
@@ -38,7 +38,7 @@ pub enum Leaf {
 /// Whether a place is open at the node: not decided, allowed, without a clash with a chosen one,
 /// and within what they leave of the budget, the credit cap and the course cap.
 pub fn is_open(
-    menu: &Rows,
+    menu: &Menu,
     prices: &[Tokens],
     budget: Tokens,
     allowed: &SectionSet,
@@ -54,24 +54,33 @@ pub fn is_open(
         && is_open (offer_of menu.now prices.now budget.0 allowed.now)
         (places_of menu.now (sections_of node.now.chosen)) place) }
 {
-    if place < node.place {
-        return false;
-    }
     let offer = Offer {
-        menu,
+        menu: menu.rows(),
         prices,
         budget,
         allowed,
     };
-    let places = Places::of(menu, &node.chosen);
+    is_open_in(&offer, node, place)
+}
+
+/// Whether a place of an offer is open at the node, as `is_open` says it of a menu.
+pub fn is_open_in(offer: &Offer, node: &Node, place: u8) -> bool
+    requires node { IsNode (data_of offer.now) node.now.place (sections_of node.now.chosen) }
+    requires on_menu { place < length offer.now.menu.now.places }
+    ensures { result
+        ≡ (nat_le node.now.place place
+        && is_open (data_of offer.now)
+        (places_of offer.now.menu.now (sections_of node.now.chosen)) place) }
+{
+    if place < node.place {
+        return false;
+    }
+    let places = Places::of(offer.menu, &node.chosen);
     let places = places.as_slice();
-    let picks = Picks {
-        offer: &offer,
-        places,
-    };
+    let picks = Picks { offer, places };
     let rests = rests_of(&picks);
     let chosen = Chosen {
-        offer: &offer,
+        offer,
         places,
         rests,
     };
@@ -81,7 +90,7 @@ pub fn is_open(
 /// The number of a bound that is on the node's menu of bounds: at least 1000 times the utility of
 /// every bundle that can still be reached.
 pub fn bound(
-    menu: &Rows,
+    menu: &Menu,
     prices: &[Tokens],
     budget: Tokens,
     allowed: &SectionSet,
@@ -102,27 +111,40 @@ pub fn bound(
         leaf result }
 {
     let offer = Offer {
-        menu,
+        menu: menu.rows(),
         prices,
         budget,
         allowed,
     };
-    let places = Places::of(menu, &node.chosen);
+    bound_in(&offer, node, leaf)
+}
+
+// The number of a bound that is on the menu of bounds of an offer's node.
+fn bound_in(offer: &Offer, node: &Node, leaf: Leaf) -> i64
+    requires node { IsNode (data_of offer.now) node.now.place (sections_of node.now.chosen) }
+    requires leaf { (number : ℤ)
+        × HasBound
+        (bounds (data_of offer.now) node.now.place
+        (places_of offer.now.menu.now (sections_of node.now.chosen)))
+        leaf number }
+    ensures { HasBound
+        (bounds (data_of offer.now) node.now.place
+        (places_of offer.now.menu.now (sections_of node.now.chosen)))
+        leaf result }
+{
+    let places = Places::of(offer.menu, &node.chosen);
     let places = places.as_slice();
-    let picks = Picks {
-        offer: &offer,
-        places,
-    };
+    let picks = Picks { offer, places };
     let rests = rests_of(&picks);
     let chosen = Chosen {
-        offer: &offer,
+        offer,
         places,
         rests,
     };
     let mut room = NO_PROSPECTS;
-    let from = node.place.min(menu.len());
+    let from = node.place.min(offer.menu.len());
     let start = collect(&chosen, from, &mut room);
-    let base = Base::of(menu.utility(&node.chosen));
+    let base = Base::of(offer.menu.utility(&node.chosen));
     let list = &room[start..];
     let all = Prospects { list };
     bound_of(base, rests, &all, leaf)
@@ -132,7 +154,7 @@ pub fn bound(
 /// times the champion's utility, or below 1000 times one more than it where the first decided place
 /// on which they differ is the champion's. `None` exactly where none prunes it.
 pub fn bound_closes(
-    menu: &Rows,
+    menu: &Menu,
     prices: &[Tokens],
     budget: Tokens,
     allowed: &SectionSet,
@@ -153,30 +175,43 @@ pub fn bound_closes(
         (bounds (offer_of menu.now prices.now budget.0 allowed.now) node.now.place (places_of menu.now (sections_of node.now.chosen)))) }
 {
     let offer = Offer {
-        menu,
+        menu: menu.rows(),
         prices,
         budget,
         allowed,
     };
-    let places = Places::of(menu, &node.chosen);
+    bound_closes_in(&offer, node, champion)
+}
+
+// The first bound of the menu of bounds of an offer's node that prunes it for this champion.
+fn bound_closes_in(offer: &Offer, node: &Node, champion: &Bundle) -> Option<Leaf>
+    requires node { IsNode (data_of offer.now) node.now.place (sections_of node.now.chosen) }
+    requires champion { IsFeasible (wishes_of offer.now.menu.now) (sections_of champion.now) }
+    ensures first { IfSome result (IsFirstPruning (data_of offer.now) node.now.place (places_of offer.now.menu.now (sections_of node.now.chosen)) (places_of offer.now.menu.now (sections_of champion.now))
+        (bounds (data_of offer.now) node.now.place (places_of offer.now.menu.now (sections_of node.now.chosen)))) }
+    ensures value { result
+        ≡ first_pruning (data_of offer.now) node.now.place
+        (places_of offer.now.menu.now (sections_of node.now.chosen))
+        (places_of offer.now.menu.now (sections_of champion.now)) }
+    ensures none { IfNone result (NonePrunes (data_of offer.now) node.now.place (places_of offer.now.menu.now (sections_of node.now.chosen)) (places_of offer.now.menu.now (sections_of champion.now))
+        (bounds (data_of offer.now) node.now.place (places_of offer.now.menu.now (sections_of node.now.chosen)))) }
+{
+    let places = Places::of(offer.menu, &node.chosen);
     let places = places.as_slice();
-    let picks = Picks {
-        offer: &offer,
-        places,
-    };
+    let picks = Picks { offer, places };
     let rests = rests_of(&picks);
     let chosen = Chosen {
-        offer: &offer,
+        offer,
         places,
         rests,
     };
     let mut room = NO_PROSPECTS;
-    let from = node.place.min(menu.len());
+    let from = node.place.min(offer.menu.len());
     let start = collect(&chosen, from, &mut room);
-    let base = Base::of(menu.utility(&node.chosen));
+    let base = Base::of(offer.menu.utility(&node.chosen));
     let list = &room[start..];
     let all = Prospects { list };
-    let limit = limit_of(menu, node, places, champion);
+    let limit = limit_of(offer.menu, node, places, champion);
     let plain = plain_sum(&all);
     let mut tangents = Tangents::none();
     first_with(base, limit, rests, &all, plain, &mut tangents)

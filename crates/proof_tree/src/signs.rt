@@ -8,7 +8,7 @@ ghost use Rattle.proof_tree.specs.Visits.{HasNoSignAt, IsFirstPruningAt, IsShutA
 use crate::visit::Visit;
 use crate::walk::PLACES;
 use crate::ways::is_on_way;
-use bundle_bounds::{Leaf, Node, Stem, is_open};
+use bundle_bounds::{Leaf, Node, Stem, is_open_in};
 
 /// What stands at a node of a tree, the first of these that fits.
 #[derive(Clone, Copy, Debug, PartialEq, Eq)]
@@ -48,14 +48,7 @@ fn is_shut(visit: &Visit) -> bool
             if place < visit.node.place {
                 return false;
             }
-            !is_open(
-                offer.menu,
-                offer.prices,
-                offer.budget,
-                offer.allowed,
-                &visit.node,
-                place,
-            )
+            !is_open_in(offer, &visit.node, place)
         }
         None => false,
     }

@@ -23,17 +23,10 @@ fn pruning<R: Abort>(
         chosen: Bundle::empty(),
     };
     let allowed = SectionSet::full(400);
-    let leaf = bound_closes(
-        menu.rows(),
-        prices,
-        Tokens(budget),
-        &allowed,
-        &node,
-        &champion,
-    )?;
+    let leaf = bound_closes(menu, prices, Tokens(budget), &allowed, &node, &champion)?;
     Some((
         leaf,
-        bound(menu.rows(), prices, Tokens(budget), &allowed, &node, leaf),
+        bound(menu, prices, Tokens(budget), &allowed, &node, leaf),
     ))
 }
 

@@ -80,7 +80,7 @@ fn taken<R: Abort>(
             place,
             chosen: node.chosen,
         };
-        assert!(rt; is_open(menu.rows(), prices, budget, allowed, &at, place));
+        assert!(rt; is_open(menu, prices, budget, allowed, &at, place));
         node = with_next(menu, &at);
     }
     node.chosen

@@ -5,18 +5,19 @@ use Rattle.bundle_rules.specs.Bundles.{sections_of}
 use Rattle.bundle_rules.specs.Wishes.{utility}
 use Rattle.bundle_rules.specs.Menus.{by_place}
 use Rattle.bundle_rules.proofs.Feasibility.{places_of_rated, utility_by_place}
-use Rattle.bundle_bounds.specs.Offers.{offer_of, places_of}
+use Rattle.bundle_bounds.specs.Offers.{places_of}
+use Rattle.bundle_bounds.specs.Views.{data_of}
 use Rattle.bundle_bounds.specs.Opens.{budget_left, credits_left, courses_left}
 use Rattle.bundle_bounds.specs.Bounds.{all_bounds, bounds, HasBound}
 use Rattle.bundle_bounds.specs.Modest.{IsModest}
 use Rattle.bundle_bounds.proofs.BelowLimit.{collected, few_of_room, rest_of_room, same_numbers}
-use Rattle.bundle_bounds.proofs.nodes.bound.Goals as goal
+use Rattle.bundle_bounds.proofs.nodes.bound_in.Goals as goal
 
 pub invariant_of-picks : goal.invariant_of-picks
 invariant_of-picks c = record {
   on_menu =
       rw (c.as_slice-places.ensures.value, c.of-places.ensures)
-      (places_of_rated c.args.menu.now (sections_of c.args.node.now.chosen) c.requires.node.takable.feasible.rated);
+      (places_of_rated c.args.offer.now.menu.now (sections_of c.args.node.now.chosen) c.requires.node.takable.feasible.rated);
   few = c.as_slice-places.ensures.few;
 }
 
@@ -25,7 +26,7 @@ invariant_of-chosen c =
     let same = c.as_slice-places.ensures.value ∙ c.of-places.ensures in
     record {
       on_menu =
-          rw same (places_of_rated c.args.menu.now (sections_of c.args.node.now.chosen) c.requires.node.takable.feasible.rated);
+          rw same (places_of_rated c.args.offer.now.menu.now (sections_of c.args.node.now.chosen) c.requires.node.takable.feasible.rated);
       few = c.as_slice-places.ensures.few;
       rests_are = c.rests_of-rests.ensures;
     }
@@ -41,8 +42,8 @@ invariant_of-all c =
 
 pub returns : goal.returns
 returns c =
-    let menu = c.args.menu.now in
-    let offer = offer_of menu c.args.prices.now c.args.budget.0 c.args.allowed.now in
+    let menu = c.args.offer.now.menu.now in
+    let offer = data_of c.args.offer.now in
     let k = c.args.node.now.place in
     let cs = places_of menu (sections_of c.args.node.now.chosen) in
     let same : c.as_slice-places.result.now ≡ cs = c.as_slice-places.ensures.value ∙ c.of-places.ensures in
