@@ -38,6 +38,11 @@ EXAMPLE = ("catalogue.csv", "roll.csv", "settings.json", "published.txt", "desk.
 UNPROVED = "This page was built without proofs, for work on the page alone. Trust nothing that it says."
 PROVED = "The program in this page is compiled from the LLVM module of the proved program for Linux. The README of Course Match says what is proved of that program, and what has to be trusted besides."
 
+NOT_KEPT = (
+    "page: nothing proved is kept of the sources as they stand: the page would prove all crates of the program first, which takes"
+    " half an hour to two hours. Say --prove to have that done. (Or call `rt ci` first, or build with --unproved.)\n"
+)
+
 
 def packed(data: bytes) -> str:
     """Bytes as the page holds them."""
@@ -110,12 +115,17 @@ def main() -> None:
     parser = argparse.ArgumentParser(prog="scripts/page", description=__doc__)
     parser.add_argument("--unproved", action="store_true", help="build from what `rt try` compiles, without proofs")
     parser.add_argument("--as-it-stands", action="store_true", help="proved where `rt ci` left the program, else --unproved")
+    parser.add_argument("--prove", action="store_true", help="prove the program first, where nothing proved is kept: half an hour to two")
     parser.add_argument("--bitcode", type=Path, help="with --unproved: take this module of LLVM")
     arguments = parser.parse_args()
     if arguments.as_it_stands and not kit.is_left_by_gate(TOP / "crates/market_program"):
         arguments.unproved = True
     if arguments.bitcode and not arguments.unproved:
         parser.error("--bitcode is for --unproved: a given file is tied to no proof")
+    if not arguments.unproved and not kit.is_kept(TOP / "crates/market_program"):
+        if not arguments.prove:
+            parser.exit(1, NOT_KEPT)
+        print("page: the program is proved first, which takes half an hour to two hours", flush=True)
     out, room = HERE / "out", HERE / "out/module"
     room.mkdir(parents=True, exist_ok=True)
     wasm = module_for(arguments, room).read_bytes()

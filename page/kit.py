@@ -91,12 +91,20 @@ def proved_module(crate: Path, room: Path) -> Path:
 def is_left_by_gate(crate: Path) -> bool:
     """Whether the program and all libraries that it stands on are there, as `rt ci` leaves them, and nothing that they are
     made of was changed since."""
-    program, below = crate / "out" / crate.name, libraries_of(crate)[1]
-    if not program.is_file() or not all(it.is_dir() for it in below.values()):
-        return False
-    folders = [crate.parent / name / part for name in (crate.name, *below) for part in ("src", "specs", "proofs", "c")]
+    return all(it.is_dir() for it in libraries_of(crate)[1].values()) and is_younger_than_sources(crate)
+
+
+def is_kept(crate: Path) -> bool:
+    """Whether nothing has to be proved for the program: `rt ci` or `rt run` left it, and no source was changed since."""
+    return is_left_by_gate(crate) or (crate / "out" / f"{crate.name}.stamp").is_file() and is_younger_than_sources(crate)
+
+
+def is_younger_than_sources(crate: Path) -> bool:
+    """Whether the program is there, and nothing that it is made of was changed since."""
+    program = crate / "out" / crate.name
+    folders = [crate.parent / name / part for name in (crate.name, *libraries_of(crate)[1]) for part in ("src", "specs", "proofs", "c")]
     sources = [crate.parent.parent / "crates.txt", *(it for folder in folders for it in folder.rglob("*"))]
-    return all(it.stat().st_mtime <= program.stat().st_mtime for it in sources)
+    return program.is_file() and all(it.stat().st_mtime <= program.stat().st_mtime for it in sources)
 
 
 def libraries_of(crate: Path) -> tuple[list[str], dict[str, Path]]:
