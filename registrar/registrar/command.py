@@ -5,12 +5,13 @@ from __future__ import annotations
 import argparse
 import importlib
 import os
+import signal
 import sys
 import types
 from typing import List, NoReturn, Optional, Sequence
 
 import registrar
-from registrar import tell
+from registrar import ending, tell
 
 # The command modules in the order of a term. Each has NAME, HELP, add_arguments(parser) and run(arguments) -> exit status.
 MODULES = (
@@ -31,7 +32,7 @@ MODULES = (
 STATUSES = (
     "Exit statuses: 0, all is well; 1 to 9, the program's own status (docs/FORMATS.md); 64, the words are wrong; "
     "65, faults or warnings stand in the files, and are told; 66, a file is missing or can not be read; 69, there is no program yet; "
-    "above 128, a signal ended it or the program."
+    "75, somebody else works in that folder; above 128, a signal ended it or the program."
 )
 
 
@@ -68,7 +69,8 @@ def main(words: Optional[Sequence[str]] = None) -> int:
         reader.print_help()
         return tell.USAGE
     try:
-        return int(arguments.run(arguments))
+        with ending.heeded():
+            return int(arguments.run(arguments))
     except tell.Trouble as trouble:
         tell.warn(str(trouble))
         return trouble.status
@@ -76,8 +78,9 @@ def main(words: Optional[Sequence[str]] = None) -> int:
         os.dup2(os.open(os.devnull, os.O_WRONLY), sys.stdout.fileno())
         return 141
     except OSError as error:
-        tell.warn(f"{error.filename or 'a file'} can not be read or written: {error.strerror}")
+        tell.warn(f"{error.filename or 'standard output'} can not be read or written: {error.strerror}")
         return tell.FAULTS
-    except KeyboardInterrupt:
-        tell.warn("stopped by the keyboard; what stood before still stands")
-        return 130
+    except ending.Ended as end:
+        by = "the keyboard" if end.number == signal.SIGINT else f"signal {end.number}"
+        tell.warn(f"stopped by {by}; what stood before still stands")
+        return 128 + end.number

@@ -8,7 +8,7 @@ import re
 import sys
 from dataclasses import dataclass, field
 
-from registrar import guess, own_names, tables, tell
+from registrar import at_work, guess, own_names, tables, tell
 from registrar.amounts import AmountFault, grouped, in_units, whole
 from registrar.exported import Export, Row
 from registrar.faults import Faults
@@ -16,6 +16,7 @@ from registrar.mapping import Mapping, Source, read_mapping
 from registrar.meetings import MeetingFault, joined, meetings_by_columns, meetings_of, minutes_of
 from registrar.spelling import NameFault, Names
 from registrar.surveys import Known, Survey, SurveyReader
+from registrar.whole import write_all as write_files
 
 NAME = "import"
 HELP = "make catalogue, roll and sessions from a school's exports, by a mapping of columns"
@@ -363,20 +364,8 @@ def write_all(folder: str, files: dict[str, bytes], replace: bool) -> None:
     paths = {os.path.normpath(os.path.join(folder, name)): content for name, content in files.items()}
     if not replace:
         refuse_standing(paths)
-    written: list[str] = []
-    try:
-        os.makedirs(folder, exist_ok=True)
-        for path, content in paths.items():
-            written.append(path + ".part")
-            with open(path + ".part", "wb") as file:
-                file.write(content)
-        for path in paths:
-            os.replace(path + ".part", path)
-    except OSError as error:
-        for path in written:
-            if os.path.exists(path):
-                os.remove(path)
-        raise tell.Trouble(f"{error.filename} can not be written: {error.strerror}") from error
+    with at_work.made(folder):
+        write_files(paths)
 
 
 def refuse_standing(paths: dict[str, bytes]) -> None:

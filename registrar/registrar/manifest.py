@@ -63,6 +63,11 @@ def beside(text: str) -> str:
 
 def write(path: str, words: Sequence[str], text: str, elapsed: float) -> None:
     """Writes the manifest of a run of these words (`run WORKERS CATALOGUE ROLL SETTINGS SESSION..`) that made this text."""
+    tables.write_whole(path, content(path, words, text, program.sha256(text), elapsed))
+
+
+def content(path: str, words: Sequence[str], text: str, text_sum: str, elapsed: float) -> bytes:
+    """What the manifest at this path says of such a run, whose text has this sum."""
     folder = os.path.dirname(os.path.abspath(path))
     inputs = [
         {"role": one.role, "file": relative(one.path, folder), "sha256": program.sha256(one.path)}
@@ -72,11 +77,11 @@ def write(path: str, words: Sequence[str], text: str, elapsed: float) -> None:
         "inputs": inputs,
         "words": list(words[:2]) + [one["file"] for one in inputs],
         "program": program.sha256(program.find_program()),
-        "text": {"file": relative(text, folder), "sha256": program.sha256(text)},
+        "text": {"file": relative(text, folder), "sha256": text_sum},
         "elapsed": round(elapsed, 1),
         "made": time.strftime("%Y-%m-%dT%H:%M:%SZ", time.gmtime()),
     }
-    tables.write_whole(path, (json.dumps(kept, indent=1, ensure_ascii=False) + "\n").encode("utf-8"))
+    return (json.dumps(kept, indent=1, ensure_ascii=False) + "\n").encode("utf-8")
 
 
 def relative(path: str, folder: str) -> str:

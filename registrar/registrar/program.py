@@ -12,7 +12,7 @@ import time
 from dataclasses import dataclass
 from typing import BinaryIO, Callable, Dict, List, Optional, Sequence, Tuple
 
-from registrar import tables
+from registrar import ending, tables
 from registrar.tell import NO_PROGRAM, USAGE, Life, Trouble
 
 TOP = os.path.dirname(os.path.dirname(os.path.dirname(os.path.abspath(__file__))))
@@ -89,7 +89,8 @@ def sha256(path: str) -> str:
 def call(words: Sequence[str], life: Optional[Life] = None, output: Optional[BinaryIO] = None) -> Answer:
     """Calls the program with these words. What it prints goes to the file `output`, or into the answer.
 
-    The status is the program's own. A program that was killed has none, and that is a refusal of ours.
+    The status is the program's own. A program that was killed has none, and that is a refusal of ours. It ends when this
+    process ends.
     """
     program = find_program()
     refuse_many(words)
@@ -97,7 +98,9 @@ def call(words: Sequence[str], life: Optional[Life] = None, output: Optional[Bin
     with tempfile.TemporaryFile() as kept:
         target = output if output is not None else kept
         try:
-            process = subprocess.Popen([program, *words], stdin=subprocess.DEVNULL, stdout=target)
+            process = subprocess.Popen(
+                [program, *words], stdin=subprocess.DEVNULL, stdout=target, preexec_fn=ending.tied()
+            )
         except OSError as error:
             raise Trouble(f"{program} can not be called: {error.strerror}", NO_PROGRAM) from error
         status = wait(process, life)
@@ -128,7 +131,7 @@ def wait(process: subprocess.Popen[bytes], life: Optional[Life]) -> int:
                 if life:
                     life.tick()
     except BaseException:
-        process.terminate()
+        process.kill()
         process.wait()
         raise
     finally:

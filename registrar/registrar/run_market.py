@@ -7,7 +7,7 @@ import os
 import tempfile
 from typing import Dict, List, Sequence, Tuple
 
-from registrar import manifest, program, published, ranges, streams, tables, tell
+from registrar import at_work, manifest, program, published, ranges, streams, tables, tell, whole
 
 NAME = "run"
 HELP = "run the market to a file, which takes its name only where the run succeeds, with a manifest beside it"
@@ -57,31 +57,61 @@ def run(arguments: argparse.Namespace) -> int:
 
 
 def to_file(words: Sequence[str], text: str) -> program.Answer:
-    """Runs these words to a file. Where the status is not 0 the file is what it was, and the terminal says what to do."""
+    """Runs these words to a file. Where the status is not 0 the file is what it was, and the terminal says what to do.
+
+    The program's `check` reads what was written before it takes the text's name; the manifest takes its own with it.
+    """
     program.find_program()
+    program.refuse_many(words)
     tables.refuse_over((text, manifest.beside(text)), [(one.role, one.path) for one in program.inputs_of(words)])
     folder = os.path.dirname(text) or "."
-    partial = text + ".part"
-    size = size_of(words)
-    life = tell.Life("running the market", tell.times_of(folder, size))
-    before = sums(words)
-    try:
-        with open(partial, "wb") as output:
-            answer = program.call(words, life, output)
+    with at_work.in_folders([folder], NAME):
+        tell_left(text)
+        size = size_of(words)
+        try:
+            with whole.Part(text) as part:
+                answer = run_to(part, words, tell.Life("running the market", tell.times_of(folder, size)))
+        except tell.Trouble as trouble:
+            raise tell.Trouble(f"{trouble}\n{kept_in_words(text)}", trouble.status) from trouble
         if answer.status:
-            refuse(answer, partial, text)
+            tell.warn(kept_in_words(text))
         else:
-            if sums(words) != before:
-                raise tell.Trouble("an input was changed while the program ran: run again")
-            os.replace(partial, text)
-            manifest.write(manifest.beside(text), words, text, answer.elapsed)
             tell.keep_time(folder, size, answer.elapsed)
         return answer
-    except OSError as error:
-        raise tell.Trouble(f"{partial} can not be written: {error.strerror}") from error
-    finally:
-        if os.path.exists(partial):
-            os.remove(partial)
+
+
+def run_to(part: whole.Part, words: Sequence[str], life: tell.Life) -> program.Answer:
+    """Runs these words to a part file. Where all is well with that, it takes the text's name, and a manifest stands beside it."""
+    before = sums(words)
+    answer = program.call(words, life, part.file)
+    if answer.status:
+        for line in program.retell(answer, tail(part.path)):
+            tell.warn(line if answer.status != 6 else f"{part.target} can not be written: {line}")
+        return answer
+    part.close_whole()
+    refuse_unsound(words, part.path)
+    if sums(words) != before:
+        raise tell.Trouble("an input was changed while the program ran: run again")
+    path = manifest.beside(part.target)
+    with whole.Part(path) as kept:
+        kept.fill(manifest.content(path, words, part.target, program.sha256(part.path), answer.elapsed))
+        whole.settle_all([part, kept])
+    return answer
+
+
+def refuse_unsound(words: Sequence[str], path: str) -> None:
+    """Refuses what was written where the program's own check does not accept it: a disk or a memory spoiled it."""
+    catalogue, roll, settings, *sessions = words[2:]
+    answer = program.call(["check", catalogue, roll, settings, path, *sessions], tell.Life("checking what was written"))
+    if answer.status:
+        told = [answer.lines[-1]] if answer.status == 8 and answer.lines else program.retell(answer)
+        raise tell.Trouble("\n".join(["what the run wrote does not hold, and is not kept: run again", *told]))
+
+
+def tell_left(text: str) -> None:
+    """Names the part files of this text that commands left behind which were ended: nobody else works in the folder now."""
+    for path in whole.left_parts(text):
+        tell.warn(f"{path} is a part of a text, left by a run that was ended; nothing reads it, and it may be removed")
 
 
 def sums(words: Sequence[str]) -> Dict[str, str]:
@@ -100,14 +130,9 @@ def size_of(words: Sequence[str]) -> tell.Size:
     return size
 
 
-def refuse(answer: program.Answer, partial: str, text: str) -> None:
-    """Tells a refusal on the terminal, and that nothing is lost."""
-    for line in program.retell(answer, tail(partial)):
-        tell.warn(line)
-    if os.path.exists(text):
-        tell.warn(f"{text} is what it was before this run.")
-    else:
-        tell.warn(f"{text} was not written.")
+def kept_in_words(text: str) -> str:
+    """That nothing is lost."""
+    return f"{text} is what it was before this run." if os.path.exists(text) else f"{text} was not written."
 
 
 def tail(path: str) -> List[str]:

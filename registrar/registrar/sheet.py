@@ -17,6 +17,8 @@ import zipfile
 from collections import Counter
 from typing import Any, Iterator, Mapping, Sequence
 
+from registrar.whole import write_whole
+
 #: The marks that a file may begin with, and the encoding that each says. The longer ones stand first.
 MARKS: tuple[tuple[bytes, str], ...] = (
     (codecs.BOM_UTF8, "utf-8"),
@@ -198,5 +200,6 @@ def write_book(path: str | os.PathLike[str], sheets: Mapping[str, Sequence[Seque
                     cell.data_type = "s"
                 cells.append(cell)
             page.append(cells)
-    book.save(f"{path}.part")
-    os.replace(f"{path}.part", path)
+    content = io.BytesIO()
+    book.save(content)
+    write_whole(os.fspath(path), content.getvalue())

@@ -13,6 +13,7 @@ import re
 from dataclasses import dataclass
 from typing import Dict, Iterable, Iterator, List, Optional, Sequence, Tuple
 
+from registrar import whole
 from registrar.tell import FAULTS, NO_FILE, USAGE, Trouble
 
 NAME = re.compile(r"[A-Za-z0-9._-]{1,32}\Z")
@@ -299,12 +300,15 @@ def write_csv(path: str, rows: Iterable[Sequence[object]]) -> None:
 
 
 def refuse_over(targets: Iterable[str], inputs: Iterable[Tuple[str, str]]) -> None:
-    """Refuses a file to be written that is a folder, or that the command reads: `inputs` has what each such file is, and its path."""
+    """Refuses a file to be written that is no regular one, or that the command reads.
+
+    `inputs` has what each file is that is read, and its path.
+    """
+    targets = list(targets)
+    whole.refuse_others(targets)
     read = {file_at(path): what for what, path in inputs}
     for target in targets:
         found = file_at(target)
-        if os.path.isdir(target):
-            raise Trouble(f"{target} can not be written: it is a folder")
         if found is not None and found in read:
             raise Trouble(f"{target} is the {read[found]} that this command reads: give what is written another name", USAGE)
 
@@ -328,10 +332,4 @@ def make_folder(path: str) -> None:
 
 def write_whole(path: str, content: bytes) -> None:
     """Writes a file under another name in its folder and renames it, so that the old file stands until the new one is whole."""
-    partial = path + ".part"
-    try:
-        with open(partial, "wb") as file:
-            file.write(content)
-        os.replace(partial, path)
-    except OSError as error:
-        raise Trouble(f"{path} can not be written: {error.strerror}") from error
+    whole.write_whole(path, content)

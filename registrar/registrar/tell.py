@@ -2,6 +2,7 @@
 
 from __future__ import annotations
 
+import contextlib
 import json
 import os
 import sys
@@ -13,6 +14,7 @@ USAGE = 64
 FAULTS = 65
 NO_FILE = 66
 NO_PROGRAM = 69
+BUSY = 75
 
 # The file in the output folder that keeps what earlier runs took.
 TIMES = "registrar-times.json"
@@ -138,10 +140,10 @@ def read_times(folder: str) -> List[Dict[str, Any]]:
 
 def keep_time(folder: str, size: Size, elapsed: float) -> None:
     """Keeps what a run of this size took. A folder that takes no file is no fault of the run."""
+    # Here and not above, since `whole` needs `Trouble`.
+    from registrar import whole
+
     kept = read_times(folder)[-99:] + [{"size": size, "seconds": round(elapsed, 1)}]
-    try:
-        with open(os.path.join(folder, TIMES), "w", encoding="utf-8") as file:
-            json.dump(kept, file, indent=1)
-            file.write("\n")
-    except OSError:
-        pass
+    content = json.dumps(kept, indent=1) + "\n"
+    with contextlib.suppress(Trouble):
+        whole.write_whole(os.path.join(folder, TIMES), content.encode("ascii"))
