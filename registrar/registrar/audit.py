@@ -6,7 +6,7 @@ import argparse
 from dataclasses import dataclass
 from typing import Dict, List, Sequence, Tuple
 
-from registrar import check, explain, manifest, program, run_market, tables, tell
+from registrar import check, explain, manifest, program, run_market, tables, tell, work_log
 
 NAME = "audit"
 HELP = "tell whom each student envies, by the manifest"
@@ -25,6 +25,11 @@ def add_arguments(parser: argparse.ArgumentParser) -> None:
     manifest.add_argument(parser)
     parser.add_argument("--out", metavar="FILE", help="write the program's lines to this file; the sums alone are told")
     run_market.add_workers(parser)
+
+
+def writes(arguments: argparse.Namespace) -> List[str]:
+    """The folder of the manifest and that of the program's lines, if these are written."""
+    return work_log.folders(arguments.manifest, work_log.folder_of(arguments.out)) if arguments.out else []
 
 
 def run(arguments: argparse.Namespace) -> int:

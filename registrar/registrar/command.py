@@ -11,9 +11,10 @@ import types
 from typing import List, NoReturn, Optional, Sequence
 
 import registrar
-from registrar import ending, tell
+from registrar import at_work, ending, tell, work_log
 
-# The command modules in the order of a term. Each has NAME, HELP, add_arguments(parser) and run(arguments) -> exit status.
+# The command modules in the order of a term. Each has NAME, HELP, add_arguments(parser) and run(arguments) -> exit status. One
+# that writes also has writes(arguments) -> the folders in which it writes, that of the log first.
 MODULES = (
     "import_exports",
     "look",
@@ -27,6 +28,7 @@ MODULES = (
     "summary",
     "hall",
     "next_term",
+    "work_log",
 )
 
 STATUSES = (
@@ -57,8 +59,24 @@ def parser() -> argparse.ArgumentParser:
     for module in command_modules():
         one = commands.add_parser(module.NAME, help=module.HELP, description=module.HELP, epilog=STATUSES)
         module.add_arguments(one)
-        one.set_defaults(run=module.run)
+        one.set_defaults(run=module.run, writes=getattr(module, "writes", nowhere))
     return top
+
+
+def nowhere(_: argparse.Namespace) -> List[str]:
+    """The folders of a command that writes nothing."""
+    return []
+
+
+def worked(arguments: argparse.Namespace, words: Sequence[str]) -> int:
+    """Runs a command, alone in the folders in which it writes, and keeps in their log what it wrote."""
+    folders = arguments.writes(arguments)
+    if not folders:
+        return int(arguments.run(arguments))
+    with at_work.in_folders(folders, arguments.command, make=True):
+        with work_log.kept(folders[0], arguments.command, words) as ended:
+            ended["status"] = int(arguments.run(arguments))
+            return ended["status"]
 
 
 def main(words: Optional[Sequence[str]] = None) -> int:
@@ -70,7 +88,7 @@ def main(words: Optional[Sequence[str]] = None) -> int:
         return tell.USAGE
     try:
         with ending.heeded():
-            return int(arguments.run(arguments))
+            return worked(arguments, sys.argv[1:] if words is None else words)
     except tell.Trouble as trouble:
         tell.warn(str(trouble))
         return trouble.status

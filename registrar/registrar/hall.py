@@ -10,7 +10,7 @@ import tempfile
 from dataclasses import dataclass
 from typing import Iterator, Sequence
 
-from registrar import manifest, own_names, program, tables, tell
+from registrar import manifest, own_names, program, tables, tell, work_log
 from registrar.exported import Export, Row
 from registrar.faults import Faults
 from registrar.import_exports import write_all
@@ -39,6 +39,16 @@ def add_arguments(parser: argparse.ArgumentParser) -> None:
     parser.add_argument("--mapping", default="mapping.ini", metavar="FILE", help="the mapping (default: mapping.ini)")
     parser.add_argument("--into", metavar="FOLDER", help="where the files are written (default: the mapping's folder)")
     parser.add_argument("--replace", action="store_true", help="write over files that stand there and differ")
+
+
+def writes(arguments: argparse.Namespace) -> list[str]:
+    """The folder of the manifest and that of the lists after the hall."""
+    return work_log.folders(arguments.manifest, into(arguments))
+
+
+def into(arguments: argparse.Namespace) -> str:
+    """The folder in which the files are written."""
+    return arguments.into or os.path.dirname(arguments.mapping) or "."
 
 
 @dataclass(frozen=True)
@@ -78,7 +88,7 @@ def run(arguments: argparse.Namespace) -> int:
         "hall.txt": answer.output,
         **tables_of(asked, answer.lines, own_names.beside(found.catalogue)),
     }
-    folder = arguments.into or os.path.dirname(arguments.mapping) or "."
+    folder = into(arguments)
     tables.refuse_over([os.path.join(folder, name) for name in files], manifest.files_read(found))
     write_all(folder, files, arguments.replace)
     tell_replies(asked, replies_of(answer.lines))

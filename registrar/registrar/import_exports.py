@@ -47,6 +47,13 @@ def add_arguments(parser: argparse.ArgumentParser) -> None:
     parser.add_argument("--faults", metavar="FILE", help="write the faults as a table too")
 
 
+def writes(arguments: argparse.Namespace) -> list[str]:
+    """The folder of the program's files, or of the mapping that is guessed."""
+    beside = os.path.dirname(arguments.mapping) or "."
+    faults = [os.path.dirname(arguments.faults) or "."] if arguments.faults else []
+    return [beside] if arguments.exports else [arguments.into or beside, *faults]
+
+
 def run(arguments: argparse.Namespace) -> int:
     """Guesses a mapping, or imports by one."""
     if arguments.exports:

@@ -9,7 +9,7 @@ import tempfile
 from dataclasses import dataclass
 from typing import Dict, List, Optional, Sequence
 
-from registrar import alone, explain, manifest, own_names, program, published, reasons, run_market, sheet, streams, tables, tell
+from registrar import alone, explain, manifest, own_names, program, published, reasons, run_market, sheet, streams, tables, tell, work_log
 
 NAME = "lists"
 HELP = (
@@ -38,6 +38,11 @@ def add_arguments(parser: argparse.ArgumentParser) -> None:
     parser.add_argument("--student", action="append", default=[], metavar="NAME", help="texts for these students alone; may be repeated")
     parser.add_argument("--no-reasons", action="store_true", help="leave the program's reasons out of the texts, which takes less time")
     run_market.add_workers(parser)
+
+
+def writes(arguments: argparse.Namespace) -> List[str]:
+    """The folder of the manifest and that of the lists."""
+    return work_log.folders(arguments.manifest, arguments.out)
 
 
 def run(arguments: argparse.Namespace) -> int:

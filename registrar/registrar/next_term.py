@@ -11,7 +11,7 @@ import os
 import sys
 from dataclasses import dataclass
 
-from registrar import manifest, published, ranges, tables, tell
+from registrar import manifest, published, ranges, tables, tell, work_log
 from registrar.faults import Faults
 from registrar.import_exports import write_all
 
@@ -46,6 +46,11 @@ def add_arguments(parser: argparse.ArgumentParser) -> None:
         "--into", default="roll.next.csv", metavar="FILE", help="the roll that is written (default: roll.next.csv)"
     )
     parser.add_argument("--replace", action="store_true", help="write over a file that stands there and differs")
+
+
+def writes(arguments: argparse.Namespace) -> list[str]:
+    """The folder of the manifest, or of the text that is named without one, and that of the new roll."""
+    return work_log.folders(arguments.text or arguments.manifest, os.path.dirname(arguments.into) or ".")
 
 
 @dataclass(frozen=True)

@@ -7,7 +7,7 @@ import os
 import tempfile
 from typing import Dict, List, Sequence, Tuple
 
-from registrar import at_work, manifest, program, published, ranges, streams, tables, tell, whole
+from registrar import at_work, manifest, program, published, ranges, streams, tables, tell, whole, work_log
 
 NAME = "run"
 HELP = "run the market to a file, which takes its name only where the run succeeds, with a manifest beside it"
@@ -20,6 +20,11 @@ def add_arguments(parser: argparse.ArgumentParser) -> None:
     add_market(parser)
     parser.add_argument("--text", default="published.txt", metavar="FILE", help="where the text goes (default: published.txt)")
     add_workers(parser)
+
+
+def writes(arguments: argparse.Namespace) -> List[str]:
+    """The folder of the text, which has to be there."""
+    return [work_log.folder_of(arguments.text)]
 
 
 def add_market(parser: argparse.ArgumentParser) -> None:

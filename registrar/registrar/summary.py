@@ -6,7 +6,7 @@ import argparse
 import html
 from typing import Dict, List, Optional, Tuple
 
-from registrar import audit, explain, figures, manifest, plots, program, reasons, run_market, tables, tell
+from registrar import audit, explain, figures, manifest, plots, program, reasons, run_market, tables, tell, work_log
 
 NAME = "summary"
 HELP = "write a page of figures and plots (HTML with SVG): seats, prices, errors, budgets, aftermarket, choices, envy"
@@ -24,6 +24,11 @@ def add_arguments(parser: argparse.ArgumentParser) -> None:
     parser.add_argument("--out", default="summary.html", metavar="FILE", help="where the page goes (default: summary.html)")
     parser.add_argument("--no-audit", action="store_true", help="leave envy out: `audit` checks the whole text first")
     run_market.add_workers(parser)
+
+
+def writes(arguments: argparse.Namespace) -> List[str]:
+    """The folder of the manifest and that of the page."""
+    return work_log.folders(arguments.manifest, work_log.folder_of(arguments.out))
 
 
 def run(arguments: argparse.Namespace) -> int:

@@ -9,7 +9,7 @@ import tempfile
 from dataclasses import dataclass
 from typing import Dict, List, Optional, Sequence, Tuple
 
-from registrar import program, published, run_market, ranges, tables, tell
+from registrar import program, published, run_market, ranges, tables, tell, work_log
 
 NAME = "settings"
 HELP = "try values of accept and turns, show what each gives, and write the settings that are chosen"
@@ -50,6 +50,11 @@ def add_arguments(parser: argparse.ArgumentParser) -> None:
     parser.add_argument(
         "--take", nargs=2, type=ranges.whole(0, MOST_ACCEPT), metavar=("TURNS", "ACCEPT"), help="try nothing: write these two and the rest of SETTINGS"
     )
+
+
+def writes(arguments: argparse.Namespace) -> List[str]:
+    """The folder of the settings that are written, if any are."""
+    return [work_log.folder_of(arguments.write)] if arguments.write else []
 
 
 def run(arguments: argparse.Namespace) -> int:

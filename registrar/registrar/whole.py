@@ -41,7 +41,7 @@ def refuse_others(targets: Iterable[str]) -> None:
     for target in targets:
         try:
             mode = os.lstat(target).st_mode
-        except FileNotFoundError:
+        except (FileNotFoundError, NotADirectoryError):
             continue
         except OSError as error:
             raise refusal(target, error) from error

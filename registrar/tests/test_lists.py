@@ -124,7 +124,7 @@ class Lists(InFolder):
         for folder in ("roll.csv", "roll.csv/lists"):
             told = call("lists", "--out", folder)
             self.assertEqual(told.status, tell.FAULTS)
-            self.assertRegex(told.err, rf"^{folder}/students can not be written: ")
+            self.assertRegex(told.err, rf"^{folder}(/students)? can not be written: ")
 
     def test_a_text_that_does_not_hold(self) -> None:
         """No lists come of it."""

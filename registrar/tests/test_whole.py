@@ -192,7 +192,7 @@ class Targets(InFolder):
         """A run makes none: a name that is mistyped would lie in a folder that nobody looks for."""
         self.scarce()
         told = call("run", *SCARCE_WORDS, "--text", "sprnig/published.txt")
-        self.assertEqual((told.status, told.err), (tell.NO_FILE, "there is no folder sprnig\n"))
+        self.assertEqual((told.status, told.err), (tell.NO_FILE, "sprnig/published.txt can not be written: there is no folder sprnig\n"))
 
 
 class Whole(InFolder):
