@@ -8,7 +8,7 @@ import os
 import signal
 import sys
 import types
-from typing import List, NoReturn, Optional, Sequence
+from typing import Any, List, NoReturn, Optional, Sequence
 
 import registrar
 from registrar import at_work, ending, tell, work_log
@@ -39,7 +39,23 @@ STATUSES = (
 
 
 class Parser(argparse.ArgumentParser):
-    """A parser whose refusals have a status of their own, since 2 is a status of the program."""
+    """A parser whose refusals have a status of their own, since 2 is a status of the program.
+
+    A word that begins with a dash and is no option of the command is a file where one has that name, and a name where the command
+    takes names of students or sections (`set_defaults(takes_names=True)`): `import` makes such names.
+    """
+
+    def _parse_optional(self, arg_string: str) -> Any:
+        """What `argparse` asks of each word: nothing, where it is no option."""
+        return None if self.is_word(arg_string) else super()._parse_optional(arg_string)
+
+    def is_word(self, text: str) -> bool:
+        """Whether a word that may look like an option is a name or a file."""
+        begin = text.split("=", 1)[0]
+        is_option = any(one == begin or begin.startswith("--") and one.startswith(begin) for one in self._option_string_actions)
+        if is_option or not text.startswith("-") or text in ("-", "--"):
+            return False
+        return bool(self.get_default("takes_names")) or os.path.lexists(text)
 
     def error(self, message: str) -> NoReturn:
         """Tells the usage and the fault, and ends."""

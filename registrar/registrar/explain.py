@@ -3,6 +3,7 @@
 from __future__ import annotations
 
 import argparse
+from typing import Tuple
 
 from registrar import check, manifest, own_names, program, published, reasons, streams, tables, tell
 
@@ -10,8 +11,13 @@ NAME = "explain"
 HELP = "tell why a student has no seat in a section, by the manifest, with words for the student"
 
 
+# The program's status for a name that is nobody's.
+NO_NAME = 9
+
+
 def add_arguments(parser: argparse.ArgumentParser) -> None:
     """The words of `explain`."""
+    parser.set_defaults(takes_names=True)
     parser.add_argument("student", metavar="STUDENT", help="the student's name, or the school's own spelling of it in names.csv")
     parser.add_argument("section", metavar="SECTION", help="the section's name, or the school's own spelling of it")
     manifest.add_argument(parser)
@@ -20,12 +26,7 @@ def add_arguments(parser: argparse.ArgumentParser) -> None:
 def run(arguments: argparse.Namespace) -> int:
     """Calls the program, and tells its answer and what to say to the student."""
     found = manifest.read(arguments.manifest, text_too=False)
-    own = own_names.beside(found.catalogue)
-    student = own_names.meant(own, "student", arguments.student)
-    section = own_names.meant(own, "section", arguments.section)
-    for word in (student, section):
-        if not tables.NAME.match(word):
-            raise tell.Trouble(f"'{word}' is no name of the program, and no spelling that {own_names.FILE} has", tell.USAGE)
+    student, section = meant(found, arguments.student, arguments.section)
     answer = program.call(manifest.explain_words(found, student, section), tell.Life("explaining"))
     tell.say(answer.text.rstrip("\n"))
     if answer.status == 0:
@@ -36,6 +37,25 @@ def run(arguments: argparse.Namespace) -> int:
     else:
         tell_refusal(found, answer)
     return answer.status
+
+
+def meant(found: manifest.Manifest, student: str, section: str) -> Tuple[str, str]:
+    """The names of a student and of a section that are given in the program's spelling or in the school's own.
+
+    Where one is nobody's, that is a refusal with the program's own status, and names whoever may have been meant.
+    """
+    own = own_names.beside(found.catalogue)
+    tables_of = (
+        ("student", student, "student of the roll", [one.name for one in tables.read_roll(found.roll)]),
+        ("section", section, "section of the catalogue", [one.code for one in tables.read_catalogue(found.catalogue)]),
+    )
+    names = []
+    for kind, word, whose, known in tables_of:
+        names.append(own_names.meant(own, kind, word))
+        if names[-1] not in known:
+            hint = own_names.nearest(own, kind, word, known)
+            raise tell.Trouble(f"No {whose} has the name '{word}'. Capital letters count{hint or '.'}", NO_NAME)
+    return names[0], names[1]
 
 
 def market_of(found: manifest.Manifest) -> reasons.Market:

@@ -14,7 +14,7 @@ from registrar.exported import Export, Row
 from registrar.faults import Faults
 from registrar.mapping import Mapping, Source, read_mapping
 from registrar.meetings import MeetingFault, joined, meetings_by_columns, meetings_of, minutes_of
-from registrar.spelling import NameFault, Names
+from registrar.spelling import NameFault, Names, tidy
 from registrar.surveys import Known, Survey, SurveyReader
 from registrar.whole import write_all as write_files
 
@@ -110,6 +110,8 @@ class Draft:
     name: str
     said: dict[str, tuple[str, int]] = field(default_factory=dict)
     meetings: list[str] = field(default_factory=list)
+    #: The meetings as the timetable writes them.
+    written: list[str] = field(default_factory=list)
     rows: list[int] = field(default_factory=list)
 
 
@@ -122,6 +124,8 @@ class Made:
     roll: list[list[str]] = field(default_factory=list)
     surveys: list[Survey] = field(default_factory=list)
     names: list[list[str]] = field(default_factory=list)
+    #: The rows of `names.csv` that have no names: each section's meetings as the timetable writes them.
+    written: list[list[str]] = field(default_factory=list)
     notes: list[str] = field(default_factory=list)
 
     def files(self) -> dict[str, bytes]:
@@ -129,11 +133,16 @@ class Made:
         files = {
             "catalogue.csv": tables.csv_text(self.catalogue).encode(),
             "roll.csv": tables.csv_text(self.roll).encode(),
-            own_names.FILE: tables.csv_text([["kind", "original", "name"], *self.names]).encode("utf-8-sig"),
+            own_names.FILE: tables.csv_text(self.own_rows()).encode("utf-8-sig"),
         }
         for survey in self.surveys:
             files[f"{survey.name}.session"] = session_text(survey).encode()
         return files
+
+    def own_rows(self) -> list[list[str]]:
+        """The rows of `names.csv`: the names, the meetings, and the unit of credits."""
+        unit = own_names.rows_of_units(self.mapping.unit, self.mapping.decimal)
+        return [["kind", "original", "name"], *self.names, *self.written, *unit]
 
     def limits(self, faults: Faults) -> None:
         """Adds what passes the limits of the program."""
@@ -267,6 +276,14 @@ class Importer:
             elif text and not said:
                 draft.said[option] = (text, row.number)
         draft.meetings += self.meetings(export, row)
+        draft.written.append(self.meetings_as_written(export, row))
+
+    def meetings_as_written(self, export: Export, row: Row) -> str:
+        """The meetings of a row in the timetable's own words."""
+        if export.column("meetings"):
+            return tidy(export.cell(row, "meetings"))
+        times = [tidy(export.cell(row, option)) for option in ("start", "end")]
+        return " ".join(part for part in (tidy(export.cell(row, "days")), "-".join(one for one in times if one)) if part)
 
     def meetings(self, export: Export, row: Row) -> list[str]:
         """The meetings that a row says, in one cell or in cells for days and times."""
@@ -305,6 +322,8 @@ class Importer:
             except MeetingFault as fault:
                 export.fault(first, "meetings", draft.name, str(fault))
                 meetings = ""
+            written = "; ".join(dict.fromkeys(one for one in draft.written if one))
+            self.result.written += [[own_names.MEETINGS, written, draft.name]] if written else []
             cells = [draft.name, self.course(export, row["course"])]
             cells += [
                 self.number(export, row["seats"], "seats", 9999),

@@ -33,6 +33,7 @@ class Ask:
 
 def add_arguments(parser: argparse.ArgumentParser) -> None:
     """The options of `lists`."""
+    parser.set_defaults(takes_names=True)
     manifest.add_argument(parser)
     parser.add_argument("--out", default="lists", metavar="FOLDER", help="where the lists go (default: lists)")
     parser.add_argument("--student", action="append", default=[], metavar="NAME", help="texts for these students alone; may be repeated")
@@ -57,7 +58,7 @@ def run(arguments: argparse.Namespace) -> int:
     names = chosen(arguments.student, market)
     tables.refuse_over(targets(arguments.out, names), manifest.files_read(found))
     tables.make_folder(os.path.join(arguments.out, "students"))
-    own = own_names.beside(found.catalogue)
+    own = market.own
     books = {
         "students": student_rows(market, own),
         "rosters": roster_rows(market, own),
@@ -85,10 +86,12 @@ def targets(folder: str, names: Sequence[str]) -> List[str]:
 
 def chosen(names: Sequence[str], market: reasons.Market) -> List[str]:
     """The students whose texts are written."""
-    for name in names:
+    found = [own_names.meant(market.own, "student", name) for name in names]
+    for name, word in zip(found, names):
         if name not in market.students:
-            raise tell.Trouble(f"no student of the roll has the name '{name}'. Capital letters count")
-    return list(names) or list(market.students)
+            hint = own_names.nearest(market.own, "student", word, market.students)
+            raise tell.Trouble(f"no student of the roll has the name '{word}'. Capital letters count{hint or '.'}")
+    return found or list(market.students)
 
 
 def student_rows(market: reasons.Market, own: own_names.Own) -> List[Sequence[object]]:
@@ -99,13 +102,19 @@ def student_rows(market: reasons.Market, own: own_names.Own) -> List[Sequence[ob
         # What the aftermarket's raise paid is not owed.
         left = max(0, market.text.budgets[name] - spent)
         sections = "; ".join(own_names.spelt(own, "section", one) for one in final.sections)
-        rows.append((own_names.spelt(own, "student", name), sections, credits_of(market, final.sections), spent, left))
+        rows.append((own_names.spelt(own, "student", name), sections, credits_cell(market, final.sections), spent, left))
     return rows
 
 
 def credits_of(market: reasons.Market, sections: Sequence[str]) -> int:
-    """The credits of these sections."""
+    """The credits of these sections, in the program's units."""
     return sum(market.sections[one].credits for one in sections)
+
+
+def credits_cell(market: reasons.Market, sections: Sequence[str]) -> object:
+    """The credits of these sections in the school's own units: a number where its decimal sign is the point."""
+    text = own_names.credits(market.own, credits_of(market, sections))
+    return text if "," in text else float(text) if "." in text else int(text)
 
 
 def roster_rows(market: reasons.Market, own: own_names.Own) -> List[Sequence[object]]:
@@ -169,13 +178,14 @@ def student_text(ask: Ask, name: str) -> str:
     text, market = ask.market.text, ask.market
     final = text.finals[name].sections
     spent = text.cost(final)
-    lines = [name, ""]
-    lines.append(f"You have {reasons.and_joined(final)}: {credits_of(market, final)} credits.")
+    lines = [market.student(name), ""]
+    lines.append(f"You have {market.listed(final)}: {own_names.credits_in_words(market.own, credits_of(market, final))}.")
     raised = ": the aftermarket raised the budgets" if spent > text.budgets[name] else ""
     lines.append(f"Your budget was {text.budgets[name]} tokens. What you have costs {spent}{raised}.")
     lines += ["", "Your sections:", ""] + section_lines(market, name, final)
     lines += ["", "Your lines of the published text, with their numbers:", ""]
     lines += [f"  {number}: {text.lines[number - 1]}" for number in ask.lines[name]]
+    lines += names_of_lines(ask, name)
     if ask.room is not None:
         lines += reason_lines(ask, ask.room, name)
     return "\n".join(lines) + "\n"
@@ -190,10 +200,23 @@ def section_lines(market: reasons.Market, name: str, final: Sequence[str]) -> Li
     """The sections that a student has, with price, own rating and meetings."""
     rated = market.ratings.get(name, {})
     rows = [
-        (one, market.text.prices[one], rated.get(one, 0), market.sections[one].credits, market.sections[one].meetings or "none")
+        (
+            market.section(one), market.text.prices[one], rated.get(one, 0), credits_cell(market, [one]),
+            own_names.meetings(market.own, one, market.sections[one].meetings or "none"),
+        )
         for one in final
-    ]
+    ]  # fmt: skip
     return ["  " + line for line in tell.table(("section", "price", "your rating", "credits", "meetings"), rows)]
+
+
+def names_of_lines(ask: Ask, name: str) -> List[str]:
+    """What the names in a student's lines stand for, where the school spells them otherwise."""
+    market = ask.market
+    bundles = [bundle for bundle in (*market.text.turns, market.text.bundles[name]) if bundle.student == name]
+    named = {section for bundle in bundles for section in bundle.sections}
+    pairs = [(name, market.student(name))] + [(one, market.section(one)) for one in market.sections if one in named]
+    told = [f"{one} is {original}" for one, original in pairs if one != original]
+    return ["", f"  There {', '.join(told)}."] if told else []
 
 
 def own_lines(text: published.Published) -> Dict[str, List[int]]:
@@ -214,11 +237,12 @@ def reason_lines(ask: Ask, room: alone.Room, name: str) -> List[str]:
     lines = ["", "Sections that you rated higher than one of yours, and have not:"]
     settled, final = reasons.held_by(ask.market, name)
     if settled != final:
-        lines += ["", reasons.of_second_stage(settled)]
+        lines += ["", reasons.of_second_stage(ask.market, settled)]
     alone.enter(room, name)
     for section in better:
         reason = reason_of(ask, room, name, section)
-        lines += ["", f"  {section} (your rating {ask.market.ratings[name][section]})", "  " + reasons.in_words(ask.market, reason)]
+        rating = ask.market.ratings[name][section]
+        lines += ["", f"  {ask.market.section(section)} (your rating {rating})", "  " + reasons.in_words(ask.market, reason)]
     alone.leave(room, name)
     return lines
 

@@ -1,19 +1,27 @@
-"""The school's own spelling of names, read back from the `names.csv` that `import` writes."""
+"""The school's own spelling of names, meetings and credits, read back from the `names.csv` that `import` writes."""
 
 from __future__ import annotations
 
 import csv
 import io
 import os
-from typing import Dict
+from decimal import Decimal, InvalidOperation
+from typing import Dict, Iterable, List
 
 from registrar import tables
+from registrar.spelling import Meant, letters_of, tidy
 from registrar.tell import Trouble
 
 FILE = "names.csv"
 
-# For each kind (`section`, `course`, `student`) the school's own spelling of each name that was spelt anew.
+# For each kind (`section`, `course`, `student`) the school's own spelling of each name that was spelt anew. The kind `meetings` has
+# the timetable's own words for the meetings of a section, and `unit` how many of the school's credits one `credit` of the program is.
 Own = Dict[str, Dict[str, str]]
+
+UNIT, CREDIT, MEETINGS = "unit", "credit", "meetings"
+
+# Of more names that begin with the same letters none is named.
+MOST_MEANT = 5
 
 
 def beside(catalogue: str) -> Own:
@@ -32,15 +40,80 @@ def read(path: str) -> Own:
                 own.setdefault(row["kind"], {})[row["name"]] = row["original"]
     except csv.Error as error:
         raise Trouble(f"{path} is no table of names: {error}") from error
+    unit = own.get(UNIT, {}).get(CREDIT, "1")
+    if not is_unit(unit):
+        raise Trouble(f"{path}: the unit of credits is '{unit}', which is no number above 0")
     return own
+
+
+def is_unit(text: str) -> bool:
+    """Whether the text is a number above 0, with a point or a comma as decimal sign."""
+    try:
+        number = Decimal(text.replace(",", "."))
+    except InvalidOperation:
+        return False
+    return number.is_finite() and number > 0
+
+
+def rows_of_units(unit: Decimal, decimal: str) -> List[List[str]]:
+    """The row of `names.csv` that has the unit of credits, in the school's own decimal sign; none where it is 1."""
+    return [] if unit == 1 else [[UNIT, plain(unit).replace(".", decimal), CREDIT]]
+
+
+def plain(number: Decimal) -> str:
+    """A number without an exponent and without zeros behind its point."""
+    text = format(number, "f")
+    return text.rstrip("0").rstrip(".") if "." in text else text
+
+
+def credits(own: Own, number: int) -> str:
+    """So many credits of the program in the school's own units and with its own decimal sign."""
+    unit = own.get(UNIT, {}).get(CREDIT, "1")
+    value = plain(number * Decimal(unit.replace(",", ".")))
+    return value.replace(".", ",") if "," in unit else value
+
+
+def credits_in_words(own: Own, number: int) -> str:
+    """`1 credit`, `5.5 credits`: so many credits of the program in the school's own units."""
+    text = credits(own, number)
+    return f"{text} credit" if text == "1" else f"{text} credits"
+
+
+def meetings(own: Own, section: str, otherwise: str) -> str:
+    """When a section meets, in the timetable's own words where they are known."""
+    return own.get(MEETINGS, {}).get(section, otherwise)
 
 
 def meant(own: Own, kind: str, word: str) -> str:
     """The program's name of what is given in the school's own spelling; any other word is left as it is."""
     for name, original in own.get(kind, {}).items():
-        if original == word:
+        if original == word or tidy(original) == tidy(word):
             return name
     return word
+
+
+def nearest(own: Own, kind: str, word: str, names: Iterable[str]) -> str:
+    """`; nearest: ÖKON 101`: whom or what a word that is nobody's name was likely to mean, in the school's own spelling.
+
+    Where it is the beginning of a few names, these. Nothing where none is near.
+    """
+    known = list(names)
+    letters = letters_of(word)
+    spellings = [(name, {letters_of(spelt(own, kind, name)), letters_of(name)}) for name in known]
+    found = [name for name, all_letters in spellings if letters in all_letters]
+    if not found and letters:
+        found = [name for name, all_letters in spellings if any(one.startswith(letters) for one in all_letters)]
+    if not 0 < len(found) <= MOST_MEANT:
+        by_spelling = {spelt(own, kind, name): name for name in known}
+        near = by_spelling.get(Meant(by_spelling).near(word)) or Meant(known).near(word)
+        found = [near] if near else []
+    return f"; nearest: {', '.join(shown(own, kind, name) for name in found)}" if found else ""
+
+
+def shown(own: Own, kind: str, name: str) -> str:
+    """A name in the school's own spelling, with that of the program behind it where that is another."""
+    original = spelt(own, kind, name)
+    return original if original == name else f"{original} ({name})"
 
 
 def spelt(own: Own, kind: str, name: str) -> str:

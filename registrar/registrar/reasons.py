@@ -2,20 +2,33 @@
 
 from __future__ import annotations
 
-from dataclasses import dataclass
+from dataclasses import dataclass, field
 from typing import Dict, List, Optional, Sequence, Tuple
 
-from registrar import published, tables
+from registrar import own_names, published, tables
 
 
 @dataclass(frozen=True)
 class Market:
-    """What a reason is found from: the published text, the tables, and what was wished."""
+    """What a reason is found from: the published text, the tables, and what was wished; and how the school spells it."""
 
     text: published.Published
     sections: Dict[str, tables.Section]
     students: Dict[str, tables.Student]
     ratings: Dict[str, Dict[str, int]]
+    own: own_names.Own = field(default_factory=dict)
+
+    def section(self, code: str) -> str:
+        """A section in the school's own spelling."""
+        return own_names.spelt(self.own, "section", code)
+
+    def student(self, name: str) -> str:
+        """A student in the school's own spelling."""
+        return own_names.spelt(self.own, "student", name)
+
+    def listed(self, codes: Sequence[str]) -> str:
+        """Sections in a sentence."""
+        return and_joined([self.section(code) for code in codes])
 
 
 @dataclass(frozen=True)
@@ -34,7 +47,7 @@ def market_of(text: published.Published, catalogue: str, roll: str, commands: Se
     """The market of a text, the commands being in the text's order."""
     sections = {one.code: one for one in tables.read_catalogue(catalogue)}
     students = {one.name: one for one in tables.read_roll(roll)}
-    return Market(text, sections, students, tables.ratings_of(commands, sections))
+    return Market(text, sections, students, tables.ratings_of(commands, sections), own_names.beside(catalogue))
 
 
 def read_reason(lines: Sequence[str]) -> Reason:
@@ -56,7 +69,7 @@ def and_joined(names: Sequence[str]) -> str:
 
 def in_words(market: Market, reason: Reason) -> str:
     """The answer in the guide's words, for the student. It speaks of the second stage."""
-    return " ".join([why_in_words(market, reason)] + best_in_words(reason))
+    return " ".join([why_in_words(market, reason)] + best_in_words(market, reason))
 
 
 def in_all_words(market: Market, reason: Reason) -> List[str]:
@@ -64,9 +77,9 @@ def in_all_words(market: Market, reason: Reason) -> List[str]:
     settled, final = held_by(market, reason.student)
     told = [in_words(market, reason)]
     if settled != final and reason.words[0] not in ("held", "unrated"):
-        told.insert(0, of_second_stage(settled))
+        told.insert(0, of_second_stage(market, settled))
     if reason.section in final and reason.section not in settled:
-        told.insert(0, f"You won {reason.section} in the aftermarket; this is why you did not have it before.")
+        told.insert(0, f"You won {market.section(reason.section)} in the aftermarket; this is why you did not have it before.")
     return told
 
 
@@ -75,22 +88,22 @@ def held_by(market: Market, student: str) -> Tuple[Tuple[str, ...], Tuple[str, .
     return market.text.bundles[student].sections, market.text.finals[student].sections
 
 
-def of_second_stage(settled: Sequence[str]) -> str:
+def of_second_stage(market: Market, settled: Sequence[str]) -> str:
     """That answers speak of the second stage, in which the student had these sections."""
     return (
-        f"(These answers speak of the second stage, in which you had {and_joined(settled)}. What the aftermarket changed, "
+        f"(These answers speak of the second stage, in which you had {market.listed(settled)}. What the aftermarket changed, "
         "your turn lines tell.)"
     )
 
 
 def why_in_words(market: Market, reason: Reason) -> str:
     """The first line in words."""
-    section = reason.section
-    costs = f"{section} costs {market.text.prices[section]}."
+    section = market.section(reason.section)
+    costs = f"{section} costs {market.text.prices[reason.section]}."
     caps = market.students[reason.student]
     limits = {
         "price": f"your budget of {market.text.budgets[reason.student]}",
-        "credits": f"your cap of {caps.credits} credits",
+        "credits": f"your cap of {own_names.credits_in_words(market.own, caps.credits)}",
         "courses": f"your cap of {caps.courses} sections",
     }
     first = reason.words[0]
@@ -106,16 +119,16 @@ def why_in_words(market: Market, reason: Reason) -> str:
         return f"{costs} Together with what your budget bought in the second stage it would {passes}."
     if first == "clash":
         other = reason.words[1]
-        same = market.sections[other].course == market.sections[section].course
+        same = market.sections[other].course == market.sections[reason.section].course
         is_like = "of the same course as" if same else "at the same time as"
-        return f"{costs} It is {is_like} {other}, which your budget bought in the second stage."
+        return f"{costs} It is {is_like} {market.section(other)}, which your budget bought in the second stage."
     return f"{costs} You could have had it besides all else: the adjustments that you gave make the bundle worth less with it."
 
 
 def held_in_words(market: Market, reason: Reason) -> str:
     """The answer where the bundle of the second stage has the section: the student has it still, or gave it up."""
-    section = reason.section
-    if section in held_by(market, reason.student)[1]:
+    section = market.section(reason.section)
+    if reason.section in held_by(market, reason.student)[1]:
         return f"You have {section}: your bundle of the second stage has it, and so has your final one."
     return (
         f"Your bundle of the second stage had {section}: you gave it up at one of your turns for a bundle that you like better. "
@@ -123,13 +136,13 @@ def held_in_words(market: Market, reason: Reason) -> str:
     )
 
 
-def best_in_words(reason: Reason) -> List[str]:
+def best_in_words(market: Market, reason: Reason) -> List[str]:
     """The best bundle with the section, and what it would have been worth."""
     if reason.lost is None:
         return []
     bought = reason.worth + reason.lost
     more = f"{reason.lost} more" if reason.lost else "as much"
     return [
-        f"The best that your budget could have bought with it is {and_joined(reason.best)}, worth {reason.worth} to you by your own "
+        f"The best that your budget could have bought with it is {market.listed(reason.best)}, worth {reason.worth} to you by your own "
         f"ratings. What it bought is worth {bought}, {more}.",
     ]

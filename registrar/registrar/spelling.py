@@ -181,14 +181,21 @@ class Meant:
             self.told[name] = self.look(name)
         return self.told[name]
 
+    def near(self, name: str) -> str:
+        """The name that was likely meant, or nothing."""
+        letters = letters_of(name)
+        same = self.by_letters.get(letters) or (self.bare.get(name.lstrip("0")) if name.isdigit() else None)
+        if same:
+            return same
+        near = difflib.get_close_matches(letters, self.by_letters, n=1, cutoff=0.75) if len(self.told) < COMPARED else []
+        return self.by_letters[near[0]] if near else ""
+
     def look(self, name: str) -> str:
         """The hint for a name that was not looked for yet."""
-        letters = letters_of(name)
-        same = self.by_letters.get(letters)
-        if same:
-            return f"; nearest: {same}" + (" (other capitals)" if same.casefold() == spelt(name).casefold() else "")
-        bare = self.bare.get(name.lstrip("0")) if name.isdigit() else None
-        if bare:
-            return f"; nearest: {bare} (a spreadsheet may have taken leading zeros)"
-        near = difflib.get_close_matches(letters, self.by_letters, n=1, cutoff=0.75) if len(self.told) < COMPARED else []
-        return f"; nearest: {self.by_letters[near[0]]}" if near else ""
+        near = self.near(name)
+        if not near:
+            return ""
+        if letters_of(near) == letters_of(name):
+            return f"; nearest: {near}" + (" (other capitals)" if near.casefold() == spelt(name).casefold() else "")
+        bare = name.isdigit() and self.bare.get(name.lstrip("0")) == near
+        return f"; nearest: {near}" + (" (a spreadsheet may have taken leading zeros)" if bare else "")

@@ -88,9 +88,9 @@ def facts(found: manifest.Manifest, market: reasons.Market, envy: Optional[Dict[
 def market_plots(market: reasons.Market) -> List[str]:
     """The plots of sections and of stages."""
     text = market.text
-    fill = figures.fill(text)
+    fill = named(market, figures.fill(text))
     full = sum(1 for _, share in fill if share >= 100)
-    dear = figures.prices(text)
+    dear = named(market, figures.prices(text))
     errors = figures.errors_by_stage(text)
     passes = figures.changes_by_pass(text)
     return [
@@ -99,6 +99,11 @@ def market_plots(market: reasons.Market) -> List[str]:
         plots.bars(plots.Axes("Clearing error by stage", listed(errors), "stage", "error"), errors),
         plots.bars(plots.Axes("Changes in the aftermarket", listed(passes), "pass", "turns that changed"), passes),
     ]
+
+
+def named(market: reasons.Market, items: List[Tuple[str, float]]) -> List[Tuple[str, float]]:
+    """Figures of sections, with the school's own spelling of each."""
+    return [(market.section(section), value) for section, value in items]
 
 
 def listed(items: List[Tuple[str, float]]) -> str:

@@ -174,10 +174,43 @@ class Explain(InFolder):
         self.run_scarce()
         told = call("explain", "U", "X")
         self.assertEqual(told.status, 9)
-        self.assertIn("No student of the roll has the name 'U'. Capital letters count.", told.err)
+        self.assertIn("No student of the roll has the name 'U'. Capital letters count; nearest: u\n", told.err)
         self.assertIn("No section of the catalogue has the name 'Z'", call("explain", "u", "Z").err)
         told = call("explain", "u", "GÉNI 1")
-        self.assertEqual((told.status, told.err), (tell.USAGE, "'GÉNI 1' is no name of the program, and no spelling that names.csv has\n"))
+        self.assertEqual((told.status, told.err), (9, "No section of the catalogue has the name 'GÉNI 1'. Capital letters count.\n"))
+
+    def test_the_one_that_was_meant(self) -> None:
+        """It is named in the school's own spelling, whether the word has its letters, other capitals, or begins it."""
+        self.run_scarce()
+        self.put("names.csv", "kind,original,name\nsection,ÖKON 101,X\nsection,Ünal,Y\nstudent,Émile,u\n")
+        for word in ("OKON 101", "ökon101", "OKON", "okon-101", "ÖKON 110"):
+            told = call("explain", "u", word)
+            self.assertEqual(told.status, 9)
+            self.assertIn(f"has the name '{word}'. Capital letters count; nearest: ÖKON 101 (X)\n", told.err)
+        self.assertIn("nearest: Émile (u)", call("explain", "Emile", "X").err)
+        told = call("explain", "Émile", "ÖKON 101")
+        self.assertEqual(told.status, 0)
+        self.assertRegex(told.out, "(You have ÖKON 101|ÖKON 101 costs)")
+
+    def test_names_that_begin_with_a_dash(self) -> None:
+        """They are words, also as the value of an option; one that is an option stands behind `--`, or behind `=`."""
+        self.scarce()
+        for name in ("catalogue.csv", "roll.csv", "a.session", "b.session"):
+            text = self.read(name).replace("u,", "-u-,").replace("v,", "-h,").replace("X", "-X").replace("Y", "--Y")
+            self.put(name, text.replace(" u ", " -u- ").replace(" v ", " -h "))
+        os.rename("a.session", "-a.session")
+        words = ["catalogue.csv", "roll.csv", "settings.json", "-a.session", "b.session"]
+        self.assertEqual(call("look", *words[:2], *words[3:]).status, 0)
+        self.assertEqual(call("run", *words).status, 0)
+        self.assertEqual(call("check", "catalogue.csv", "roll.csv", "settings.json", "published.txt", *words[3:]).out, "accepted\n")
+        self.assertRegex(call("explain", "-u-", "-X").out, r"\A-u- -X ")
+        self.assertRegex(call("explain", "-u-", "--Y", "--manifest", "manifest.json").out, r"\A-u- --Y ")
+        self.assertRegex(call("explain", "--", "-h", "--Y").out, r"\A-h --Y ")
+        self.assertEqual(call("lists", "--student", "-u-", "--student=-h").status, 0)
+        self.assertEqual(sorted(os.listdir("lists/students")), ["-h.session", "-h.txt", "-u-.session", "-u-.txt"])
+        self.assertEqual(call("explain", "-u-", "-X", "--manifesto", "x").status, tell.USAGE)
+        self.assertEqual(call("run", *words, "--worker", "1").status, 0)
+        self.assertEqual(call("run", *words, "--wokers", "1").status, tell.USAGE)
 
     def test_a_finding(self) -> None:
         """Where the text does not hold, the finding is told with its place."""

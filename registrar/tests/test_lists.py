@@ -69,7 +69,7 @@ class Lists(InFolder):
         """The loser's text has the reason; the winner needs none."""
         self.assertEqual(call("lists").status, 0)
         text = self.read(f"lists/students/{self.loser}.txt")
-        self.assert_told(text, ("You have Y: 1 credits.", "It alone passes your budget of 100.", f"budget {self.loser} 100"))
+        self.assert_told(text, ("You have Y: 1 credit.", "It alone passes your budget of 100.", f"budget {self.loser} 100"))
         self.assertIn("You have all that you rated highest.", self.read(f"lists/students/{self.winner}.txt"))
 
     def test_a_student_without_wishes(self) -> None:
