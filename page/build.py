@@ -14,33 +14,23 @@ import shutil
 import subprocess
 from pathlib import Path
 
+import join
 import kit
 import module
 
 HERE = Path(__file__).resolve().parent
 TOP = HERE.parent
-SCRIPTS = (
-    "elements",
-    "tables",
-    "texts",
-    "wishes",
-    "trees",
-    "drawing",
-    "program",
-    "files",
-    "words",
-    "student",
-    "auditor",
-    "registrar",
-    "page",
-)
 EXAMPLE = ("catalogue.csv", "roll.csv", "settings.json", "published.txt", "desk.session", "web.session")
 UNPROVED = "This page was built without proofs, for work on the page alone. Trust nothing that it says."
-PROVED = "The program in this page is compiled from the LLVM module of the proved program for Linux. The README of Course Match says what is proved of that program, and what has to be trusted besides."
+PROVED = (
+    "The program in this page is compiled from the LLVM module of the proved program for Linux. The README of Course "
+    "Match says what is proved of that program, and what has to be trusted besides."
+)
 
 NOT_KEPT = (
-    "page: nothing proved is kept of the sources as they stand: the page would prove all crates of the program first, which takes"
-    " half an hour to two hours. Say --prove to have that done. (Or call `rt ci` first, or build with --unproved.)\n"
+    "page: nothing proved is kept of the sources as they stand: the page would prove all crates of the program first, "
+    "which takes half an hour to two hours. Say --prove to have that done. (Or call `rt ci` first, or build with "
+    "--unproved.)\n"
 )
 
 
@@ -71,16 +61,19 @@ def example() -> bytes:
 
 def page_of(wasm: bytes, is_proved: bool) -> str:
     """The whole page."""
-    script = "'use strict';\n" + "\n".join((HERE / f"{name}.js").read_text() for name in SCRIPTS)
+    script = join.joined(HERE, "page")
     style = (HERE / "course-match.css").read_text()
     sum_of_module, commit, of_kit = hashlib.sha256(wasm).hexdigest(), version(), said("rt", "version")
-    policy = f"default-src 'none'; script-src {source_of(script)} 'wasm-unsafe-eval'; worker-src blob:; style-src {source_of(style)}; base-uri 'none'; form-action 'none'"
+    policy = (
+        f"default-src 'none'; script-src {source_of(script)} 'wasm-unsafe-eval'; worker-src blob:; "
+        f"style-src {source_of(style)}; base-uri 'none'; form-action 'none'"
+    )
     about = {"version": commit, "kit": of_kit, "module": sum_of_module, "proved": is_proved}
     parts = {
         "policy": policy,
         "style": style,
         "script": script,
-        "worker": (HERE / "host.js").read_text() + (HERE / "worker.js").read_text(),
+        "worker": join.joined(HERE, "worker"),
         "module": packed(wasm),
         "example": packed(example()),
         "about": json.dumps(about),
@@ -114,8 +107,14 @@ def module_for(arguments: argparse.Namespace, room: Path) -> Path:
 def main() -> None:
     parser = argparse.ArgumentParser(prog="scripts/page", description=__doc__)
     parser.add_argument("--unproved", action="store_true", help="build from what `rt try` compiles, without proofs")
-    parser.add_argument("--as-it-stands", action="store_true", help="proved where `rt ci` left the program, else --unproved")
-    parser.add_argument("--prove", action="store_true", help="prove the program first, where nothing proved is kept: half an hour to two")
+    parser.add_argument(
+        "--as-it-stands", action="store_true", help="proved where `rt ci` left the program, else --unproved"
+    )
+    parser.add_argument(
+        "--prove",
+        action="store_true",
+        help="prove the program first, where nothing proved is kept: half an hour to two",
+    )
     parser.add_argument("--bitcode", type=Path, help="with --unproved: take this module of LLVM")
     arguments = parser.parse_args()
     if arguments.as_it_stands and not kit.is_left_by_gate(TOP / "crates/market_program"):
@@ -140,9 +139,9 @@ def main() -> None:
         "page": hashlib.sha256(text.encode()).hexdigest(),
     }
     (out / "course-match.json").write_text(json.dumps(origin, indent=2) + "\n")
-    print(
-        f"page/out/course-match.html: {len(text.encode())} bytes, module {len(wasm)} bytes, {'proved' if origin['proved'] else 'UNPROVED'}, commit {origin['commit']}"
-    )
+    proved = "proved" if origin["proved"] else "UNPROVED"
+    sizes = f"{len(text.encode())} bytes, module {len(wasm)} bytes"
+    print(f"page/out/course-match.html: {sizes}, {proved}, commit {origin['commit']}")
 
 
 if __name__ == "__main__":

@@ -1,100 +1,161 @@
-// Draws a tree that opens node by node. At one level stand the sections that may be taken next, one below the other, each
-// with what follows when it is taken; the last line of a level closes it.
+// Draws a tree that opens node by node. At one level stand the sections that may be taken next, one below the other,
+// each with what follows when it is taken; the last line of a level closes it.
 
+import { code, el, opening, p } from './elements.js';
+import { tableOf } from './grid.js';
+import { TAKES, boundOf, closedBy, leftOf, losesTies, nodesOf } from './reckoning.js';
+import { listed, plural } from './wording.js';
+
+/**
+ * Points in words.
+ * @param {number} thousandths
+ */
 const points = thousandths => (thousandths / 1000).toFixed(3).replace(/\.?0+$/, '');
 
+/** @param {string} symbol */
+const sign = symbol => el('span', { class: 'sign' }, symbol);
+
+/** @param {Walk} walk @param {number[]} chosen */
 function leftWords(walk, chosen) {
   const left = leftOf(walk, chosen);
-  return `left are ${left.b} of ${plural(walk.budget, 'token')}, ${left.c} of ${plural(walk.credits, 'credit')} and ${left.m} of ${plural(walk.courses, 'section')}`;
+  return `left are ${left.b} of ${plural(walk.budget, 'token')}, ${left.c} of ${plural(walk.credits, 'credit')} `
+    + `and ${left.m} of ${plural(walk.courses, 'section')}`;
 }
 
-// The line of one section that may not be taken, or of several.
+/**
+ * The line of one section that may not be taken, or of several.
+ * @param {Walk} walk @param {number[]} chosen @param {number[]} places
+ */
 function closedLine(walk, chosen, places) {
-  const words = it => el('span', {}, el('b', {}, walk.menu.places[it].name), ` ${closedBy(walk, chosen, it) ?? 'may not be taken'}`);
-  if (places.length === 1) return el('li', { class: 'closed' }, el('span', { class: 'sign' }, '-'), ' ', words(places[0]), '.');
-  const summary = `${places.length} sections may not be taken: ${listed(places.map(it => walk.menu.places[it].name))}`;
-  return el('li', { class: 'closed' }, opening([el('span', { class: 'sign' }, '-'.repeat(places.length)), ' ', summary],
+  const words = (/** @type {number} */ it) =>
+    el('span', {}, el('b', {}, walk.menu.places[it].name), ` ${closedBy(walk, chosen, it) ?? 'may not be taken'}`);
+  if (places.length === 1) return el('li', { class: 'closed' }, sign('-'), ' ', words(places[0]), '.');
+  const names = listed(places.map(it => walk.menu.places[it].name));
+  return el('li', { class: 'closed' }, opening(
+    [sign('-'.repeat(places.length)), ' ', `${places.length} sections may not be taken: ${names}`],
     () => el('ul', { class: 'plain' }, places.map(it => el('li', {}, words(it), '.')))));
 }
 
+/** @type {Record<string, [string, string]>} */
 const RESOURCES = { b: ['token', 'tokens'], c: ['credit', 'credits'], m: ['section', 'sections'] };
 
-// The words of a leaf that a bound closes.
+/**
+ * The words of a leaf that a bound closes.
+ * @param {Walk} walk @param {number[]} chosen @param {number} from @param {TreeNode} node
+ */
 function boundWords(walk, chosen, from, node) {
-  const it = boundOf(walk, chosen, from, node), most = Math.floor(it.bound / 1000), isTie = most === walk.worth && losesTies(walk, chosen, from);
+  const it = boundOf(walk, chosen, from, node), most = Math.floor(it.bound / 1000);
+  const isTie = most === walk.worth && losesTies(walk, chosen, from);
   const tie = 'of bundles of equal worth the one with the earlier section is preferred, and that is the bundle.';
-  const end = `So at most ${most}, ${isTie ? `no more than the ${walk.worth} of the bundle; ${tie}` : `less than the ${walk.worth} of the bundle: no more need be looked at.`}`;
-  if (node.symbol === 'n') {
-    const more = it.brought.map(that => `${that.worth} (${that.name})`).join(' + ');
-    const rest = more ? `The rest can bring ${more} at most, in all ${points(it.bound)}.` : 'Nothing else can come to it.';
-    return [p(`What is chosen is worth ${it.value}. ${rest}`), p(end)];
-  }
-  const [one, many] = RESOURCES[node.symbol], by = walk.menu.places[node.number];
-  const takes = TAKES[node.symbol](by);
+  const end = `So at most ${most}, ${isTie ? `no more than the ${walk.worth} of the bundle; ${tie}`
+    : `less than the ${walk.worth} of the bundle: no more need be looked at.`}`;
+  if (node.symbol !== 'n') return [...rateWords(walk, node, it), p(end)];
+  const more = it.brought.map(that => `${that.worth} (${that.name})`).join(' + ');
+  const rest = more ? `The rest can bring ${more} at most, in all ${points(it.bound)}.` : 'Nothing else can come to '
+    + 'it.';
+  return [p(`What is chosen is worth ${it.value}. ${rest}`), p(end)];
+}
+
+/**
+ * The words of a bound by a rate.
+ * @param {Walk} walk @param {TreeNode} node @param {ReturnType<typeof boundOf>} it
+ */
+function rateWords(walk, node, it) {
+  const [one, many] = RESOURCES[node.symbol], by = walk.menu.places[node.number], takes = TAKES[node.symbol](by);
+  const all = points(1000 * it.value + it.rate * it.left);
   return [
-    p(`What is chosen is worth ${it.value}, and ${plural(it.left, `${one} is`, `${many} are`)} left. Say that a ${one} is worth what it is worth at ${by.name}: `
+    p(`What is chosen is worth ${it.value}, and ${plural(it.left, `${one} is`, `${many} are`)} left. `
+      + `Say that a ${one} is worth what it is worth at ${by.name}: `
       + `${it.by?.worth ?? 0} for ${plural(takes, one, many)}, ${points(it.rate)} a ${one}. `
-      + 'Who could spend all that is left at that rate, and besides got what each course brings above it, would have at most'),
+      + 'Who could spend all that is left at that rate, and besides got what each course brings above it, would have '
+      + 'at most'),
     el('ul', { class: 'plain' },
-      el('li', {}, `${it.value} (chosen) + ${points(it.rate)} · ${it.left} (left) = ${points(1000 * it.value + it.rate * it.left)}`),
-      it.brought.map(that => el('li', {}, `+ ${points(that.brings)} (${that.name}: ${that.worth} less ${points(it.rate)} · ${that.takes})`)),
+      el('li', {}, `${it.value} (chosen) + ${points(it.rate)} · ${it.left} (left) = ${all}`),
+      it.brought.map(that => el('li', {},
+        `+ ${points(that.brings)} (${that.name}: ${that.worth} less ${points(it.rate)} · ${that.takes})`)),
       el('li', {}, `= ${points(it.bound)}`)),
-    p(end)];
+  ];
 }
 
+/** @param {Walk} walk @param {number[]} chosen @param {number} from @param {TreeNode} node */
 function leafLine(walk, chosen, from, node) {
-  const sign = el('span', { class: 'sign' }, node.symbol + (node.number ?? ''));
   const names = listed(chosen.map(it => walk.menu.places[it].name));
-  if (node.symbol === '*') return el('li', { class: 'champion' }, sign, ` This is the bundle: ${names}, worth ${walk.worth}.`);
-  if (node.symbol === 'x') {
-    const why = closedBy(walk, chosen, walk.forced);
-    return el('li', { class: 'leaf' }, sign, ` ${walk.menu.places[walk.forced].name} can no more be taken: it ${why}.`);
+  if (node.symbol === '*') {
+    return el('li', { class: 'champion' }, sign('*'), ` This is the bundle: ${names}, worth ${walk.worth}.`);
   }
-  const most = Math.floor(boundOf(walk, chosen, from, node).bound / 1000), worth = `worth ${most} at most, and the bundle is worth ${walk.worth}`;
-  const rest = chosen.length ? `${names}, with what else may come to ${chosen.length === 1 ? 'it' : 'them'}` : 'All that is left';
-  return el('li', { class: 'leaf' }, opening([sign, ` ${rest}: ${worth}`], () => boundWords(walk, chosen, from, node)));
+  if (node.symbol === 'x') {
+    const why = closedBy(walk, chosen, walk.forced), { name } = walk.menu.places[walk.forced];
+    return el('li', { class: 'leaf' }, sign('x'), ` ${name} can no more be taken: it ${why}.`);
+  }
+  const most = Math.floor(boundOf(walk, chosen, from, node).bound / 1000);
+  const rest = chosen.length ? `${names}, with what else may come to ${chosen.length === 1 ? 'it' : 'them'}`
+    : 'All that is left';
+  const summary = ` ${rest}: worth ${most} at most, and the bundle is worth ${walk.worth}`;
+  return el('li', { class: 'leaf' },
+    opening([sign(node.symbol + (node.number ?? '')), summary], () => boundWords(walk, chosen, from, node)));
 }
 
-// The line of a section that is taken, with what follows below it. It is open where it leads to the bundle.
+/**
+ * The line of a section that is taken, with what follows below it. It is open where it leads to the bundle.
+ * @param {Walk} walk @param {number[]} chosen @param {TreeNode} node @param {number} place
+ * @returns {HTMLElement}
+ */
 function takenLine(walk, chosen, node, place) {
   const now = [...chosen, place], it = walk.menu.places[place];
-  const isOnTheWay = now.every(that => walk.champion.includes(that)) && walk.champion.every(that => that > place || now.includes(that));
-  const must = node.symbol === '!' ? ', which has to be taken' : '', rest = `${must} (rating ${it.rating}, price ${it.price}): ${leftWords(walk, now)}`;
-  const summary = [el('span', { class: 'sign' }, node.symbol), ' with ', el('b', {}, it.name), rest];
-  return el('li', { class: isOnTheWay ? 'way' : '' }, opening(summary, () => levelOf(walk, now, place + 1, node.with), isOnTheWay));
+  const isOnTheWay = now.every(that => walk.champion.includes(that))
+    && walk.champion.every(that => that > place || now.includes(that));
+  const must = node.symbol === '!' ? ', which has to be taken' : '';
+  const rest = `${must} (rating ${it.rating}, price ${it.price}): ${leftWords(walk, now)}`;
+  const summary = [sign(node.symbol), ' with ', el('b', {}, it.name), rest];
+  return el('li', { class: isOnTheWay ? 'way' : '' },
+    opening(summary, () => levelOf(walk, now, place + 1, node.with), isOnTheWay));
 }
 
+/**
+ * @param {Walk} walk @param {number[]} chosen @param {number} from @param {TreeNode} node
+ * @returns {HTMLElement}
+ */
 function levelOf(walk, chosen, from, node) {
   const lines = [];
+  /** @type {number[]} */
   let closed = [];
   const flush = () => { if (closed.length) lines.push(closedLine(walk, chosen, closed)); closed = []; };
   for (let place = from; node; place++, node = node.without) {
     if (node.symbol === '-') { closed.push(place); continue; }
     flush();
-    lines.push('+!'.includes(node.symbol) ? takenLine(walk, chosen, node, place) : leafLine(walk, chosen, place, node));
+    const isTaken = '+!'.includes(node.symbol);
+    lines.push(isTaken ? takenLine(walk, chosen, node, place) : leafLine(walk, chosen, place, node));
     if (!node.without) break;
   }
   return el('ul', { class: 'tree' }, lines);
 }
 
 const KEY = [
-  ['+', 'the section may be taken: below the line stands what follows with it, on the next line what follows without it'],
+  ['+', 'the section may be taken: below the line stands what follows with it, on the next line what follows without '
+    + 'it'],
   ['-', 'the section may not be taken, or the sections, one sign for each'],
   ['!', 'the section that is asked for comes next, and has to be taken'],
   ['x', 'the section that is asked for can no more be taken'],
   ['*', 'this is the bundle that the tree proves to be the best'],
   ['n', 'what is chosen, with all that may still come, is no better than the bundle'],
-  ['b', 'what is chosen, with all that the tokens left can bring, is no better than the bundle; the number is the place by whose worth a token is counted'],
+  ['b', 'what is chosen, with all that the tokens left can bring, is no better than the bundle; the number is the '
+    + 'place by whose worth a token is counted'],
   ['c', 'the same with the credits left'],
   ['m', 'the same with the number of sections left'],
 ];
 
-// What the signs of a tree mean, of those that it has.
+/**
+ * What the signs of a tree mean, of those that it has.
+ * @param {string} text
+ */
 const keyOf = text => el('ul', { class: 'plain quiet', 'aria-label': 'What the signs mean' },
-  KEY.filter(([sign]) => text.includes(sign)).map(([sign, words]) => el('li', {}, el('span', { class: 'sign' }, sign), ` ${words}`)));
+  KEY.filter(([it]) => text.includes(it)).map(([it, words]) => el('li', {}, sign(it), ` ${words}`)));
 
-// The whole drawing, with the tree's text and the table of its places.
-function drawingOf(walk, text) {
+/**
+ * The whole drawing, with the tree's text and the table of its places.
+ * @param {Walk} walk @param {string} text
+ */
+export function drawingOf(walk, text) {
   const places = tableOf('The places of the tree', [
     { head: 'Place', of: it => it.place },
     { head: 'Section', of: it => it.name, isText: true },
@@ -102,7 +163,8 @@ function drawingOf(walk, text) {
     { head: 'Price', of: it => it.price },
   ], walk.menu.places, { filterAt: 20 });
   return [
-    p(`Read from the top down. A line that opens takes its section, and shows what follows; the next line does without it. At first ${leftWords(walk, [])}.`),
+    p('Read from the top down. A line that opens takes its section, and shows what follows; the next line does without '
+      + `it. At first ${leftWords(walk, [])}.`),
     keyOf(text),
     levelOf(walk, [], 0, nodesOf(text)),
     opening('The tree as it is published, and its places', () => [el('p', { class: 'tree-text' }, code(text)), places]),

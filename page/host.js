@@ -1,28 +1,18 @@
-// One run of the program: `words` are those of the command line, `files` are [name, bytes] pairs. Each run has a fresh
-// instance of the module, so that nothing of an earlier one is left.
-function runProgram(module, words, files, limit) {
-  const program = new WebAssembly.Instance(module, {}).exports;
+// One run of the program.
+
+/**
+ * Runs the program in a fresh instance of the module, so that nothing of an earlier run is left.
+ * @param {WebAssembly.Module} module
+ * @param {string[]} words those of the command line
+ * @param {[string, Uint8Array][]} files each with its name
+ * @param {number} [limit] the most bytes of memory
+ */
+export function runProgram(module, words, files, limit) {
+  const program = /** @type {any} */ (new WebAssembly.Instance(module, {}).exports);
   if (limit) program.set_limit(BigInt(limit));
-  const put = bytes => {
-    const at = program.take(BigInt(bytes.length + 1));
-    if (!at) return at;
-    const to = new Uint8Array(program.memory.buffer, Number(at), bytes.length + 1);
-    to.set(bytes);
-    to[bytes.length] = 0;
-    return at;
-  };
-  const text = it => put(new TextEncoder().encode(it));
-  const noMemory = () => ({ status: 7, out: new TextEncoder().encode('out of memory\n'), memory: program.memory.buffer.byteLength });
-  // (word 0 is the program's name)
-  for (const word of ['course-match', ...words]) {
-    const at = text(word);
-    if (!at) return noMemory();
-    if (!program.add_word(at)) throw new Error('too many words');
-  }
-  for (const [name, bytes] of files) {
-    const [named, data] = [text(name), put(bytes)];
-    if (!named || !data) return noMemory();
-    if (!program.add_file(named, data, BigInt(bytes.length))) throw new Error('too many files');
+  if (!given(program, words, files)) {
+    const out = new TextEncoder().encode('out of memory\n');
+    return { status: 7, out, fault: undefined, memory: program.memory.buffer.byteLength };
   }
   let status, fault;
   try {
@@ -33,4 +23,36 @@ function runProgram(module, words, files, limit) {
   }
   const out = new Uint8Array(program.memory.buffer, Number(program.output_at()), Number(program.output_size())).slice();
   return { status, out, fault, memory: program.memory.buffer.byteLength };
+}
+
+/**
+ * Gives the program its words and files; word 0 is its own name.
+ * @param {any} program the exports @param {string[]} words @param {[string, Uint8Array][]} files
+ * @returns {boolean} whether the memory was enough for them
+ */
+function given(program, words, files) {
+  for (const word of ['course-match', ...words]) {
+    const at = put(program, new TextEncoder().encode(word));
+    if (!at) return false;
+    if (!program.add_word(at)) throw new Error('too many words');
+  }
+  for (const [name, bytes] of files) {
+    const [named, data] = [put(program, new TextEncoder().encode(name)), put(program, bytes)];
+    if (!named || !data) return false;
+    if (!program.add_file(named, data, BigInt(bytes.length))) throw new Error('too many files');
+  }
+  return true;
+}
+
+/**
+ * Puts bytes into the program's memory, with a zero behind them; answers where, or 0 where there is no room.
+ * @param {any} program @param {Uint8Array} bytes
+ */
+function put(program, bytes) {
+  const at = program.take(BigInt(bytes.length + 1));
+  if (!at) return at;
+  const to = new Uint8Array(program.memory.buffer, Number(at), bytes.length + 1);
+  to.set(bytes);
+  to[bytes.length] = 0;
+  return at;
 }

@@ -1,7 +1,23 @@
-// The program in a worker thread. One run follows another; a stop ends the thread, and the next run has a new one.
-class Program {
+// The program in a worker thread, and its calls.
+
+/** @typedef {Omit<Answer, 'text'>} Raw */
+
+/** The program in a worker thread. One run follows another; a stop ends the thread, and the next run has a new one. */
+export class Program {
+  /**
+   * @param {WebAssembly.Module} module
+   * @param {string} source of the worker's script
+   */
   constructor(module, source) {
-    Object.assign(this, { module, source, waiting: new Map(), count: 0, worker: null });
+    this.module = module;
+    this.source = source;
+    /** @type {Map<number, (answer: Raw) => void>} */
+    this.waiting = new Map();
+    this.count = 0;
+    /** @type {Worker | null} */
+    this.worker = null;
+    /** The most bytes of memory of a run; none where it is 0. */
+    this.limit = 0;
   }
 
   start() {
@@ -16,17 +32,23 @@ class Program {
     this.worker.postMessage({ module: this.module });
   }
 
-  // Answers { status, text, out, ms, memory }; the status of a run that was stopped is `stopped`.
-  async ask({ words, files }, limit) {
+  /**
+   * Runs the program; the status of a run that was stopped is `stopped`.
+   * @param {{ words: string[], files: [string, Uint8Array][] }} call
+   * @returns {Promise<Answer>}
+   */
+  async ask({ words, files }) {
     if (!this.worker) this.start();
     const id = ++this.count;
+    /** @type {Raw} */
     const answer = await new Promise(done => {
       this.waiting.set(id, done);
-      this.worker.postMessage({ id, words, files, limit });
+      this.worker.postMessage({ id, words, files, limit: this.limit });
     });
     return { ...answer, text: new TextDecoder('utf-8', { ignoreBOM: true }).decode(answer.out) };
   }
 
+  /** @param {'stopped' | 'fault'} status @param {string} [fault] */
   end(status, fault) {
     this.worker?.terminate();
     this.worker = null;
@@ -39,7 +61,10 @@ class Program {
   }
 }
 
-// The files of each form, in the order of its words.
+/**
+ * The files of each form, in the order of its words.
+ * @type {Record<string, (keyof Parts)[]>}
+ */
 const INPUTS = {
   check: ['catalogue', 'roll', 'settings', 'text', 'sessions'],
   explain: ['catalogue', 'roll', 'settings', 'text', 'sessions'],
@@ -47,28 +72,18 @@ const INPUTS = {
   run: ['catalogue', 'roll', 'settings', 'sessions'],
   prefer: ['catalogue', 'roll', 'sessions'],
 };
+/** @type {Record<string, string[]>} */
 const BEFORE = { audit: ['1'], run: ['1'] };
 
-// One call of the program: its words, and its inputs in their order, the first being input 1. In `explain` the names that
-// are asked for stand between the text and the sessions.
-function callOf(form, parts, names = []) {
+/**
+ * One call of the program: its words, and its inputs in their order, the first being input 1. In `explain` the names
+ * that are asked for stand between the text and the sessions.
+ * @param {string} form @param {Parts} parts @param {string[]} [names]
+ * @returns {Call}
+ */
+export function callOf(form, parts, names = []) {
   const inputs = INPUTS[form].flatMap(kind => parts[kind]), given = inputs.map((_, at) => `input ${at + 1}`);
   const sessions = parts.sessions.length, tables = given.slice(0, given.length - sessions);
   const words = [form, ...BEFORE[form] ?? [], ...tables, ...names, ...given.slice(given.length - sessions)];
   return { form, words, inputs, files: inputs.map((it, at) => [given[at], it.bytes]) };
-}
-
-// Whether this browser has 64-bit memories: a module with nothing but one.
-const hasMemory64 = () => {
-  try {
-    return WebAssembly.validate(new Uint8Array([0, 0x61, 0x73, 0x6d, 1, 0, 0, 0, 5, 3, 1, 4, 1]));
-  } catch {
-    return false;
-  }
-};
-
-// Bytes that were packed into the page: compressed, and written in base64.
-async function unpacked(id) {
-  const bytes = Uint8Array.from(atob($(id).textContent.trim()), it => it.charCodeAt(0));
-  return new Uint8Array(await new Response(new Blob([bytes]).stream().pipeThrough(new DecompressionStream('gzip'))).arrayBuffer());
 }

@@ -1,9 +1,18 @@
 // Reads the catalogue and the roll, to show what stands in them. Whether they are in order the program says.
 
-// The records of a text of comma-separated fields, as the program reads them (FORMATS, "The catalogue").
-function records(text) {
+import { decoded } from './bytes.js';
+
+/**
+ * The records of a text of comma-separated fields, as the program reads them (FORMATS, "The catalogue").
+ * @param {string} text
+ * @returns {string[][]}
+ */
+export function records(text) {
+  /** @type {string[][]} */
   const rows = [];
-  let row = [], field = '', isQuoted = false, isBegun = false;
+  /** @type {string[]} */
+  let row = [];
+  let field = '', isQuoted = false, isBegun = false;
   const endField = () => { row.push(field); [field, isBegun] = ['', false]; };
   const endRow = () => {
     if (row.length || isBegun) { endField(); rows.push(row); }
@@ -24,45 +33,53 @@ function records(text) {
   return rows;
 }
 
+/** @type {Record<string, string>} */
 const DAYS = { M: 'Mon', T: 'Tue', W: 'Wed', R: 'Thu', F: 'Fri', S: 'Sat', U: 'Sun' };
+/** @type {Record<string, string>} */
+const HALVES = { 1: ', first half', 2: ', second half' };
+
+/** @param {string} it four digits */
 const clock = it => `${it.slice(0, 2)}:${it.slice(2)}`;
 
+/** @param {string} text @returns {Meeting[]} */
 function meetingsOf(text) {
   return text ? text.split(';').map(it => ({ day: it[0], from: it.slice(1, 5), to: it.slice(6, 10) })) : [];
 }
 
-// `Tue Thu 10:30-12:00`, with the half of the term where it is not the whole.
-function meetingWords(section) {
+/**
+ * `Tue Thu 10:30-12:00`, with the half of the term where it is not the whole.
+ * @param {Section} section
+ */
+export function meetingWords(section) {
   const times = new Map();
   for (const it of section.meetings) {
     const time = `${clock(it.from)}-${clock(it.to)}`;
     times.set(time, [...times.get(time) ?? [], DAYS[it.day] ?? it.day]);
   }
   const words = [...times].map(([time, days]) => `${days.join(' ')} ${time}`).join(', ') || 'no meetings';
-  return words + ({ 1: ', first half', 2: ', second half' }[section.parts] ?? '');
+  return words + (HALVES[section.parts] ?? '');
 }
 
-function catalogueOf(text) {
+/**
+ * The rows of a catalogue.
+ * @param {string} text @returns {Section[]}
+ */
+export function catalogueOf(text) {
   return records(text).slice(1).map(([name, course, seats, credits, meetings = '', parts = '12'], at) =>
     ({ at, name, course, seats: Number(seats), credits: Number(credits), meetings: meetingsOf(meetings), parts }));
 }
 
-function rollOf(text) {
+/**
+ * The rows of a roll.
+ * @param {string} text @returns {Student[]}
+ */
+export function rollOf(text) {
   return records(text).slice(1).map(([name, base, credits, courses, carry = '0'], at) =>
     ({ at, name, base: Number(base), credits: Number(credits), courses: Number(courses), carry: Number(carry) }));
 }
 
-const catalogueIn = parts => catalogueOf(new TextDecoder().decode(parts.catalogue.bytes));
-const rollIn = parts => rollOf(new TextDecoder().decode(parts.roll.bytes));
+/** @param {Parts} parts */
+export const catalogueIn = parts => catalogueOf(decoded(parts.catalogue.bytes));
 
-function overlaps(one, other) {
-  return one.day === other.day && one.from < other.to && other.from < one.to;
-}
-
-// Why two different sections cannot be taken together, in words; null where they can.
-function clashOf(one, other) {
-  if (one.course === other.course) return 'is of the same course as';
-  const shares = [...one.parts].some(it => other.parts.includes(it));
-  const meets = one.meetings.some(it => other.meetings.some(that => overlaps(it, that)));
-  return shares && meets ? 'meets at the same time as' : null;
-}
+/** @param {Parts} parts */
+export const rollIn = parts => rollOf(decoded(parts.roll.bytes));

@@ -1,71 +1,128 @@
 // What the students said. The desk itself is the program's: what all have said, in the text's order, is put into one
 // session, and `prefer` tells how it ends.
 
-const decoded = bytes => new TextDecoder().decode(bytes);
+import { decoded, encoded, isSame } from './bytes.js';
+import { plural, shortList } from './wording.js';
 
-// The lines of a session that are commands, with their numbers (FORMATS, "Sessions").
-function commandsOf(bytes) {
+/**
+ * The lines of a session that are commands, with their numbers (FORMATS, "Sessions").
+ * @param {Uint8Array} bytes
+ */
+export function commandsOf(bytes) {
   const lines = decoded(bytes).split('\n').map(it => it.endsWith('\r') ? it.slice(0, -1) : it);
   return lines.map((line, at) => ({ line, number: at + 1 })).filter(({ line }) => /^[ \t]*[^ \t#]/.test(line));
 }
 
-// How often each session stands in an order: { 1: 606, 2: 992 }.
+/**
+ * How often each session stands in an order.
+ * @param {number[]} order @returns {Map<number, number>}
+ */
 function countsIn(order) {
   const counts = new Map();
   for (const it of order) counts.set(it, (counts.get(it) ?? 0) + 1);
   return counts;
 }
 
-// The orders of the given sessions in which each has as many commands as the text says, at most `most`, the given order
-// first. Where no order has, that is seen before any is tried.
-function possibleOrders(sessions, order, most) {
-  const counts = countsIn(order), sizes = sessions.map(it => commandsOf(it.bytes).length), wanted = sessions.map((_, at) => counts.get(at + 1) ?? 0), found = [];
-  const go = chosen => {
+/**
+ * The orders of the given sessions in which each has as many commands as the text says, the given order first. Where no
+ * order has, that is seen before any is tried.
+ * @param {GivenFile[]} sessions @param {number[]} order @param {number} most how many are looked for
+ * @returns {GivenFile[][]}
+ */
+export function possibleOrders(sessions, order, most) {
+  const counts = countsIn(order), sizes = sessions.map(it => commandsOf(it.bytes).length);
+  const wanted = sessions.map((_, at) => counts.get(at + 1) ?? 0);
+  /** @type {GivenFile[][]} */
+  const found = [];
+  const go = (/** @type {number[]} */ chosen) => {
     if (found.length === most) return;
     if (chosen.length === sessions.length) { found.push(chosen.map(it => sessions[it])); return; }
-    sizes.forEach((size, at) => { if (size === wanted[chosen.length] && !chosen.includes(at)) go([...chosen, at]); });
+    sizes.forEach((size, at) => {
+      if (size === wanted[chosen.length] && !chosen.includes(at)) go([...chosen, at]);
+    });
   };
   if (String([...sizes].sort()) === String([...wanted].sort())) go([]);
   return found;
 }
 
-// The order line of a text, without reading the rest of it.
-function orderOf(bytes) {
+/**
+ * The order line of a text, without reading the rest of it.
+ * @param {Uint8Array} bytes @returns {number[]}
+ */
+export function orderOf(bytes) {
   const from = bytes.indexOf(10) + 1, to = bytes.indexOf(10, from);
   const line = decoded(bytes.subarray(from, to < 0 ? bytes.length : to));
   return line.startsWith('order') ? line.split(' ').slice(1).map(Number) : [];
 }
 
-// How the given sessions differ from those that the order of a text takes, in words.
-function sessionsWords(sessions, order) {
-  const counts = countsIn(order), wanted = Array.from({ length: Math.max(0, ...counts.keys()) }, (_, at) => counts.get(at + 1) ?? 0);
-  const here = sessions.map(it => ({ it, size: commandsOf(it.bytes).length })), left = [...here], lacking = [];
+/**
+ * How the given sessions differ from those that the order of a text takes, in words.
+ * @param {GivenFile[]} sessions @param {number[]} order
+ * @returns {string[]}
+ */
+export function sessionsWords(sessions, order) {
+  const counts = countsIn(order), many = Math.max(0, ...counts.keys());
+  const wanted = Array.from({ length: many }, (_, at) => counts.get(at + 1) ?? 0);
+  const here = sessions.map(it => ({ name: it.name, size: commandsOf(it.bytes).length }));
+  const left = [...here], lacking = [];
   for (const size of wanted) {
     const at = left.findIndex(it => it.size === size);
     if (at < 0) lacking.push(size);
     else left.splice(at, 1);
   }
-  const sized = it => `${it.it.name} (${plural(it.size, 'command')})`;
-  const twice = sessions.flatMap((it, at) => sessions.slice(0, at).filter(other => it.bytes.length && isSame(it.bytes, other.bytes)).map(other => `${it.name} is the same as ${other.name}: remove one of them.`));
+  const sized = (/** @type {{ name: string, size: number }} */ it) => `${it.name} (${plural(it.size, 'command')})`;
+  const takes = wanted.map((size, at) => `${plural(size, 'command')} of session ${at + 1}`);
   return [
-    `The order of the text takes ${shortList(wanted.map((size, at) => `${plural(size, 'command')} of session ${at + 1}`))}. Given are ${shortList(here.map(sized))}.`,
-    lacking.length ? `No session of ${shortList(lacking.map(it => plural(it, 'command')))} is left for it: ${lacking.length > 1 ? 'these are missing, or were changed' : 'one is missing, or was changed'}.` : '',
-    left.length ? `The text takes no session of so many commands as ${shortList(left.map(sized))}: ${left.length > 1 ? 'they belong to another text, or were changed' : 'it belongs to another text, or was changed'}.` : '',
-    ...twice,
-    lacking.length || left.length ? '' : 'Each session has as many commands as the text takes, but they stand in another order: the school says in which.',
+    `The order of the text takes ${shortList(takes)}. Given are ${shortList(here.map(sized))}.`,
+    lackingWords(lacking), strayWords(left.map(sized)), ...sameWords(sessions),
+    lacking.length || left.length ? ''
+      : 'Each session has as many commands as the text takes, but they stand in another order: the school says in '
+        + 'which.',
   ].filter(Boolean);
 }
 
-// All commands in one session, in the order of the text.
-function merged(order, sessions) {
-  const left = sessions.map(it => commandsOf(it.bytes)), at = sessions.map(() => 0);
-  return new TextEncoder().encode(order.map(it => left[it - 1][at[it - 1]++].line + '\n').join(''));
+/** @param {number[]} lacking */
+function lackingWords(lacking) {
+  if (!lacking.length) return '';
+  const which = lacking.length > 1 ? 'these are missing, or were changed' : 'one is missing, or was changed';
+  return `No session of ${shortList(lacking.map(it => plural(it, 'command')))} is left for it: ${which}.`;
 }
 
-// The closed preferences that `prefer` prints: of each student the ratings and the adjustments.
-function preferencesOf(answer) {
+/** @param {string[]} left */
+function strayWords(left) {
+  if (!left.length) return '';
+  const which = left.length > 1 ? 'they belong to another text, or were changed'
+    : 'it belongs to another text, or was changed';
+  return `The text takes no session of so many commands as ${shortList(left)}: ${which}.`;
+}
+
+/**
+ * Which sessions were given twice.
+ * @param {GivenFile[]} sessions
+ */
+function sameWords(sessions) {
+  return sessions.flatMap((it, at) => sessions.slice(0, at)
+    .filter(other => it.bytes.length && isSame(it.bytes, other.bytes))
+    .map(other => `${it.name} is the same as ${other.name}: remove one of them.`));
+}
+
+/**
+ * All commands in one session, in the order of the text.
+ * @param {number[]} order @param {GivenFile[]} sessions
+ */
+export function merged(order, sessions) {
+  const left = sessions.map(it => commandsOf(it.bytes)), at = sessions.map(() => 0);
+  return encoded(order.map(it => left[it - 1][at[it - 1]++].line + '\n').join(''));
+}
+
+/**
+ * The closed preferences that `prefer` prints: of each student the ratings and the adjustments.
+ * @param {string} answer
+ * @returns {Map<string, Wishes>}
+ */
+export function preferencesOf(answer) {
   const found = new Map();
-  const of = name => {
+  const of = (/** @type {string} */ name) => {
     if (!found.has(name)) found.set(name, { ratings: new Map(), pairs: [] });
     return found.get(name);
   };
@@ -77,14 +134,19 @@ function preferencesOf(answer) {
   return found;
 }
 
-// The desk's replies other than `done`, each with the file and line of its command.
-function repliesOf(answer, sessions) {
+/**
+ * The desk's replies other than `done`, each with the file and line of its command.
+ * @param {string} answer what `prefer` printed @param {GivenFile[]} sessions
+ */
+export function repliesOf(answer, sessions) {
   const left = sessions.map(it => commandsOf(it.bytes)), at = sessions.map(() => 0), found = [];
   for (const line of answer.split('\n')) {
     const [word, session, reply, ...command] = line.split(' ');
     if (word !== 'entry') continue;
     const number = Number(session) - 1, { number: row, line: said } = left[number][at[number]++];
-    if (reply !== 'done') found.push({ file: sessions[number].name, row, reply, command: command[0] === 'unreadable' ? said.trim() : command.join(' ') });
+    if (reply === 'done') continue;
+    const words = command[0] === 'unreadable' ? said.trim() : command.join(' ');
+    found.push({ file: sessions[number].name, row, reply, command: words });
   }
   return found;
 }

@@ -1,4 +1,8 @@
 // The worker thread: it is given the module once, and then one run after another.
+
+import { runProgram } from './host.js';
+
+/** @type {WebAssembly.Module} */
 let module;
 
 onmessage = ({ data }) => {
@@ -14,5 +18,6 @@ onmessage = ({ data }) => {
     const isMemory = fault instanceof RangeError || /memory/i.test(String(fault));
     answer = { status: isMemory ? 7 : 'fault', out: new Uint8Array(), fault: String(fault), memory: 0 };
   }
-  postMessage({ ...answer, id: data.id, ms: performance.now() - begun }, [answer.out.buffer]);
+  const told = { ...answer, id: data.id, ms: performance.now() - begun };
+  postMessage(told, /** @type {any} */ ([answer.out.buffer]));
 };

@@ -46,7 +46,7 @@ def native(words: list[str], files: dict[str, bytes], room: Path, refuse: Path) 
 # The page's own program, called from outside: files come in base64, answers go so.
 ASK = """(async ([words, files, limit]) => {
   const bytes = files.map(([name, text]) => [name, Uint8Array.from(atob(text), it => it.charCodeAt(0))]);
-  const { status, out, ms } = await app.program.ask({ words, files: bytes }, limit);
+  const { status, out, ms } = await program.ask({ words, files: bytes }, limit);
   let text = '';
   for (let at = 0; at < out.length; at += 32768) text += String.fromCharCode(...out.subarray(at, at + 32768));
   return [status, btoa(text), ms];
@@ -62,7 +62,7 @@ def in_page(tab: Browser, words: list[str], files: dict[str, bytes], limit: int 
 
 def open_page(tab: Browser) -> None:
     """Opens the page, without what was looked at or made in it before, and waits till it can be used."""
-    tab.evaluate("typeof app === 'undefined' || (app.made = app.isRunning = null)")
+    tab.evaluate("typeof registrar === 'undefined' || (registrar.made = null, registrar.isRunning = false)")
     tab.go("about:blank")
     tab.go(PAGE.as_uri())
     tab.wait("document.body.dataset.ready")

@@ -101,7 +101,7 @@ CHECK = """(async edits => {
   const base = atob(spoilt.text), answers = [];
   for (const [at, gone, come] of edits) {
     const text = Uint8Array.from(base.slice(0, at) + come + base.slice(at + gone), it => it.charCodeAt(0));
-    const { status, text: said } = await app.program.ask({ words: spoilt.words, files: [...spoilt.files, ['published.txt', text]] });
+    const { status, text: said } = await program.ask({ words: spoilt.words, files: [...spoilt.files, ['published.txt', text]] });
     answers.push([status, said]);
   }
   return answers;
@@ -123,7 +123,7 @@ class Answers(unittest.TestCase):
         open_page(cls.tab)
 
     def test_module_asks_nothing_of_its_host(self) -> None:
-        self.assertEqual(self.tab.evaluate("WebAssembly.Module.imports(app.program.module).length"), 0)
+        self.assertEqual(self.tab.evaluate("WebAssembly.Module.imports(program.module).length"), 0)
 
     def test_examples_of_every_form(self) -> None:
         calls = example_calls() + worked_calls()

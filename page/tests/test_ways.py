@@ -37,7 +37,7 @@ WALKS = """(market => {
     }
   }
   return [count, wrong.slice(0, 5)];
-})(app.market)"""
+})(shown.market)"""
 
 # What stands on the page, also as the hint of a field, with a contrast to what is behind it of less than 4.5.
 FAINT = """(() => {
@@ -85,7 +85,7 @@ class Ways(unittest.TestCase):
 
     def verdict(self, title: str) -> str:
         """Waits for the verdict; answers all its words."""
-        self.tab.wait(f"document.querySelector('#verdict h2')?.textContent === {json.dumps(title)} && !app.works")
+        self.tab.wait(f"document.querySelector('#verdict h2')?.textContent === {json.dumps(title)} && !isWorking()")
         return self.words("#verdict")
 
     def words(self, selector: str) -> str:
@@ -117,7 +117,7 @@ class Ways(unittest.TestCase):
         self.tab.evaluate("$('student-name').select()")
         self.tab.type(name)
         self.tab.press("Enter", "\r")
-        self.tab.wait(f"$('student-answer').querySelector('h2')?.textContent === {json.dumps(name)} && !app.works")
+        self.tab.wait(f"$('student-answer').querySelector('h2')?.textContent === {json.dumps(name)} && !isWorking()")
 
     def test_files_and_folders_are_dropped(self) -> None:
         self.tab.drop([TERM / it for it in FILES])
@@ -161,7 +161,7 @@ class Ways(unittest.TestCase):
         self.verdict("This text holds")
         self.show("n.jones")
         self.tab.evaluate(
-            "globalThis.ask = app.program.ask.bind(app.program); app.program.ask = (...it) => new Promise(done => { globalThis.go = () => done(ask(...it)); })"
+            "globalThis.ask = program.ask.bind(program); program.ask = (...it) => new Promise(done => { globalThis.go = () => done(ask(...it)); })"
         )
         self.give(["roll.csv"], {"roll.csv": (TERM / "roll.csv").read_bytes().replace(b"n.jones,4500", b"n.jones,4600")})
         self.tab.wait("globalThis.go")
@@ -190,7 +190,7 @@ class Ways(unittest.TestCase):
                 self.give(FILES, {name: content})
                 self.assertIn(words, self.verdict(title))
                 self.click("Remove all files")
-                self.tab.wait("!app.files.length && !$('verdict').textContent")
+                self.tab.wait("!list.files.length && !$('verdict').textContent")
 
     def test_tables_of_a_spreadsheet_are_taken(self) -> None:
         tables = {name: b"\xef\xbb\xbf" + (TERM / name).read_bytes().replace(b"\n", b"\r\n") for name in FILES[:2]}
@@ -220,7 +220,7 @@ class Ways(unittest.TestCase):
         ):
             with self.subTest(words=words):
                 self.give(FILES, {"published.txt": changed})
-                self.tab.wait(f"$('verdict').textContent.includes({json.dumps(words)}) && !app.works")
+                self.tab.wait(f"$('verdict').textContent.includes({json.dumps(words)}) && !isWorking()")
                 self.assertIn("The line does not have the form that is due there.", self.verdict("This text does not hold"))
 
     def test_sessions_that_do_not_fit_are_told(self) -> None:
@@ -236,7 +236,7 @@ class Ways(unittest.TestCase):
                 self.assertIn(words, told)
                 self.assertIn("verify/verify.py --own", told)
                 self.click("Remove all files")
-                self.tab.wait("!app.files.length && !$('verdict').textContent")
+                self.tab.wait("!list.files.length && !$('verdict').textContent")
 
     def test_lines_of_one_student_are_no_session(self) -> None:
         own = b"# What n.jones said, in the order in which the desk took it.\nrate n.jones FNCE-601-A 100\n"
@@ -262,9 +262,9 @@ class Ways(unittest.TestCase):
         self.verdict("This text holds")
         self.tab.evaluate("$('files').open = true")
         self.click("Up")
-        self.tab.wait("app.files.findIndex(it => it.name === 'web.session') === 4")
+        self.tab.wait("list.files.findIndex(it => it.name === 'web.session') === 4")
         self.verdict("This text holds")
-        self.assertEqual(["desk.session", "web.session"], self.tab.evaluate("app.market.parts.sessions.map(it => it.name)"))
+        self.assertEqual(["desk.session", "web.session"], self.tab.evaluate("shown.market.parts.sessions.map(it => it.name)"))
 
     def test_order_that_was_not_tried_is_no_finding(self) -> None:
         given = {
@@ -278,7 +278,7 @@ class Ways(unittest.TestCase):
         self.give(list(given), given)
         self.assertIn("put them into the order that the school says", self.verdict("This text was not found to hold"))
         for at in range(5, 9):
-            self.tab.evaluate(f"moveUp({at})")
+            self.tab.evaluate(f"list.moveUp(list.files[{at}])")
         self.verdict("This text holds")
 
     def test_student(self) -> None:
@@ -464,7 +464,7 @@ class Ways(unittest.TestCase):
         ):
             with self.subTest(name=name):
                 self.submit(**{name: value})
-                self.tab.wait(f"$('wrong-{name}')?.textContent.includes({json.dumps(words)}) && !app.works")
+                self.tab.wait(f"$('wrong-{name}')?.textContent.includes({json.dumps(words)}) && !isWorking()")
                 self.assertNotIn("settings.json", self.words("#registrar form"))
                 self.assertIn(f"wrong-{name}", self.tab.evaluate("document.activeElement.getAttribute('aria-describedby')"))
                 focus = self.tab.evaluate("[document.activeElement.id, document.activeElement.getAttribute('aria-invalid')]")
@@ -494,7 +494,7 @@ class Ways(unittest.TestCase):
         self.click("Run a market")
         self.tab.wait("$('setting-accept')")
         self.submit(accept="100000", turns="0")
-        self.tab.wait("app.made")
+        self.tab.wait("registrar.made")
         self.tab.press("Tab")
         for button, dialogs in ("Look at the wishes", [("dialog", "beforeunload")]), ("Save the published text", []):
             self.click(button)
@@ -524,13 +524,13 @@ class Ways(unittest.TestCase):
         self.assertEqual("The files were changed, so the run was stopped: run the market again.", self.words("#run-answer"))
         self.verdict("This text holds")
         self.click("One student")
-        self.tab.evaluate("globalThis.ask = app.program.ask; app.program.ask = () => Promise.resolve({ status: 'stopped', text: '' })")
+        self.tab.evaluate("globalThis.ask = program.ask; program.ask = () => Promise.resolve({ status: 'stopped', text: '' })")
         self.show("n.jones")
         told = "document.querySelector('.question .answer').textContent"
         self.assertEqual("The work was stopped before its end. Nothing is lost. Ask again", self.tab.evaluate(told))
         self.assertEqual("The work was stopped before its end. Nothing is lost. Ask again", self.words("#student section:last-of-type div"))
         self.tab.evaluate(
-            "app.program.ask = globalThis.ask; [...document.querySelectorAll('#student button')].filter(it => it.textContent === 'Ask again').forEach(it => it.click())"
+            "program.ask = globalThis.ask; [...document.querySelectorAll('#student button')].filter(it => it.textContent === 'Ask again').forEach(it => it.click())"
         )
         self.tab.wait(
             f"{told}.includes('The price of FNCE-717-A is 3252') && $('student').textContent.includes('s.adler, whose budget is 5018')"
@@ -545,15 +545,15 @@ class Ways(unittest.TestCase):
         self.click("Run a market")
         for view, name in ("student", "n.jones"), ("student", "s.adler"), ("auditor", "s.adler"):
             self.tab.evaluate("history.back()")
-            self.tab.wait(f"app.view === '{view}' && $('student-answer').dataset.name === '{name}' && !$('{view}').hidden")
+            self.tab.wait(f"shown.view === '{view}' && $('student-answer').dataset.name === '{name}' && !$('{view}').hidden")
             self.assertEqual(PAGE.as_uri(), self.tab.evaluate("location.href"))
         self.tab.evaluate("history.go(2)")
-        self.tab.wait("app.view === 'student' && $('student-answer').dataset.name === 'n.jones'")
+        self.tab.wait("shown.view === 'student' && $('student-answer').dataset.name === 'n.jones'")
         self.tab.reload()
-        self.tab.wait("document.body.dataset.ready && !app.files.length")
+        self.tab.wait("document.body.dataset.ready && !list.files.length")
         self.give(FILES)
         self.verdict("This text holds")
-        self.assertEqual(["student", "n.jones"], self.tab.evaluate("[app.view, $('student-answer').dataset.name]"))
+        self.assertEqual(["student", "n.jones"], self.tab.evaluate("[shown.view, $('student-answer').dataset.name]"))
 
     def test_long_names_stay_on_a_narrow_screen(self) -> None:
         changed = {it: (TERM / it).read_bytes().replace(b"n.jones", b"N" * 32).replace(b"FNCE-717-A", b"F" * 32) for it in FILES}
@@ -606,10 +606,10 @@ class Ways(unittest.TestCase):
             with self.subTest(words=words):
                 self.give(FILES, changed)
                 self.assertIn(words, self.verdict("A file is refused"))
-                self.tab.evaluate("verdict('open', '')")
+                self.tab.evaluate("showVerdict('open', '')")
 
     def test_want_of_memory_is_told(self) -> None:
-        self.tab.evaluate("app.limit = 9.2e6")
+        self.tab.evaluate("program.limit = 9.2e6")
         self.click("Take the example term")
         self.assertIn("status 7", self.verdict("There is not enough memory"))
 
@@ -633,14 +633,14 @@ class Ways(unittest.TestCase):
         self.verdict("This text holds")
         (self.room / "late.session").write_bytes(b"clear n.jones\n")
         self.tab.choose("#choose", [self.room / "late.session"])
-        self.tab.wait("app.files.length === 8")
+        self.tab.wait("list.files.length === 8")
         self.assertIn("does not name late.session, so the check left that out", self.verdict("This text holds"))
-        self.tab.evaluate("app.files = []; app.check()")
+        self.tab.evaluate("list.set([])")
         (self.room / "late.session").unlink()
         (self.room / "z.session").write_bytes(sessions[0] + b"# changed\n")
         self.tab.choose("#choose", sorted(self.room.iterdir()))
         self.assertIn("z.session is not the file that manifest.json tells of", self.verdict("The files do not fit together"))
-        self.tab.evaluate("app.files.find(it => it.kind === 'manifest').bytes = new Uint8Array(); app.check()")
+        self.tab.evaluate("list.files.find(it => it.kind === 'manifest').bytes = new Uint8Array(); check()")
         self.assertIn("manifest.json is taken for a manifest and is none", self.verdict("The files do not fit together"))
 
     def test_old_browser_is_told_which_ones_can(self) -> None:
@@ -699,7 +699,7 @@ class Ways(unittest.TestCase):
         self.tab.look(*SIZES["desktop"], medium="print")
         self.tab.picture(PICTURES / "student-print.png")
         self.assertFalse(self.tab.evaluate("document.querySelector('nav').checkVisibility()"))
-        self.tab.evaluate("app.show('auditor'); dispatchEvent(new Event('beforeprint'))")
+        self.tab.evaluate("show('auditor'); dispatchEvent(new Event('beforeprint'))")
         told = self.words("#auditor")
         self.assertIn(hashlib.sha256((TERM / "published.txt").read_bytes()).hexdigest(), told)
         self.assertIn("It does not mean that the prices came from the search", told)

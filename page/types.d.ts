@@ -1,0 +1,262 @@
+// The types of the page's values, for JSDoc.
+
+/** What a file is taken for. */
+type Kind = 'catalogue' | 'roll' | 'settings' | 'text' | 'session' | 'manifest' | 'own' | 'other' | 'unknown';
+
+/** A file that was given. One that could not be read has no bytes. `sum` is its SHA-256, once it is known. */
+interface GivenFile {
+  name: string;
+  bytes: Uint8Array;
+  kind: Kind;
+  isUnread?: boolean;
+  sum?: string | null;
+}
+
+/** A file as the browser gives it. */
+interface BrowserFile {
+  name: string;
+  file: File;
+}
+
+/** When a section meets: a day's letter, and two times as four digits. */
+interface Meeting {
+  day: string;
+  from: string;
+  to: string;
+}
+
+/** A row of the catalogue; `at` is its place, from 0. */
+interface Section {
+  at: number;
+  name: string;
+  course: string;
+  seats: number;
+  credits: number;
+  meetings: Meeting[];
+  parts: string;
+}
+
+/** A row of the roll; `at` is its place, from 0. */
+interface Student {
+  at: number;
+  name: string;
+  base: number;
+  credits: number;
+  courses: number;
+  carry: number;
+}
+
+/** The files of one market, by what they are. */
+interface Parts {
+  catalogue?: GivenFile;
+  roll?: GivenFile;
+  settings?: GivenFile;
+  text?: GivenFile;
+  sessions: GivenFile[];
+}
+
+/** A bundle of the second stage with its tree. */
+interface Bundle {
+  names: string[];
+  tree: string;
+}
+
+/** A turn of the aftermarket; `number` counts from 0, `student` is a place in the roll. */
+interface Turn extends Bundle {
+  number: number;
+  pass: number;
+  student: number;
+}
+
+/** A turn as it stood: what was held before it, how many seats were free, and what was to be had. */
+interface TurnAsItStood extends Turn {
+  before: string[];
+  free: Map<string, number>;
+  allowed: Set<string>;
+}
+
+/** A turn that changed what the student holds. */
+interface Change extends Turn {
+  gave: string[];
+  took: string[];
+}
+
+/** At which line each part of a published text begins; the first line is 1. */
+interface TextLines {
+  order: number;
+  budgets: number;
+  starts: number;
+  error: number;
+  prices: number;
+  bundles: number;
+  turns: number;
+  finals: number;
+  used: number;
+}
+
+/** What stands in a published text that was accepted. */
+interface PublishedText {
+  order: number[];
+  budgets: number[];
+  starts: number[];
+  error: string;
+  prices: number[];
+  bundles: Bundle[];
+  turns: Turn[];
+  finals: string[][];
+  used: number[];
+}
+
+/** What one student said, as it stands when the desk closes. */
+interface Wishes {
+  ratings: Map<string, number>;
+  pairs: [string, string, number][];
+}
+
+/** What the views need of the settings. */
+interface Settings {
+  spread: number;
+  raise: number;
+  accept: number;
+}
+
+/** What `audit` said of one student: envy of no greater budgets, of greater ones, and of those beyond one section. */
+interface Envy {
+  counts: number[];
+  sees?: { other: string; names: string[]; but: string | null };
+}
+
+/** Who envies whom, in both stages; the totals apart, since a student may have any name. */
+interface EnvyOfAll {
+  settled: Map<string, Envy>;
+  final: Map<string, Envy>;
+  totals: { settled: number[]; final: number[] };
+}
+
+/** A market whose text holds, as the views show it. */
+interface Market {
+  parts: Parts;
+  files: GivenFile[];
+  catalogue: Section[];
+  roll: Student[];
+  settings: Settings;
+  text: PublishedText;
+  wishes: Map<string, Wishes>;
+  sectionOf: Map<string, Section>;
+  counts: Map<string, number>;
+  endCounts: Map<string, number>;
+  ms: number;
+  envy?: EnvyOfAll;
+  asksEnvy?: Promise<Answer> | null;
+}
+
+/** One call of the program: its words, and its inputs, of which the first is input 1. */
+interface Call {
+  form: string;
+  words: string[];
+  inputs: GivenFile[];
+  files: [string, Uint8Array][];
+}
+
+/**
+ * What a call answered. Of a run that was stopped the status is `stopped`, of one that failed in the browser `fault`.
+ */
+interface Answer {
+  status: number | 'stopped' | 'fault';
+  text: string;
+  out: Uint8Array;
+  ms: number;
+  memory: number;
+  fault?: string;
+}
+
+/** An answer with its call and the files that it was of. */
+interface Checked {
+  call: Call;
+  answer: Answer;
+  parts: Parts;
+  isCut?: boolean;
+}
+
+/** What is told of an answer that is no result. */
+interface Told {
+  title: string;
+  words: string;
+  help?: string;
+  finding?: string;
+}
+
+/** A place of a student's menu: a section that it rated above 0. */
+interface Place {
+  place: number;
+  section: Section;
+  name: string;
+  rating: number;
+  price: number;
+}
+
+/** A student's menu. `together` has of each place the adjustments with others, `of` the place of each section. */
+interface Menu {
+  places: Place[];
+  together: Map<number, number>[];
+  of: Map<string, number>;
+}
+
+/** A node of a tree; `at` is its first byte in the tree's text. */
+interface TreeNode {
+  symbol?: string;
+  at?: number;
+  number?: number;
+  with?: TreeNode;
+  without?: TreeNode;
+}
+
+/** What a tree is walked with. */
+interface Walk {
+  menu: Menu;
+  budget: number;
+  credits: number;
+  courses: number;
+  allowed?: Set<string>;
+  champion: number[];
+  worth: number;
+  forced: number | null;
+}
+
+/** What is left of tokens, credits and sections. */
+interface Left {
+  b: number;
+  c: number;
+  m: number;
+}
+
+/** What the module and the page were built from. */
+interface About {
+  version: string;
+  kit: string;
+  module: string;
+  proved: boolean;
+}
+
+/** A part that opens; `fill` makes what stands in it, once. */
+interface Opening extends HTMLDetailsElement {
+  fill(): void;
+}
+
+/** A column of a grid. */
+interface Column<Row> {
+  head: string;
+  of(row: Row): string | number;
+  show?(row: Row): Node | string;
+  isText?: boolean;
+}
+
+interface Array<T> {
+  findLastIndex(holds: (it: T, at: number) => boolean): number;
+}
+
+declare class DecompressionStream {
+  constructor(format: string);
+  readonly readable: ReadableStream;
+  readonly writable: WritableStream;
+}

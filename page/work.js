@@ -1,0 +1,63 @@
+// The one program of the page, and what the page tells while it works.
+
+import { $ } from './elements.js';
+import { Program } from './program.js';
+
+/** @type {Program} */
+let program;
+const progress = {
+  /** how many calls wait for their answers */
+  count: 0,
+  title: '',
+  /** when the first of them began, in milliseconds of the page */
+  begun: 0,
+  /** @type {ReturnType<typeof setInterval> | undefined} */
+  clock: undefined,
+};
+
+/** @param {WebAssembly.Module} module @param {string} worker the source of its script */
+export function startProgram(module, worker) {
+  program = new Program(module, worker);
+}
+
+/** Whether a call waits for its answer. */
+export const isWorking = () => progress.count > 0;
+
+/** Stops the work: whoever waits for an answer gets `stopped`. */
+export const stopWork = () => program.stop();
+
+/**
+ * Runs one call of the program, and tells that it works and for how long.
+ * @param {string} title what it does
+ * @param {{ words: string[], files: [string, Uint8Array][] }} call
+ * @returns {Promise<Answer>}
+ */
+export async function work(title, call) {
+  if (!progress.count++) {
+    progress.begun = performance.now();
+    progress.clock = setInterval(tell, 100);
+  }
+  progress.title = `${title} ..`;
+  const answer = await program.ask(call);
+  if (--progress.count === 0) rest();
+  return answer;
+}
+
+function tell() {
+  const ms = performance.now() - progress.begun;
+  if (ms <= 300) return;
+  $('working').hidden = false;
+  for (const it of [$('working-words'), $('working-said')]) {
+    if (it.textContent !== progress.title) it.textContent = progress.title;
+  }
+  $('working-time').textContent = ms < 1000 ? '' : `${Math.floor(ms / 1000)} s`;
+}
+
+function rest() {
+  clearInterval(progress.clock);
+  const had = $('working').contains(document.activeElement);
+  $('working').hidden = true;
+  $('working-said').textContent = '';
+  // (what has the focus must not vanish with it: the pressed one of the views has it then)
+  if (had) /** @type {HTMLElement} */ (document.querySelector('nav [aria-pressed=true]'))?.focus();
+}
