@@ -6,22 +6,28 @@ import argparse
 import functools
 import os
 import sys
-import tempfile
-from dataclasses import dataclass
-from typing import Iterator, Sequence
+from collections import Counter
+from typing import Sequence
 
-from registrar import manifest, own_names, program, tables, tell, work_log
-from registrar.exported import Export, Row
-from registrar.faults import Faults
+from registrar import forms, hall_desk, manifest, own_names, program, swaps, tables, tell, work_log
+from registrar.faults import Faults, shown
 from registrar.import_exports import write_all
-from registrar.mapping import Mapping, Source, read_mapping, split
-from registrar.spelling import NameFault, NameRules, Names, tidy
+from registrar.spelling import Meant
 
 NAME = "hall"
 HELP = "drop and add after publication: requests of a form to a stream, and the rosters after the hall"
 
-#: The words of a request.
-REQUESTS = ("add", "drop", "leave")
+#: The kinds of what keeps the hall from its work, or is left out, unless it is allowed.
+KINDS = {
+    "unreadable": "a line that is no request",
+    "no-student": "a student who is not on the roll",
+    "no-section": "a section that is not in the catalogue",
+    "lost-seat": "a swap that gives a seat up for one that is not free: it is left out",
+    "catalogue": "a catalogue in which more than seats changed since the run",
+}
+
+#: The replies to requests that say nothing to the desk.
+LOST = ("unreadable", "no-student", "no-section")
 
 
 def add_arguments(parser: argparse.ArgumentParser) -> None:
@@ -30,7 +36,8 @@ def add_arguments(parser: argparse.ArgumentParser) -> None:
         f"{HELP}. "
         "The requests of all [requests NAME] of the mapping make one stream, in the order of the mapping and of the rows, so that "
         "the replies are the same each time. Written are hall.requests, hall.txt (what the program printed), and as tables "
-        "hall-replies.csv, hall-rosters.csv, hall-students.csv and hall-waiting.csv."
+        "hall-replies.csv, hall-rosters.csv, hall-students.csv and hall-waiting.csv. The kinds of --allow: "
+        + "; ".join(f"{kind}: {what}" for kind, what in KINDS.items()) + "."
     )
     manifest.add_argument(parser)
     parser.add_argument(
@@ -39,6 +46,9 @@ def add_arguments(parser: argparse.ArgumentParser) -> None:
     parser.add_argument("--mapping", default="mapping.ini", metavar="FILE", help="the mapping (default: mapping.ini)")
     parser.add_argument("--into", metavar="FOLDER", help="where the files are written (default: the mapping's folder)")
     parser.add_argument("--replace", action="store_true", help="write over files that stand there and differ")
+    parser.add_argument(
+        "--allow", action="append", default=[], choices=list(KINDS), metavar="KIND", help="a kind that is taken all the same; may come again"
+    )
 
 
 def writes(arguments: argparse.Namespace) -> list[str]:
@@ -51,155 +61,102 @@ def into(arguments: argparse.Namespace) -> str:
     return arguments.into or os.path.dirname(arguments.mapping) or "."
 
 
-@dataclass(frozen=True)
-class Request:
-    """A request, with its place in the export."""
-
-    words: tuple[str, ...]
-    file: str
-    row: int
-
-    @property
-    def line(self) -> str:
-        """The request as a line of a stream."""
-        return " ".join(self.words)
-
-
 def run(arguments: argparse.Namespace) -> int:
     """Makes the stream, asks the program, and writes what it answers."""
-    found = manifest.read(arguments.manifest)
-    if arguments.requests:
-        asked = [request for path in arguments.requests for request in stream(path)]
-    else:
-        faults = Faults()
-        asked = Gatherer(arguments.mapping, found, faults).requests()
-        if faults:
-            faults.tell(sys.stdout)
-            tell.say(f"nothing is written; correct the exports, or {arguments.mapping}, and run again")
-            return faults.status
-    text = "# Requests, written by `registrar hall`.\n" + "".join(request.line + "\n" for request in asked)
-    answer = ask(found, text)
+    found = manifest.read(arguments.manifest, catalogue_too=False)
+    if not hall_desk.is_catalogue_of_run(found):
+        status = take_other_catalogue(found, "catalogue" in arguments.allow)
+        if status:
+            return status
+    faults = Faults()
+    asked = gathered(arguments, found, faults)
+    if faults:
+        faults.tell(sys.stdout)
+        tell.say(f"nothing is written; correct the exports, or {arguments.mapping}, and run again")
+        return faults.status
+    answer = hall_desk.ask(found, hall_desk.as_stream(asked))
     if answer.status:
-        for line in program.retell(answer):
-            tell.warn(line)
-        return answer.status
+        return tell_refusal(found, answer)
+    if tell_lost(found, asked, hall_desk.replies_of(answer.lines), arguments.allow):
+        return tell.FAULTS
+    takes_all = "lost-seat" in arguments.allow
+    settled = swaps.Settled(tuple(asked), answer, ()) if takes_all else swaps.settle(found, asked, answer)
+    return written(arguments, found, settled)
+
+
+def gathered(arguments: argparse.Namespace, found: manifest.Manifest, faults: Faults) -> list[forms.Request]:
+    """The requests of the streams that are named, or of the mapping's exports."""
+    if arguments.requests:
+        return [request for path in arguments.requests for request in forms.stream(path)]
+    return forms.Gatherer(arguments.mapping, found, faults).requests()
+
+
+def take_other_catalogue(found: manifest.Manifest, allowed: bool) -> int:
+    """Takes a catalogue in which seats were changed since the run, and says which; answers the status of any other."""
+    answer = hall_desk.ask(found, hall_desk.as_stream([]))
+    if answer.status:
+        return tell_refusal(found, answer)
+    hall_desk.refuse_more_than_seats(found, allowed)
+    for line in hall_desk.seats_changed(found):
+        tell.say(line)
+    return 0
+
+
+def tell_refusal(found: manifest.Manifest, answer: program.Answer) -> int:
+    """Tells why no desk opened, and answers the status."""
+    for line in hall_desk.refusal(found, answer):
+        tell.warn(line)
+    return answer.status
+
+
+def tell_lost(found: manifest.Manifest, asked: Sequence[forms.Request], replies: Sequence[str], allowed: Sequence[str]) -> int:
+    """Lists the requests that are none, or name nobody and nothing, and answers how many of these are not allowed."""
+    names = {
+        "no-student": Meant(one.name for one in tables.read_roll(found.roll)),
+        "no-section": Meant(one.code for one in tables.read_catalogue(found.catalogue)),
+    }
+    lost = [(request, reply) for request, reply in zip(asked, replies) if reply in LOST]
+    for request, reply in lost:
+        word = request.words[1 if reply == "no-student" else 2] if reply in names else ""
+        hint = names[reply].hint(word) if reply in names else ""
+        line = shown(request.line) if reply == "unreadable" else request.line
+        tell.say(f"{request.file}:{request.row}: {reply}: {line}{hint}")
+    counts = Counter(reply for _, reply in lost)
+    for kind, number in counts.items():
+        tell.say(f"{number} {kind}{' (allowed)' if kind in allowed else ''}: {KINDS[kind]}")
+    refused = sum(number for kind, number in counts.items() if kind not in allowed)
+    if refused:
+        tell.say("nothing is written; correct these requests, or allow their kind, and run again")
+    return refused
+
+
+def written(arguments: argparse.Namespace, found: manifest.Manifest, settled: swaps.Settled) -> int:
+    """Writes the stream, the program's answer and the tables, and tells what became of each request."""
+    own = own_names.beside(found.catalogue)
+    left_out = [swaps.in_words(swap, own, True) for swap in settled.left_out]
+    if left_out:
+        tell.say(f"{tell.count(len(left_out), 'swap', 'swaps')} would lose a seat and get none (`--allow lost-seat` takes such swaps too):")
+        for line in left_out:
+            tell.say("  " + line)
+    comments = "".join(f"# {one.line}, of a swap that is left out\n" for one in left_requests(settled))
     files = {
-        "hall.requests": text.encode(),
-        "hall.txt": answer.output,
-        **tables_of(asked, answer.lines, own_names.beside(found.catalogue)),
+        "hall.requests": (hall_desk.as_stream(settled.asked) + comments).encode(),
+        "hall.txt": settled.answer.output,
+        **tables_of(settled, own),
     }
     folder = into(arguments)
     tables.refuse_over([os.path.join(folder, name) for name in files], manifest.files_read(found))
     write_all(folder, files, arguments.replace)
-    tell_replies(asked, replies_of(answer.lines))
+    tell_replies(settled, own)
     return 0
 
 
-def stream(path: str) -> list[Request]:
-    """The requests of a stream in the program's own form. Its lines are those of a session."""
-    return [Request(one.words, os.path.basename(path), one.line) for one in tables.read_session(path)]
-
-
-def ask(found: manifest.Manifest, text: str) -> program.Answer:
-    """Calls `hall` of the program with one stream."""
-    with tempfile.TemporaryDirectory() as folder:
-        path = os.path.join(folder, "hall.requests")
-        with open(path, "w", encoding="utf-8", newline="") as file:
-            file.write(text)
-        return program.call(manifest.hall_words(found, [path]), tell.Life("taking requests"))
-
-
-class Gatherer:
-    """Reads the requests of a mapping's exports."""
-
-    def __init__(self, path: str, found: manifest.Manifest, faults: Faults) -> None:
-        self.faults = faults
-        try:
-            self.mapping: Mapping = read_mapping(path, faults)
-        except OSError as error:
-            raise tell.Trouble(f"{path} can not be read: {error.strerror}", tell.NO_FILE) from error
-        self.students = known("student", self.mapping.students, [one.name for one in tables.read_roll(found.roll)])
-        self.sections = known("section", self.mapping.sections, [one.code for one in tables.read_catalogue(found.catalogue)])
-
-    def requests(self) -> list[Request]:
-        """The requests of all exports, in the mapping's order."""
-        sources = self.mapping.of_kind("requests")
-        if self.mapping.is_read and "requests" not in self.mapping.kinds:
-            self.faults.add(self.mapping.path, None, "", "", "there is no section [requests NAME]")
-        return [request for source in sources for request in self.of_source(source)]
-
-    def of_source(self, source: Source) -> Iterator[Request]:
-        """The requests of one export."""
-        export = Export(source, self.faults)
-        student = export.column("student", needed=True)
-        by_word = bool(source.get("request"))
-        if by_word:
-            export.column("request", needed=True)
-            export.column("section", needed=True)
-        elif not any(source.get(word) for word in REQUESTS):
-            export.missing("request", "", "a column that says add, drop or leave, or columns `add`, `drop`, `leave`")
-        for row in export.rows if student else []:
-            who = self.name(self.students, export, row, "student")
-            for word, option in self.asked(export, row, by_word):
-                what = self.name(self.sections, export, row, option)
-                if who and what:
-                    yield Request((word, who, what), export.file, row.number)
-
-    def asked(self, export: Export, row: Row, by_word: bool) -> list[tuple[str, str]]:
-        """What a row asks for: the request, and the option of the column with its section."""
-        if by_word:
-            text = tidy(export.cell(row, "request")).casefold()
-            for word in REQUESTS:
-                if text in [one.casefold() for one in split(export.source.get(f"{word} words"))]:
-                    return [(word, "section")]
-            known_words = [export.source.get(f"{word} words") for word in REQUESTS]
-            export.fault(row, "request", text, f"one of {'; '.join(known_words)}")
-            return []
-        filled = [word for word in REQUESTS if export.cell(row, word)]
-        order = [tidy(word) for word in split(export.source.get("both"))]
-        if len(filled) > 1 and not set(filled) <= set(order):
-            export.fault(
-                row, filled[0], " and ".join(filled), "one request; `both = drop, add` states an order for rows with several"
-            )
-            return []
-        if not filled:
-            self.faults.add(export.file, row.number, "", "", "this row asks for nothing")
-        return [(word, word) for word in sorted(filled, key=lambda word: order.index(word) if word in order else 0)]
-
-    def name(self, names: Names, export: Export, row: Row, option: str) -> str:
-        """The name that a cell means, or nothing, with a fault."""
-        text = export.cell(row, option)
-        try:
-            return names.find(text)
-        except NameFault as fault:
-            export.fault(row, option, text, str(fault))
-            return ""
-
-
-def known(kind: str, rules: NameRules, names: Sequence[str]) -> Names:
-    """The names of the program's own table."""
-    found = Names(kind, rules)
-    for name in names:
-        found.originals[name] = name
-        found.folded.setdefault(name.casefold(), name)
-    return found
-
-
-def replies_of(lines: Sequence[str]) -> list[str]:
-    """The reply to each request, in the order of the one stream."""
-    return [line.split(": ", 1)[1] for line in lines if line.startswith("entry ")]
-
-
-def tables_of(asked: Sequence[Request], lines: Sequence[str], own: own_names.Own) -> dict[str, bytes]:
+def tables_of(settled: swaps.Settled, own: own_names.Own) -> dict[str, bytes]:
     """The tables after the hall: replies, rosters, each student's sections, and who waits; in the school's own spelling."""
     section, student = (functools.partial(own_names.spelt, own, kind) for kind in ("section", "student"))
-    replies = [["file", "row", "request", "student", "section", "reply"]]
-    for request, reply in zip(asked, replies_of(lines)):
-        word, who, what = request.words if len(request.words) == 3 else (" ".join(request.words), "", "")
-        replies.append([request.file, str(request.row), word, student(who), section(what), reply])
     rosters, holds, waits = [["section", "student"]], [["student", "sections"]], [["section", "place", "student"]]
     held: dict[str, list[str]] = {}
-    for words in (line.split(" ") for line in lines):
+    for words in (line.split(" ") for line in settled.answer.lines):
         if words[0] == "final":
             sections = [one for one in words[2][1:-1].split(",") if one]
             holds.append([student(words[1]), "; ".join(section(one) for one in sections)])
@@ -209,13 +166,47 @@ def tables_of(asked: Sequence[Request], lines: Sequence[str], own: own_names.Own
             waits += [[section(words[1]), str(place), student(who)] for place, who in enumerate(words[2:], 1)]
         elif words[0] == "used":
             rosters += [[section(words[1]), student(who)] for who in held.get(words[1], [])]
-    made = {"replies": replies, "rosters": rosters, "students": holds, "waiting": waits}
+    made = {"replies": reply_rows(settled, own), "rosters": rosters, "students": holds, "waiting": waits}
     return {f"hall-{name}.csv": tables.csv_text(rows).encode("utf-8-sig") for name, rows in made.items()}
 
 
-def tell_replies(asked: Sequence[Request], replies: Sequence[str]) -> None:
-    """Tells each request with its place and reply."""
-    for request, reply in zip(asked, replies):
-        tell.say(f"{request.file} row {request.row}: {request.line}: {reply}")
-    done = sum(reply.split(" ")[0] in ("added", "queued", "dropped", "left") for reply in replies)
-    tell.say(f"{tell.count(len(asked), 'request', 'requests')}, {done} carried out; the lists after them are in hall-*.csv")
+def left_requests(settled: swaps.Settled) -> list[forms.Request]:
+    """The requests of the swaps that are left out."""
+    return [one for swap in settled.left_out for one in (swap.drop, swap.add)]
+
+
+def reply_rows(settled: swaps.Settled, own: own_names.Own) -> list[list[str]]:
+    """A row for each request, also for those of swaps that are left out; those of a swap say what became of it."""
+    outcomes = {swap.drop.place: swaps.outcome(swap, own) for swap in swaps.swaps_of(settled.asked, settled.replies)}
+    outcomes.update((swap.drop.place, swaps.outcome(swap, own, True)) for swap in settled.left_out)
+    replied = [*zip(settled.asked, settled.replies), *((one, "left out") for one in left_requests(settled))]
+    rows = [["file", "row", "request", "student", "section", "reply", "swap"]]
+    for request, reply in replied:
+        word, who, what = request.words if len(request.words) == 3 else (" ".join(request.words), "", "")
+        names = [own_names.spelt(own, "student", who), own_names.spelt(own, "section", what)]
+        of_swap = outcomes.get(request.place, "") if request.is_swap else ""
+        rows.append([request.file, str(request.row), word, *names, swaps.spelt(reply, own), of_swap])
+    return rows
+
+
+def tell_replies(settled: swaps.Settled, own: own_names.Own) -> None:
+    """Tells each request with its place and reply, and each swap in one line."""
+    outcomes = {swap.drop.place: swap for swap in swaps.swaps_of(settled.asked, settled.replies)}
+    for request, reply in zip(settled.asked, settled.replies):
+        if not request.is_swap:
+            tell.say(f"{request.file} row {request.row}: {in_own_words(request, own)}: {swaps.spelt(reply, own)}")
+        elif request.place in outcomes:
+            tell.say(swaps.in_words(outcomes.pop(request.place), own))
+    done = sum(reply.split(" ")[0] in hall_desk.DONE for reply in settled.replies)
+    left = len(left_requests(settled))
+    out = f", {left} left out with their swaps" if left else ""
+    number = tell.count(len(settled.asked) + left, "request", "requests")
+    tell.say(f"{number}, {done} carried out{out}; the lists after them are in hall-*.csv")
+
+
+def in_own_words(request: forms.Request, own: own_names.Own) -> str:
+    """A request with its names in the school's own spelling; a line that is none as it stands."""
+    if len(request.words) != 3:
+        return request.line
+    word, who, what = request.words
+    return f"{word} {own_names.spelt(own, 'student', who)} {own_names.spelt(own, 'section', what)}"

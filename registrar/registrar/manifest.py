@@ -7,17 +7,21 @@ verifies each sum, so that none of them speaks of files that have changed since.
 from __future__ import annotations
 
 import argparse
+import hashlib
 import json
 import os
 import time
 from dataclasses import dataclass
-from typing import List, Sequence, Tuple
+from typing import Dict, List, Sequence, Tuple
 
 from registrar import program, tables
 from registrar.tell import FAULTS, NO_FILE, USAGE, Trouble
 
 NAME = "manifest.json"
 ROLES = ("catalogue", "roll", "settings", "session")
+
+# What the manifest calls the sum of a catalogue without its seats, which may be raised after publication.
+BUT_SEATS = "sha256_but_seats"
 
 
 @dataclass(frozen=True)
@@ -35,6 +39,9 @@ class Manifest:
     elapsed: float
     made: str
     text_sum: str = ""
+    #: The sums of the catalogue at the run, and of that without its seats; nothing where the manifest has none.
+    catalogue_sum: str = ""
+    but_seats_sum: str = ""
 
     @property
     def folder(self) -> str:
@@ -73,6 +80,9 @@ def content(path: str, words: Sequence[str], text: str, text_sum: str, elapsed: 
         {"role": one.role, "file": relative(one.path, folder), "sha256": program.sha256(one.path)}
         for one in program.inputs_of(words)
     ]
+    for one in inputs:
+        if one["role"] == "catalogue":
+            one[BUT_SEATS] = sum_but_seats(os.path.join(folder, one["file"]))
     kept = {
         "inputs": inputs,
         "words": list(words[:2]) + [one["file"] for one in inputs],
@@ -84,15 +94,22 @@ def content(path: str, words: Sequence[str], text: str, text_sum: str, elapsed: 
     return (json.dumps(kept, indent=1, ensure_ascii=False) + "\n").encode("utf-8")
 
 
+def sum_but_seats(catalogue: str) -> str:
+    """The SHA-256 of a catalogue's records without the column of seats, as lines of a table."""
+    rows = [[*one.fields[:2], *one.fields[3:]] for one in tables.records(catalogue)]
+    return hashlib.sha256(tables.csv_text(rows).encode("utf-8")).hexdigest()
+
+
 def relative(path: str, folder: str) -> str:
     """A path as seen from a folder, with slashes."""
     return os.path.relpath(os.path.abspath(path), folder).replace(os.sep, "/")
 
 
-def read(path: str = NAME, verify: bool = True, text_too: bool = True) -> Manifest:
+def read(path: str = NAME, verify: bool = True, text_too: bool = True, catalogue_too: bool = True) -> Manifest:
     """Reads a manifest. With `verify`, a file that is gone or has changed since the run is a refusal that names all such files.
 
-    `text_too=False` leaves the published text out of that: `check` judges a text that may have been changed.
+    `text_too=False` leaves the published text out of that: `check` judges a text that may have been changed. So does
+    `catalogue_too=False` the catalogue, whose seats may be raised after publication.
     """
     if not os.path.exists(path):
         raise Trouble(f"there is no manifest {path}: `registrar run` writes one beside the published text", NO_FILE)
@@ -106,14 +123,20 @@ def read(path: str = NAME, verify: bool = True, text_too: bool = True) -> Manife
         raise Trouble(f"{path} is no manifest of `registrar run` ({error})") from error
     folder = os.path.dirname(path)
     if verify:
-        refuse_changed(path, folder, [(role, name, total) for role, name, total in inputs] + [("text", *text)] * text_too)
+        asked = [one for one in inputs if catalogue_too or one[0] != "catalogue"]
+        refuse_changed(path, folder, asked + [("text", *text)] * text_too)
     by_role = {role: [os.path.join(folder, name) for one, name, _ in inputs if one == role] for role in ROLES}
     if any(len(by_role[role]) != 1 for role in ROLES[:3]) or not by_role["session"]:
         raise Trouble(f"{path} has to name one catalogue, one roll, one settings file and at least one session")
     return Manifest(
         path, by_role["catalogue"][0], by_role["roll"][0], by_role["settings"][0], tuple(by_role["session"]),
-        os.path.join(folder, text[0]), words, *rest, text[1],
+        os.path.join(folder, text[0]), words, *rest, text[1], *catalogue_sums(kept["inputs"]),
     )
+
+
+def catalogue_sums(inputs: Sequence[Dict[str, str]]) -> Tuple[str, str]:
+    """The sums of the catalogue, whole and without its seats; nothing for the second where the manifest has none."""
+    return next((one["sha256"], str(one.get(BUT_SEATS, ""))) for one in inputs if one["role"] == "catalogue")
 
 
 def refuse_changed(path: str, folder: str, files: List[Tuple[str, str, str]]) -> None:

@@ -1,7 +1,7 @@
 """`next`: the roll of the next term, with the tokens that are carried over.
 
 The rule is that of the guide ("What is carried over"): the student's budget less the prices of what it holds in the end, and 0
-where these come to more.
+where these come to more. What it holds in the end is what it holds after `hall`, where there was one.
 """
 
 from __future__ import annotations
@@ -11,7 +11,7 @@ import os
 import sys
 from dataclasses import dataclass
 
-from registrar import manifest, published, ranges, tables, tell, work_log
+from registrar import after_hall, manifest, published, ranges, tables, tell, work_log
 from registrar.faults import Faults
 from registrar.import_exports import write_all
 
@@ -26,8 +26,8 @@ def add_arguments(parser: argparse.ArgumentParser) -> None:
     """The options of `next`."""
     parser.description = (
         f"{HELP}. "
-        "The rule: what is carried over is the student's budget less the prices of its final sections, and 0 where these come to "
-        "more. The text is not judged: `registrar check` does that."
+        "The rule: what is carried over is the student's budget less the prices of what it holds in the end, after `registrar hall` "
+        "where there was one, and 0 where these come to more. The text is not judged: `registrar check` does that."
     )
     manifest.add_argument(parser)
     parser.add_argument(
@@ -45,6 +45,8 @@ def add_arguments(parser: argparse.ArgumentParser) -> None:
     parser.add_argument(
         "--into", default="roll.next.csv", metavar="FILE", help="the roll that is written (default: roll.next.csv)"
     )
+    parser.add_argument("--hall", metavar="FILE", help="the hall.requests of the hall (default: those of the last `registrar hall`)")
+    parser.add_argument("--no-hall", action="store_true", help="what the published text says, though there was a hall")
     parser.add_argument("--replace", action="store_true", help="write over a file that stands there and differs")
 
 
@@ -64,12 +66,26 @@ class Carried:
     new: int
 
 
+@dataclass(frozen=True)
+class Term:
+    """The text of a term, what each student holds in the end, and what was told of a hall."""
+
+    text: published.Published
+    held: dict[str, tuple[str, ...]]
+    notes: list[str]
+
+    def left_over(self, student: str) -> int:
+        """The student's budget less the prices of what it holds, and 0 where these come to more."""
+        return max(0, self.text.budgets[student] - self.text.cost(self.held[student]))
+
+
 def run(arguments: argparse.Namespace) -> int:
     """Writes the roll of the next term."""
     if bool(arguments.roll) != bool(arguments.text):
         raise tell.Trouble("--roll and --text go together", tell.USAGE)
+    found = None
     if not arguments.text:
-        found = manifest.read(arguments.manifest)
+        found = manifest.read(arguments.manifest, catalogue_too=False)
         arguments.roll, arguments.text = found.roll, found.text
         tables.refuse_over([arguments.into], manifest.files_read(found))
     tables.refuse_over([arguments.into], [(what, path) for what, path in read_by(arguments) if path])
@@ -77,7 +93,8 @@ def run(arguments: argparse.Namespace) -> int:
     text = published.read_published(arguments.text)
     compare(arguments, text, faults)
     students = tables.read_roll(arguments.students or arguments.roll)
-    carried = carry_over(text, students, arguments, faults)
+    term = term_of(text, arguments, found)
+    carried = carry_over(term, students, arguments, faults)
     if faults:
         faults.tell(sys.stdout)
         tell.say("nothing is written")
@@ -86,6 +103,8 @@ def run(arguments: argparse.Namespace) -> int:
     folder, name = os.path.split(arguments.into)
     write_all(folder or ".", {name: content}, arguments.replace)
     tell.say(f"{arguments.into}: {tell.count(len(students), 'student', 'students')}")
+    for line in term.notes:
+        tell.say(line)
     tell.say(f"{tell.count(carried.brings, 'brings', 'bring')} tokens, {carried.tokens} together")
     if carried.new:
         tell.say(
@@ -98,7 +117,25 @@ def run(arguments: argparse.Namespace) -> int:
 
 def read_by(arguments: argparse.Namespace) -> list[tuple[str, str]]:
     """What each file is that the words name, and its path."""
-    return [("roll", arguments.roll), ("published text", arguments.text), ("roll of the next term", arguments.students)]
+    given = [("roll", arguments.roll), ("published text", arguments.text), ("roll of the next term", arguments.students)]
+    return [*given, ("file of requests", arguments.hall)]
+
+
+def term_of(text: published.Published, arguments: argparse.Namespace, found: manifest.Manifest | None) -> Term:
+    """What each student holds in the end: after the hall where there was one, else by the published text."""
+    finals = {name: final.sections for name, final in text.finals.items()}
+    if found is None or arguments.no_hall:
+        if arguments.hall:
+            raise tell.Trouble("--hall needs a manifest, which names the catalogue, and goes not with --no-hall", tell.USAGE)
+        return Term(text, finals, [])
+    requests = arguments.hall or after_hall.requests_of(found)
+    if requests is None:
+        return Term(text, finals, [])
+    tables.refuse_over([arguments.into], [("file of requests", requests)])
+    held = after_hall.held(found, requests)
+    changed = sum(held[name] != finals[name] for name in finals)
+    words = tell.count(changed, "student holds", "students hold")
+    return Term(text, held, [f"after {requests}: {words} other sections than the published text says"])
 
 
 def compare(arguments: argparse.Namespace, text: published.Published, faults: Faults) -> None:
@@ -119,13 +156,8 @@ def compare(arguments: argparse.Namespace, text: published.Published, faults: Fa
         faults.add(os.path.basename(arguments.roll), None, "", f"{len(names)} students", expected)
 
 
-def left_over(text: published.Published, student: str) -> int:
-    """The student's budget less the prices of its final sections, and 0 where these come to more."""
-    return max(0, text.budgets[student] - text.cost(text.finals[student].sections))
-
-
 def carry_over(
-    text: published.Published, students: list[tables.Student], arguments: argparse.Namespace, faults: Faults
+    term: Term, students: list[tables.Student], arguments: argparse.Namespace, faults: Faults
 ) -> Carried:
     """The rows of the next roll. A row whose base and carry come to more than a student may have is a fault."""
     rows: list[list[object]] = []
@@ -134,8 +166,8 @@ def carry_over(
         if arguments.students and one.carry:
             expected = "0: what is carried over comes from the published text"
             faults.add(os.path.basename(one.file), one.row, "carry", str(one.carry), expected)
-        left = min(arguments.most, left_over(text, one.name)) if one.name in text.finals else 0
-        new += one.name not in text.finals
+        left = min(arguments.most, term.left_over(one.name)) if one.name in term.held else 0
+        new += one.name not in term.held
         if one.budget + left > MOST_TOKENS:
             expected = f"at most {MOST_TOKENS - left}, since {left} tokens are carried over; `--most` states how many may be"
             faults.add(os.path.basename(one.file), one.row, "budget", str(one.budget), expected)
@@ -143,5 +175,5 @@ def carry_over(
         tokens += left
         rows.append([one.name, one.budget, one.credits, one.courses, left])
     there = {one.name for one in students}
-    gone = [f"{name}, with {left_over(text, name)} tokens left" for name in text.finals if name not in there]
+    gone = [f"{name}, with {term.left_over(name)} tokens left" for name in term.held if name not in there]
     return Carried(rows, brings, tokens, gone, new)

@@ -124,7 +124,7 @@ class Hall(InFolder):
             self.assertEqual(self.read("hall/hall.txt"), file.read())
         self.assertIn("form.csv row 7: drop y.lee FNCE-717-A: dropped 1 to n.jones\n", told)
         replies = self.read("hall/hall-replies.csv").splitlines()
-        self.assertEqual(replies[4], "form.csv,5,add,n.jones,FNCE-601-B,clash FNCE-601-A")
+        self.assertEqual(replies[4], "form.csv,5,add,n.jones,FNCE-601-B,clash FNCE-601-A,")
         rosters = self.read("hall/hall-rosters.csv").splitlines()
         self.assertIn("FNCE-717-A,n.jones", rosters)
         self.assertNotIn("FNCE-717-A,y.lee", rosters)
@@ -158,8 +158,15 @@ class Hall(InFolder):
         self.write("mapping.ini", self.read("mapping.ini") + "both = drop, add\n")
         status, told = say("hall", "--into", "hall")
         self.assertEqual(status, 0, told)
+        # STAT-613-A clashes with what y.lee holds besides: so the swap would lose a seat, and FNCE-717-A stays full.
+        self.assertIn("  form.csv row 2: y.lee keeps FNCE-717-A; left out: STAT-613-A can not be had (clash STAT-613-B)", told)
+        self.assertIn("form.csv row 3: add n.jones FNCE-717-A: queued 0\n", told)
+        status, told = say("hall", "--into", "hall", "--allow", "lost-seat", "--replace")
+        self.assertEqual(status, 0, told)
         asked = ["drop y.lee FNCE-717-A", "add y.lee STAT-613-A", "add n.jones FNCE-717-A"]
         self.assertEqual(self.read("hall/hall.requests").splitlines()[1:], asked)
+        self.assertIn("form.csv row 2: y.lee gave up FNCE-717-A and did not get STAT-613-A (clash STAT-613-B)\n", told)
+        self.assertIn("form.csv row 3: add n.jones FNCE-717-A: added\n", told)
 
     def test_a_mapping_without_requests(self) -> None:
         self.write("mapping.ini", "[numbers]\n")
