@@ -118,7 +118,7 @@ def taken(folder: str, command: str) -> int:
 
 def opened(path: str) -> int:
     """The descriptor of the file of a lock; of another's file, which may be held, one that reads alone."""
-    flags = os.O_CLOEXEC | os.O_NOFOLLOW
+    flags = os.O_CLOEXEC | os.O_NOFOLLOW | os.O_NONBLOCK
     try:
         try:
             return os.open(path, flags | os.O_RDWR | os.O_CREAT, 0o666)

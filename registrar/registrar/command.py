@@ -11,7 +11,7 @@ import types
 from typing import Any, List, NoReturn, Optional, Sequence
 
 import registrar
-from registrar import at_work, ending, tell, work_log
+from registrar import at_work, ending, tell, whole, work_log
 
 # The command modules in the order of a term. Each has NAME, HELP, add_arguments(parser) and run(arguments) -> exit status. One
 # that writes also has writes(arguments) -> the folders in which it writes, that of the log first.
@@ -90,6 +90,8 @@ def worked(arguments: argparse.Namespace, words: Sequence[str]) -> int:
     if not folders:
         return int(arguments.run(arguments))
     with at_work.in_folders(folders, arguments.command, make=True):
+        for path in [path for folder in dict.fromkeys(folders) for path in whole.left_parts(folder)]:
+            tell.warn(f"{path} is a part of a file, left by a command that was ended; nothing reads it, and it may be removed")
         with work_log.kept(folders[0], arguments.command, words) as ended:
             ended["status"] = int(arguments.run(arguments))
             return ended["status"]

@@ -28,18 +28,31 @@ class Ended(BaseException):
         self.number = number
 
 
+#: The signal that came, if one did.
+_came: Optional[int] = None
+
+
+def heed() -> None:
+    """Raises `Ended` where a signal came: Python passes over what a handler raises in some places, as while it starts a process."""
+    if _came is not None:
+        raise Ended(_came)
+
+
 @contextlib.contextmanager
 def heeded() -> Iterator[None]:
     """Turns the first of these signals into `Ended`, and passes the others over while what was begun is taken back.
 
     A signal that was passed over before stays so, as SIGHUP under `nohup`.
     """
+    global _came
     if threading.current_thread() is not threading.main_thread():
         yield
         return
     before = {one: signal.getsignal(one) for one in HEEDED}
 
     def end(number: int, _: object) -> None:
+        global _came
+        _came = number
         for one in before:
             signal.signal(one, signal.SIG_IGN)
         raise Ended(number)
@@ -50,6 +63,7 @@ def heeded() -> Iterator[None]:
                 signal.signal(one, end)
         yield
     finally:
+        _came = None
         for one, handler in before.items():
             if handler is not None:
                 signal.signal(one, handler)

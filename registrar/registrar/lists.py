@@ -157,11 +157,17 @@ def write_texts(folder: str, ask: Ask, names: Sequence[str], workers: int) -> No
     """Writes for each student a text and what it said, a few at a time, and says how far it is."""
     life = tell.Life("")
     with concurrent.futures.ThreadPoolExecutor(max_workers=max(1, workers)) as pool:
-        for done, (name, text) in enumerate(zip(names, pool.map(lambda one: student_text(ask, one), names)), 1):
-            tables.write_whole(os.path.join(folder, name + ".txt"), text.encode("utf-8"))
-            tables.write_whole(os.path.join(folder, name + ".session"), own_session(name, ask.said.get(name, [])))
-            life.what = f"texts: {done} of {len(names)}"
-            life.tick()
+        texts = [pool.submit(student_text, ask, name) for name in names]
+        try:
+            for done, (name, text) in enumerate(zip(names, texts), 1):
+                tables.write_whole(os.path.join(folder, name + ".txt"), text.result().encode("utf-8"))
+                tables.write_whole(os.path.join(folder, name + ".session"), own_session(name, ask.said.get(name, [])))
+                life.what = f"texts: {done} of {len(names)}"
+                life.tick()
+        finally:
+            # Where a signal or a fault ends this, nobody asks for the others any more.
+            for text in texts:
+                text.cancel()
     life.end()
 
 

@@ -11,7 +11,7 @@ import os
 import sys
 from dataclasses import dataclass
 
-from registrar import after_hall, manifest, published, ranges, tables, tell, work_log
+from registrar import after_hall, manifest, own_names, published, ranges, tables, tell, work_log
 from registrar.faults import Faults
 from registrar.import_exports import write_all
 
@@ -110,8 +110,9 @@ def run(arguments: argparse.Namespace) -> int:
         tell.say(
             f"{carried.new} {'is' if carried.new == 1 else 'are'} new and {'brings' if carried.new == 1 else 'bring'} none"
         )
+    own = own_names.beside(arguments.text)
     for student in carried.gone:
-        tell.say(f"not on the new roll: {student}")
+        tell.say(f"not on the new roll: {own_names.spelt(own, 'student', student)}, with {term.left_over(student)} tokens left")
     return 0
 
 
@@ -175,5 +176,5 @@ def carry_over(
         tokens += left
         rows.append([one.name, one.budget, one.credits, one.courses, left])
     there = {one.name for one in students}
-    gone = [f"{name}, with {term.left_over(name)} tokens left" for name in term.held if name not in there]
+    gone = [name for name in term.held if name not in there]
     return Carried(rows, brings, tokens, gone, new)

@@ -2,6 +2,7 @@
 
 from __future__ import annotations
 
+import contextlib
 import hashlib
 import json
 import os
@@ -125,14 +126,17 @@ def wait(process: subprocess.Popen[bytes], life: Optional[Life]) -> int:
     """Waits for the program, and tells the line of life meanwhile."""
     try:
         while True:
+            ending.heed()
             try:
-                return process.wait(timeout=0.5 if life else None)
+                return process.wait(timeout=0.5)
             except subprocess.TimeoutExpired:
                 if life:
                     life.tick()
     except BaseException:
         process.kill()
-        process.wait()
+        # Not by `process.wait`, which would wait for ever where a signal came while it held its own lock.
+        with contextlib.suppress(ChildProcessError):
+            os.waitpid(process.pid, 0)
         raise
     finally:
         if life:

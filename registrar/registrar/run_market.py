@@ -71,7 +71,6 @@ def to_file(words: Sequence[str], text: str) -> program.Answer:
     tables.refuse_over((text, manifest.beside(text)), [(one.role, one.path) for one in program.inputs_of(words)])
     folder = os.path.dirname(text) or "."
     with at_work.in_folders([folder], NAME):
-        tell_left(text)
         size = size_of(words)
         try:
             with whole.Part(text) as part:
@@ -111,12 +110,6 @@ def refuse_unsound(words: Sequence[str], path: str) -> None:
     if answer.status:
         told = [answer.lines[-1]] if answer.status == 8 and answer.lines else program.retell(answer)
         raise tell.Trouble("\n".join(["what the run wrote does not hold, and is not kept: run again", *told]))
-
-
-def tell_left(text: str) -> None:
-    """Names the part files of this text that commands left behind which were ended: nobody else works in the folder now."""
-    for path in whole.left_parts(text):
-        tell.warn(f"{path} is a part of a text, left by a run that was ended; nothing reads it, and it may be removed")
 
 
 def sums(words: Sequence[str]) -> Dict[str, str]:

@@ -17,7 +17,7 @@ import shutil
 import stat
 from typing import BinaryIO, Dict, Iterable, Iterator, List, Sequence
 
-from registrar.tell import Trouble
+from registrar.tell import USAGE, Trouble
 
 #: What a part file is called: its target's name, and drawn digits.
 ENDING = ".part"
@@ -39,6 +39,8 @@ KINDS = (
 def refuse_others(targets: Iterable[str]) -> None:
     """Refuses a target that stands and is no regular file, or is protected against writing. Raises `Trouble`."""
     for target in targets:
+        if not os.path.basename(target) or not is_text(target):
+            raise Trouble(f"{target!r} can not be written: it is no name of a file in UTF-8", USAGE)
         try:
             mode = os.lstat(target).st_mode
         except (FileNotFoundError, NotADirectoryError):
@@ -50,6 +52,14 @@ def refuse_others(targets: Iterable[str]) -> None:
                 raise Trouble(f"{target} can not be written: it is {what}")
         if not mode & 0o222 or not os.access(target, os.W_OK):
             raise Trouble(f"{target} can not be written: it is protected against writing")
+
+
+def is_text(name: str) -> bool:
+    """Whether a name is text: a system's name may have bytes that are no UTF-8, and the program takes no such words."""
+    try:
+        return bool(name.encode("utf-8"))
+    except UnicodeEncodeError:
+        return False
 
 
 def refusal(target: str, error: OSError) -> Trouble:
@@ -186,9 +196,10 @@ def give_back(target: str, old: Dict[str, str]) -> None:
             os.remove(target)
 
 
-def left_parts(target: str) -> List[str]:
-    """The part files of this target that stand beside it: whoever wrote them was ended, if nobody writes it now."""
-    return sorted(path for path in glob.glob(glob.escape(target) + ".*" + ENDING) if PART.search(path))
+def left_parts(folder: str) -> List[str]:
+    """The part files that stand in a folder: whoever wrote them was ended, if nobody writes there now."""
+    found = glob.glob(os.path.join(glob.escape(folder), "*" + ENDING)) + glob.glob(os.path.join(glob.escape(folder), ".*" + ENDING))
+    return sorted(os.path.normpath(path) for path in found if PART.search(path))
 
 
 def written() -> List[str]:

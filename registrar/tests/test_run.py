@@ -224,6 +224,18 @@ class NoProgram(InFolder):
                 self.assertIn(wanted, told.err)
                 self.assertEqual(self.read("published.txt"), "the last good text\n")
 
+    def test_a_text_that_does_not_hold(self) -> None:
+        """What was written is checked before it takes the text's name; the finding is told."""
+        self.other('case "$1" in run) echo course-match 1;; check) echo "finding: line 2 missing"; exit 8;; esac')
+        told = call("run", *SCARCE_WORDS)
+        self.assertEqual((told.status, told.err.splitlines()), (tell.FAULTS, [
+            "what the run wrote does not hold, and is not kept: run again",
+            "finding: line 2 missing",
+            "published.txt is what it was before this run.",
+        ]))  # fmt: skip
+        self.assertEqual(self.read("published.txt"), "the last good text\n")
+        self.assertFalse(os.path.exists("manifest.json"))
+
     def test_none(self) -> None:
         """There is no program."""
         told = call("run", *SCARCE_WORDS)

@@ -82,7 +82,7 @@ class AtOnce(InFolder):
                 break
             time.sleep(0.01)
         process.kill()
-        raise AssertionError(f"the run did not begin: {process.communicate()}")
+        raise AssertionError(f"the run did not begin: {process.communicate(timeout=PATIENCE)}")
 
     def assert_ended(self, child: int) -> None:
         """The program ends."""
@@ -101,7 +101,7 @@ class AtOnce(InFolder):
         self.assertIn(f"(process {first.pid} on ", told.err)
         self.assertTrue(is_there(child))
         first.terminate()
-        first.communicate()
+        first.communicate(timeout=PATIENCE)
         self.assertFalse(os.path.exists(at_work.FILE))
         with at_work.in_folders(["."], "run"):
             self.assertTrue(os.path.exists(at_work.FILE))
@@ -112,7 +112,7 @@ class AtOnce(InFolder):
             with self.subTest(number):
                 process, child = self.begun()
                 process.send_signal(number)
-                _, told = process.communicate()
+                _, told = process.communicate(timeout=PATIENCE)
                 self.assertEqual(process.returncode, 128 + number)
                 self.assertIn("what stood before still stands", told)
                 self.assert_ended(child)
@@ -123,7 +123,7 @@ class AtOnce(InFolder):
         """The program ends too. The part file that is left is named by the next run, and nothing is locked."""
         process, child = self.begun()
         process.kill()
-        process.communicate()
+        process.communicate(timeout=PATIENCE)
         self.assert_ended(child)
         self.assertEqual(self.read("published.txt"), "the last good text\n")
         [left] = glob.glob("published.txt.*.part")
@@ -131,7 +131,7 @@ class AtOnce(InFolder):
         told = call("run", *SCARCE_WORDS)
         self.assertEqual(told.status, 0)
         self.assertEqual(
-            told.err, f"{left} is a part of a text, left by a run that was ended; nothing reads it, and it may be removed\n"
+            told.err, f"{left} is a part of a file, left by a command that was ended; nothing reads it, and it may be removed\n"
         )
 
 
@@ -164,6 +164,16 @@ class Targets(InFolder):
             self.assertEqual((os.lstat(target).st_ino, os.lstat(target).st_mode), (before.st_ino, before.st_mode))
         self.assertFalse(os.path.lexists("nothing.txt") or os.path.lexists("other.txt"))
         self.assertEqual((self.read("real.txt"), self.read("protected.txt")), ("real\n", "protected\n"))
+
+    @needs_program
+    def test_names_that_are_none(self) -> None:
+        """Nothing, a folder's name with a slash, and bytes that are no UTF-8, before the program is called."""
+        self.scarce()
+        for name in ("", "texts/", os.fsdecode(b"text\xff")):
+            with self.subTest(name):
+                os.makedirs("texts", exist_ok=True)
+                told = call("run", *SCARCE_WORDS, "--text", name)
+                self.assertEqual((told.status, told.err), (tell.USAGE, f"{name!r} can not be written: it is no name of a file in UTF-8\n"))
 
     @needs_program
     def test_each_command(self) -> None:
