@@ -53,9 +53,9 @@ def enter(made: Room, name: str) -> None:
     student = made.market.students[name]
     sections = named_by(made, name)
     rows = [(one.code, one.course, seats_for_one(one), one.credits, one.meetings, one.parts) for one in sections]
-    tables.write_csv(made.path(name + ".catalogue"), [tables.CATALOGUE_HEADERS[1].split(","), *rows])
+    tables.write_whole(made.path(name + ".catalogue"), tables.csv_text([tables.CATALOGUE_HEADERS[1].split(","), *rows]).encode())
     roll = [tables.ROLL_HEADERS[0].split(","), (name, made.market.text.budgets[name], student.credits, student.courses)]
-    tables.write_csv(made.path(name + ".roll"), roll)
+    tables.write_whole(made.path(name + ".roll"), tables.csv_text(roll).encode())
     said = made.commands.get(name, [])
     tables.write_whole(made.path(name + ".session"), streams.as_session(said))
     text = text_of_one(made.market, made.market.text.bundles[name], sections, len(said))

@@ -167,7 +167,7 @@ def tables_of(settled: swaps.Settled, own: own_names.Own) -> dict[str, bytes]:
         elif words[0] == "used":
             rosters += [[section(words[1]), student(who)] for who in held.get(words[1], [])]
     made = {"replies": reply_rows(settled, own), "rosters": rosters, "students": holds, "waiting": waits}
-    return {f"hall-{name}.csv": tables.csv_text(rows).encode("utf-8-sig") for name, rows in made.items()}
+    return {f"hall-{name}.csv": tables.sheet_bytes(rows) for name, rows in made.items()}
 
 
 def left_requests(settled: swaps.Settled) -> list[forms.Request]:

@@ -84,7 +84,7 @@ def tell_faults(faults: Faults, table: str | None, mapping: str) -> int:
     """Tells all faults, and that nothing was written."""
     faults.tell(sys.stdout)
     if table:
-        tables.write_whole(table, tables.csv_text(faults.rows()).encode("utf-8-sig"))
+        tables.write_whole(table, tables.sheet_bytes(faults.rows()))
     tell.say(f"nothing is written; correct the exports, or {mapping}, and run again")
     return faults.status
 
@@ -133,7 +133,7 @@ class Made:
         files = {
             "catalogue.csv": tables.csv_text(self.catalogue).encode(),
             "roll.csv": tables.csv_text(self.roll).encode(),
-            own_names.FILE: tables.csv_text(self.own_rows()).encode("utf-8-sig"),
+            own_names.FILE: tables.sheet_bytes(self.own_rows()),
         }
         for survey in self.surveys:
             files[f"{survey.name}.session"] = session_text(survey).encode()

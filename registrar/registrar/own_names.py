@@ -37,7 +37,7 @@ def read(path: str) -> Own:
     try:
         for row in csv.DictReader(io.StringIO(tables.read_text(path), newline="")):
             if row.get("kind") and row.get("name") and row.get("original"):
-                own.setdefault(row["kind"], {})[row["name"]] = row["original"]
+                own.setdefault(row["kind"], {})[tables.unguarded(row["name"])] = tables.unguarded(row["original"])
     except csv.Error as error:
         raise Trouble(f"{path} is no table of names: {error}") from error
     unit = own.get(UNIT, {}).get(CREDIT, "1")

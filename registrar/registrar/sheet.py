@@ -34,6 +34,9 @@ SEPARATORS = ",;\t"
 #: By so many rows the separator is told.
 LOOKED_AT = 50
 
+#: A text that a spreadsheet was kept from reading as a number: `="0001"`.
+AS_TEXT = re.compile(r'="((?:[^"]|"")*)"', re.DOTALL)
+
 #: What an old .xls file begins with.
 OLD_BOOK = bytes.fromhex("d0cf11e0a1b11ae1")
 
@@ -116,8 +119,14 @@ def text_rows(text: str) -> Iterator[list[str]]:
             return
         except csv.Error as error:
             raise SheetFault(number, "", f"a quote is not closed, or text stands behind a closing quote ({error})") from None
-        yield row
+        yield [unwrapped(cell) for cell in row]
         number += 1
+
+
+def unwrapped(cell: str) -> str:
+    """What a cell shows that is written `="0001"`, by which an export keeps a spreadsheet from taking its zeros; any other as it is."""
+    found = AS_TEXT.fullmatch(cell.strip())
+    return found.group(1).replace('""', '"') if found else cell
 
 
 def separator_of(text: str) -> str:

@@ -22,6 +22,9 @@ NUMBER = re.compile(r"(0|[1-9][0-9]{0,19})\Z")
 MEETING = re.compile(r"([MTWRFSU])([01][0-9]|2[0-3])([0-5][0-9])-([01][0-9]|2[0-3])([0-5][0-9])\Z")
 POINTS = re.compile(r"(?!-0\Z)-?(0|[1-9][0-9]{0,5})\Z")
 
+# What a spreadsheet takes for the beginning of a formula, also behind apostrophes that guard a text already.
+FORMULA = re.compile(r"'*[=+\-@\t\r]")
+
 CATALOGUE_HEADERS = ("section,course,seats,credits,meetings", "section,course,seats,credits,meetings,parts")
 ROLL_HEADERS = ("student,budget,credits,courses", "student,budget,credits,courses,carry")
 SETTINGS = ("seed", "spread", "accept", "turns", "tabu", "patience", "steps", "raise")
@@ -293,10 +296,38 @@ def csv_text(rows: Iterable[Sequence[object]]) -> str:
     return out.getvalue()
 
 
+def guarded(cell: object) -> object:
+    """A text that a spreadsheet would take for a formula, with an apostrophe before it; any other cell as it is.
+
+    A text that begins with apostrophes and then so gets one more, so that `unguarded` leads back.
+    """
+    return f"'{cell}" if isinstance(cell, str) and FORMULA.match(cell) else cell
+
+
+def unguarded(cell: str) -> str:
+    """The text of a cell that `guarded` made."""
+    return cell[1:] if cell.startswith("'") and FORMULA.match(cell) else cell
+
+
+def sheet_text(rows: Iterable[Sequence[object]]) -> str:
+    """A table that a spreadsheet opens, as text by RFC 4180: commas, quotes where they are needed, lines that end with CR LF.
+
+    No text in it is a formula (`guarded`).
+    """
+    out = io.StringIO(newline="")
+    csv.writer(out, lineterminator="\r\n").writerows([guarded(cell) for cell in row] for row in rows)
+    return out.getvalue()
+
+
+def sheet_bytes(rows: Iterable[Sequence[object]]) -> bytes:
+    """`sheet_text` as bytes. With letters beyond ASCII it has a mark, by which a spreadsheet knows them."""
+    text = sheet_text(rows)
+    return text.encode("utf-8" if text.isascii() else "utf-8-sig")
+
+
 def write_csv(path: str, rows: Iterable[Sequence[object]]) -> None:
-    """Writes a table whole or not at all. With letters beyond ASCII it has a mark, by which a spreadsheet knows them."""
-    text = csv_text(rows)
-    write_whole(path, text.encode("utf-8" if text.isascii() else "utf-8-sig"))
+    """Writes a table that a spreadsheet opens, whole or not at all."""
+    write_whole(path, sheet_bytes(rows))
 
 
 def refuse_over(targets: Iterable[str], inputs: Iterable[Tuple[str, str]]) -> None:

@@ -129,8 +129,8 @@ class Hall(InFolder):
         self.assertIn("FNCE-717-A,n.jones", rosters)
         self.assertNotIn("FNCE-717-A,y.lee", rosters)
         self.assertEqual(sum(row.startswith("FNCE-717-A,") for row in rosters), 12)
-        self.assertEqual(self.read("hall/hall-waiting.csv"), "section,place,student\nFNCE-717-A,1,y.lee\n")
-        self.assertIn("y.lee,ACCT-611-A; FNCE-601-B; STAT-613-B\n", self.read("hall/hall-students.csv"))
+        self.assertEqual(self.read("hall/hall-waiting.csv"), "section,place,student\r\nFNCE-717-A,1,y.lee\r\n")
+        self.assertIn("y.lee,ACCT-611-A; FNCE-601-B; STAT-613-B\r\n", self.read("hall/hall-students.csv"))
 
     def test_a_stream_in_the_program_s_own_form(self) -> None:
         shutil.copy(os.path.join(TERM, "desk.requests"), "desk.requests")

@@ -39,9 +39,10 @@ class Lists(InFolder):
         """Each table, and who wanted what."""
         told = call("lists")
         self.assertEqual(told.status, 0)
-        self.assertEqual(self.read("lists/rosters.csv"), f"section,student\nX,{self.winner}\nY,u\nY,v\n")
+        self.assertEqual(self.read("lists/rosters.csv").split("\r\n"), ["section,student", f"X,{self.winner}", "Y,u", "Y,v", ""])
         price = published.read_published("published.txt").prices["X"]
-        self.assertEqual(self.read("lists/sections.csv"), f"section,price,seats,used,wanted\nX,{price},1,1,2\nY,0,2,2,2\n")
+        rows = ["section,price,seats,used,wanted", f"X,{price},1,1,2", "Y,0,2,2,2", ""]
+        self.assertEqual(self.read("lists/sections.csv").split("\r\n"), rows)
         rows = self.read("lists/students.csv").splitlines()
         self.assertEqual(rows[0], "student,sections,credits,spent,left")
         self.assertIn(f"{self.winner},X; Y,2,{price},{110 - price}", rows)

@@ -9,6 +9,29 @@ from registrar import own_names, program, published, tables, tell
 TERM = os.path.join(program.TOP, "examples", "term")
 
 
+class Guarded(unittest.TestCase):
+    """Tables that a spreadsheet opens."""
+
+    def test_no_text_is_a_formula(self) -> None:
+        """What begins as a formula has an apostrophe before it, and comes back as it was; numbers stay numbers."""
+        texts = ("=cmd()", "+1", "-1-", "@x", "\tx", "'=x", "''-y", "plain", "'tis", "", "a=b")
+        wanted = ("'=cmd()", "'+1", "'-1-", "'@x", "'\tx", "''=x", "'\''-y", "plain", "'tis", "", "a=b")
+        for text, there in zip(texts, wanted):
+            with self.subTest(text):
+                self.assertEqual(tables.guarded(text), there)
+                self.assertEqual(tables.unguarded(there), text)
+        self.assertEqual(tables.sheet_text([["a", "b"], ["=1+1", -5], ['x,"y"', "é\nz"]]), "a,b\r\n'=1+1,-5\r\n\"x,\"\"y\"\"\",\"é\nz\"\r\n")
+
+    def test_names_come_back(self) -> None:
+        """A student's own number that begins with a sign is read from names.csv as it was."""
+        with tempfile.TemporaryDirectory() as folder:
+            path = os.path.join(folder, "names.csv")
+            tables.write_csv(path, [["kind", "original", "name"], ["student", "=cmd()", "-cmd--"]])
+            with open(path, encoding="utf-8") as file:
+                self.assertIn("student,'=cmd(),'-cmd--", file.read())
+            self.assertEqual(own_names.read(path), {"student": {"-cmd--": "=cmd()"}})
+
+
 class Reading(unittest.TestCase):
     """What stands in examples/term."""
 
