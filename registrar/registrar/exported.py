@@ -12,6 +12,7 @@ from registrar.faults import Faults
 from registrar.mapping import Source
 from registrar.sheet import SheetFault, read_rows
 from registrar.spelling import tidy
+from registrar.tally import ABOVE, EMPTY, Tally
 
 
 def plain(name: str) -> str:
@@ -53,6 +54,9 @@ class Export:
         self.rows: list[Row] = []
         self.columns: dict[str, Column | None] = {}
         self.is_read = False
+        self.tally = Tally(self.file)
+        #: Of each cell that was filled down, by row number and place: the number of the row from which.
+        self.filled: dict[tuple[int, int], int] = {}
         self.read()
 
     def read(self) -> None:
@@ -73,12 +77,39 @@ class Export:
             self.faults.add(self.file, header_row, "", "", "there are no columns' names (`header row` says where they stand)")
             return
         self.is_read = True
+        for name in (tidy(name) for name in self.source.get("fill down").split("|")):
+            if name:
+                self.fill_down(name)
+
+    def fill_down(self, name: str) -> None:
+        """Fills the blank cells of a column with what stands above them, as merged cells are meant."""
+        place = self.place(name)
+        if place is None:
+            listed = ", ".join(title for title in self.header if title)
+            self.missing("fill down", name, f"columns of the file, with | between them; it has: {listed}")
+            return
+        above: Row | None = None
+        for row in self.rows:
+            row.cells.extend([""] * (place + 1 - len(row.cells)))
+            if row.cells[place].strip():
+                above = row
+            elif above:
+                row.cells[place] = above.cells[place]
+                self.filled[row.number, place] = above.number
+                self.tally.filled[self.header[place]] += 1
 
     def take(self, number: int, cells: list[str], header_row: int) -> None:
         """Takes one row of the sheet."""
         if number == header_row:
             self.header = [tidy(cell) for cell in cells]
-        elif number > max(header_row, int(self.source.get("first row") or 1) - 1) and any(cell.strip() for cell in cells):
+        if number <= header_row:
+            return
+        self.tally.rows += 1
+        if not any(cell.strip() for cell in cells):
+            self.tally.leave(number, EMPTY)
+        elif number < int(self.source.get("first row") or 1):
+            self.tally.leave(number, ABOVE)
+        else:
             beyond = [cell for cell in cells[len(self.header) :] if cell.strip()]
             if beyond:
                 expected = (
@@ -134,6 +165,11 @@ class Export:
     def missing(self, option: str, value: str, expected: str) -> None:
         """Keeps the fault of a column that the mapping should name and does not."""
         self.faults.add(self.file, None, f"[{self.source.title}] {option}", value, expected)
+
+    def filled_from(self, row: Row, option: str) -> int:
+        """The number of the row from which the cell of an option was filled down; 0 where it was not."""
+        column = self.column(option)
+        return max((self.filled.get((row.number, place), 0) for place in column.places), default=0) if column else 0
 
     def cell(self, row: Row, option: str) -> str:
         """What stands in the column of an option, or what the mapping states for a blank."""

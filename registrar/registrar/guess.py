@@ -11,7 +11,9 @@ from dataclasses import dataclass, field
 
 from registrar import tell
 from registrar.exported import plain
-from registrar.mapping import mapping_text
+from registrar.guess_times import hours_of_24, is_of_submissions, two_ways
+from registrar.mapping import Source, mapping_text
+from registrar.meaning import what_numbers_may_mean
 from registrar.sheet import SheetFault, read_rows
 from registrar.spelling import spelt, tidy
 from registrar.surveys import rank_of
@@ -42,6 +44,9 @@ WORDS: dict[str, str] = {
     "drop": "section to drop|drop section|drop",
     "leave": "waiting list to leave|leave|leave waiting list",
     "pairs": "pairs|together|better together|pair",
+    "time": "timestamp|time stamp|submitted|submitted at|submission time|submission date|completion time|recorded date|end date|sent|"
+    "sent at|date submitted|submission timestamp|date|zeitstempel",
+    "submission": "submission|submission id|submission number|response id|response|response number|form id",
 }
 
 #: What is looked for in each kind of file, and how it is called there.
@@ -59,17 +64,26 @@ NEEDED = {
 }
 
 
+#: So many words that stand in place of numbers are shown.
+WORDS_SHOWN = 12
+
+
 @dataclass
 class Seen:
-    """A file that is looked at: its header, the rows below, and in which row the header stands."""
+    """A file that is looked at: its header, the rows below with their numbers, and in which row the header stands.
+
+    `asked` are the options that the registrar has to write.
+    """
 
     path: str
     header: list[str]
     rows: list[list[str]]
+    numbers: list[int]
     header_row: int
     encoding: str = ""
     kind: str = ""
     values: dict[str, str] = field(default_factory=dict)
+    asked: list[str] = field(default_factory=list)
 
     def has(self, what: str) -> str:
         """The column that is called like this, or nothing."""
@@ -93,7 +107,8 @@ def look_at(path: str, encoding: str) -> Seen:
     first = next((at for at, row in enumerate(rows) if any(row)), 0)
     best = max(range(first, min(len(rows), first + 10)), key=lambda at: (names(rows[at]), -at), default=0)
     header = rows[best] if rows else []
-    return Seen(path, header, [row for row in rows[best + 1 :] if any(row)], best + 1, encoding)
+    below = [(number, row) for number, row in enumerate(rows[best + 1 :], best + 2) if any(row)]
+    return Seen(path, header, [row for _, row in below], [number for number, _ in below], best + 1, encoding)
 
 
 class Guesser:
@@ -121,10 +136,12 @@ class Guesser:
                 self.sections[kind] = {}
         order = {"catalogue": 0, "roll": 1, "survey": 2, "requests": 3}
         for seen in sorted((seen for seen in self.files if seen.kind), key=lambda seen: order[seen.kind]):
+            if seen.kind == "survey":
+                self.sent(seen)
             self.keep(seen)
         self.sections = dict(sorted(self.sections.items(), key=lambda item: order[item[0].split(" ")[0]]))
         self.sections["numbers"] = self.of_numbers()
-        self.sections.update({"times": {}, "students": {}, "sections": {}})
+        self.sections.update({"times": self.of_times(), "students": {}, "sections": {}})
         return mapping_text(self.sections, self.notes)
 
     def tables(self) -> None:
@@ -204,7 +221,7 @@ class Guesser:
             seen.values = {"student": student, "shape": "students", "columns": columns[0], "pairs": seen.has("pairs")}
             if columns[0] == "*":
                 seen.values["extra"] = " | ".join(title for title in extra if title != seen.values["pairs"])
-            self.says(seen, [value for title in columns[1] for value in seen.column(title)])
+            self.ask(seen, columns[1])
         elif student and choices:
             seen.kind = "survey"
             seen.values = {"student": student, "shape": "choices", "columns": choices, "pairs": seen.has("pairs")}
@@ -214,16 +231,47 @@ class Guesser:
             seen.values = {"student": student, "shape": "wishes", "section": section, "second": second, "value": value}
             if second == section:
                 seen.values["section"] = seen.has("section")
-            seen.values["says"] = "rating" if seen.has("rating") else "rank"
+            self.ask(seen, [value])
         else:
             self.open.append(f"{os.path.basename(seen.path)}: neither catalogue, roll, survey nor requests; it is left out")
 
-    def says(self, seen: Seen, values: list[str]) -> None:
-        """Ratings or ranks: numbers of which none is above the number of columns, and each row has a 1, are ranks."""
-        numbers = [int(value) for value in values if re.fullmatch(r"[1-9][0-9]?", value)]
-        ones = sum(number == 1 for number in numbers)
-        is_rank = bool(numbers) and len(numbers) == len(values) and max(numbers) <= 60 and ones * 2 > len(seen.rows)
-        seen.values["says"] = "rank" if is_rank else "rating"
+    def ask(self, seen: Seen, titles: list[str]) -> None:
+        """Asks what the numbers in these columns mean, with examples: the mapping has to say it. Of words it asks for numbers."""
+        source = Source("survey", "survey", "", self.folder, {})
+        seen.asked.append("says: " + "\n    ".join(what_numbers_may_mean(self.values_of(seen, titles), source)))
+        words = list(dict.fromkeys(value for title in titles for value in seen.column(title) if not re.match(r"[-+]?\d", value)))
+        if words:
+            shown = ", ".join(f'"{word}"' for word in words[:WORDS_SHOWN]) + (", .." if len(words) > WORDS_SHOWN else "")
+            seen.asked.append(f"answers: these stand in place of numbers: {shown}")
+
+    def values_of(self, seen: Seen, titles: list[str]) -> list[tuple[str, list[str]]]:
+        """What each student gave in these columns, with the first of its rows."""
+        student = seen.header.index(seen.values["student"])
+        places = [seen.header.index(title) for title in titles]
+        second = seen.header.index(seen.values["second"]) if seen.values.get("second") else len(seen.header)
+        found: dict[str, tuple[str, list[str]]] = {}
+        for number, row in zip(seen.numbers, seen.rows):
+            key = row[student] if student < len(row) else ""
+            is_pair = second < len(row) and row[second].strip()
+            values = [] if is_pair else [tidy(row[at]) for at in places if at < len(row) and row[at].strip()]
+            found.setdefault(key, (f"row {number}", []))[1].extend(values)
+        return list(found.values())
+
+    def sent(self, seen: Seen) -> None:
+        """Guesses which column tells when a row was sent, and in a long sheet which rows were sent together."""
+        is_long = seen.values["shape"] == "wishes"
+        time, submission = seen.has("time"), seen.has("submission") if is_long else ""
+        taken = set(seen.values.values())
+        if submission and submission not in taken:
+            seen.values["submission"] = submission
+        if time and time not in taken and (not is_long or submission or self.is_of_submissions(seen, time)):
+            seen.values["time"] = time
+
+    def is_of_submissions(self, seen: Seen, time: str) -> bool:
+        """Whether the column of a time tells what was sent together."""
+        at, student = seen.header.index(time), seen.header.index(seen.values["student"])
+        rows = [row for row in seen.rows if max(at, student) < len(row)]
+        return is_of_submissions([row[student] for row in rows], [row[at] for row in rows])
 
     def code_columns(self, seen: Seen) -> tuple[str, list[str]]:
         """The columns whose name has a section's code in it, and how their names are built around it."""
@@ -264,24 +312,30 @@ class Guesser:
         for options in NEEDED[seen.kind]:
             if not any(seen.values.get(option) for option in options.split("|")):
                 self.open.append(f"[{title}] {options.replace('|', ' or ')}")
+        self.open += [f"[{title}] {line}" for line in (*seen.asked, *self.blanks(seen))]
         if seen.kind in SOUGHT:
-            self.open += [f"[{title}] {line}" for line in (*self.blanks(seen), *self.lengths(seen))]
+            self.open += [f"[{title}] {line}" for line in self.lengths(seen)]
 
     def blanks(self, seen: Seen) -> list[str]:
-        """The columns of a table that are blank in some rows, so that the mapping has to say what a blank means.
+        """The columns that are blank in some rows, so that the mapping has to say what a blank means.
 
         Of several rows of one section the first alone has to say its seats and credits.
         """
         names = self.joined(seen, seen.values["section"]) if seen.kind == "catalogue" else []
         firsts = [row for at, row in enumerate(seen.rows) if not names or names.index(names[at]) == at]
         found: list[str] = []
-        for option in ("seats", "credits", "meetings", "budget", "courses"):
+        for option in ("section", "course", "student", "seats", "credits", "meetings", "budget", "courses"):
+            is_name = option in ("section", "course", "student")
             title = seen.values.get(option, "")
-            rows = seen.rows if option == "meetings" else firsts
-            at = seen.header.index(title) if title else 0
-            blank = sum(at >= len(row) or not row[at] for row in rows) if title else 0
+            if not title or title not in seen.header or seen.kind not in SOUGHT and option != "student":
+                continue
+            rows = seen.rows if is_name or option == "meetings" else firsts
+            at = seen.header.index(title)
+            blank = sum(at >= len(row) or not row[at] for row in rows)
             if blank:
-                found.append(f"{option} default: {blank} of {len(rows)} rows have nothing in {title}")
+                choices = [f"`fill down = {title}` where these are merged cells"] if blank < len(rows) else []
+                choices += [] if is_name else [f"`{option} default` where all of them mean one value"]
+                found.append(f"{option}: {blank} of {len(rows)} rows have nothing in {title}: {', or '.join(choices)}")
         return found
 
     def lengths(self, seen: Seen) -> list[str]:
@@ -293,6 +347,21 @@ class Guesser:
             text for text in texts if re.search(r"\d", text) and not re.search(r"\d\s*(am|pm)?\s*([-\u2013]|to)", text, re.I)
         ]
         return [f'length or length default: "{text}" has no end' for text in open_ended[:1]]
+
+    def of_times(self) -> dict[str, str]:
+        """Whether times are of 24 hours, by those of the catalogue; where they do not tell, what reads in two ways is asked."""
+        for seen in self.of("catalogue"):
+            names = [seen.values[option] for option in ("meetings", "start", "end") if seen.values.get(option) in seen.header]
+            of_day = hours_of_24(text for name in names for text in seen.column(name))
+            if of_day:
+                self.told.append(f'clock = 24, since "{of_day}" stands in {os.path.basename(seen.path)}')
+                return {"clock": "24"}
+            options = ("meetings",) if seen.values.get("meetings") else ("days", "start", "end")
+            places = [seen.header.index(seen.values[option]) if seen.values.get(option) else len(seen.header) for option in options]
+            unclear = two_ways([row[at] if at < len(row) else "" for at in places] for row in seen.rows)
+            if unclear:
+                self.open.append(f"[times] or [days] {unclear}")
+        return {}
 
     def of_numbers(self) -> dict[str, str]:
         """The decimal sign, and the unit of credits, by the numbers that stand in the tables."""

@@ -7,11 +7,13 @@ import os
 import re
 import sys
 from dataclasses import dataclass, field
+from typing import Container
 
 from registrar import at_work, guess, own_names, tables, tell
-from registrar.amounts import AmountFault, grouped, in_units, whole
+from registrar.amounts import AmountFault, in_units, whole
 from registrar.exported import Export, Row
 from registrar.faults import Faults
+from registrar.imported import Made
 from registrar.mapping import Mapping, Source, read_mapping
 from registrar.meetings import MeetingFault, joined, meetings_by_columns, meetings_of, minutes_of
 from registrar.spelling import NameFault, Names, tidy
@@ -21,13 +23,14 @@ from registrar.whole import write_all as write_files
 NAME = "import"
 HELP = "make catalogue, roll and sessions from a school's exports, by a mapping of columns"
 
-#: The limits of the program.
-MOST_SECTIONS = 400
-MOST_STUDENTS = 2000
-MOST_SESSIONS = 64
-MOST_COMMANDS = 200_000
-MOST_BYTES = 16 * 1024 * 1024
+#: The most tokens of a student.
 MOST_TOKENS = 900_000
+
+#: What a catalogue says of each section.
+OF_SECTIONS = ("seats", "credits", "meetings", "days", "start", "end", "length", "parts")
+
+#: The kinds of faults that may be allowed.
+NOT_ON_ROLL = "not-on-roll"
 
 
 def add_arguments(parser: argparse.ArgumentParser) -> None:
@@ -45,6 +48,10 @@ def add_arguments(parser: argparse.ArgumentParser) -> None:
     parser.add_argument("--into", metavar="FOLDER", help="where the files are written (default: the mapping's folder)")
     parser.add_argument("--replace", action="store_true", help="write over files that stand there and differ")
     parser.add_argument("--faults", metavar="FILE", help="write the faults as a table too")
+    parser.add_argument(
+        "--allow", action="append", default=[], choices=[NOT_ON_ROLL], metavar="KIND",
+        help=f"{NOT_ON_ROLL}: leave out who answered and is not on the roll, and list them",
+    )
 
 
 def writes(arguments: argparse.Namespace) -> list[str]:
@@ -64,7 +71,7 @@ def run(arguments: argparse.Namespace) -> int:
             tell.NO_FILE,
         )
     faults = Faults()
-    made = Importer(arguments.mapping, faults).made()
+    made = Importer(arguments.mapping, faults, set(arguments.allow)).made()
     made.limits(faults)
     if arguments.faults:
         exports = [("export", source.path) for source in made.mapping.sources]
@@ -115,87 +122,12 @@ class Draft:
     rows: list[int] = field(default_factory=list)
 
 
-@dataclass
-class Made:
-    """What an import makes: the rows of both tables, the surveys, and the names."""
-
-    mapping: Mapping
-    catalogue: list[list[str]] = field(default_factory=list)
-    roll: list[list[str]] = field(default_factory=list)
-    surveys: list[Survey] = field(default_factory=list)
-    names: list[list[str]] = field(default_factory=list)
-    #: The rows of `names.csv` that have no names: each section's meetings as the timetable writes them.
-    written: list[list[str]] = field(default_factory=list)
-    notes: list[str] = field(default_factory=list)
-
-    def files(self) -> dict[str, bytes]:
-        """The files by name."""
-        files = {
-            "catalogue.csv": tables.csv_text(self.catalogue).encode(),
-            "roll.csv": tables.csv_text(self.roll).encode(),
-            own_names.FILE: tables.sheet_bytes(self.own_rows()),
-        }
-        for survey in self.surveys:
-            files[f"{survey.name}.session"] = session_text(survey).encode()
-        return files
-
-    def own_rows(self) -> list[list[str]]:
-        """The rows of `names.csv`: the names, the meetings, and the unit of credits."""
-        unit = own_names.rows_of_units(self.mapping.unit, self.mapping.decimal)
-        return [["kind", "original", "name"], *self.names, *self.written, *unit]
-
-    def limits(self, faults: Faults) -> None:
-        """Adds what passes the limits of the program."""
-        source = os.path.basename(self.mapping.path)
-        counts = (
-            ("sections", len(self.catalogue) - 1, MOST_SECTIONS),
-            ("students", len(self.roll) - 1, MOST_STUDENTS),
-            ("surveys", len(self.surveys), MOST_SESSIONS),
-            ("wishes", sum(len(survey.wishes) for survey in self.surveys), MOST_COMMANDS),
-        )
-        for what, count, most in counts:
-            if count > most:
-                faults.add(source, None, what, grouped(count), f"at most {grouped(most)} {what}, the limit of the program")
-        if self.mapping.is_read and "survey" not in self.mapping.kinds:
-            faults.add(source, None, "", "", "there is no section [survey NAME]")
-        for name, content in self.files().items():
-            if len(content) > MOST_BYTES and name != own_names.FILE:
-                faults.add(name, None, "", f"{grouped(len(content))} bytes", f"at most {grouped(MOST_BYTES)} bytes")
-
-    def lines(self) -> list[str]:
-        """What is told of an import."""
-        students = len(self.roll) - 1
-        lines = [f"catalogue.csv: {tell.count(len(self.catalogue) - 1, 'section', 'sections')}"]
-        lines.append(f"roll.csv: {tell.count(students, 'student', 'students')}")
-        spoke: set[str] = set()
-        for survey in self.surveys:
-            named = {wish.student for wish in survey.wishes}
-            spoke |= named
-            wishes = tell.count(len(survey.wishes), "wish", "wishes")
-            lines.append(f"{survey.name}.session: {wishes} of {tell.count(len(named), 'student', 'students')}")
-            if survey.passed_over:
-                lines.append(f"  columns passed over: {', '.join(survey.passed_over)}")
-        spelt = sum(original != name for _, original, name in self.names)
-        lines.append(f"{own_names.FILE}: {tell.count(len(self.names), 'name', 'names')}, {spelt} of them spelt anew")
-        lines += self.notes
-        if students > len(spoke):
-            lines.append(
-                f"{tell.count(students - len(spoke), 'student has', 'students have')} no wishes; `registrar look` names them"
-            )
-        return lines
-
-
-def session_text(survey: Survey) -> str:
-    """A survey as a session."""
-    lines = [f"# The survey {survey.name}, written by `registrar import`."]
-    return "\n".join(lines + [wish.command() for wish in survey.wishes]) + "\n"
-
-
 class Importer:
     """Reads all exports of a mapping."""
 
-    def __init__(self, path: str, faults: Faults) -> None:
+    def __init__(self, path: str, faults: Faults, allowed: Container[str] = ()) -> None:
         self.faults = faults
+        self.allowed = allowed
         try:
             self.mapping = read_mapping(path, faults)
         except OSError as error:
@@ -214,7 +146,9 @@ class Importer:
             sources = self.mapping.of_kind(kind)
             names.is_whole = bool(sources)
             if sources:
-                take(Export(sources[0], self.faults))
+                export = Export(sources[0], self.faults)
+                take(export)
+                self.result.tallies.append(export.tally)
             elif kind not in self.mapping.kinds:
                 self.faults.add(self.mapping.path, None, "", "", f"there is no section [{kind}]")
         for source in self.mapping.of_kind("survey"):
@@ -224,7 +158,8 @@ class Importer:
 
     def survey(self, source: Source) -> Survey:
         """A survey. Where a table could not be read its names are not looked up: that would be a fault a row."""
-        return SurveyReader(source, Known(self.mapping, self.students, self.sections), self.faults).read()
+        known = Known(self.mapping, self.students, self.sections, NOT_ON_ROLL in self.allowed)
+        return SurveyReader(source, known, self.faults).read()
 
     def number(self, export: Export, row: Row, option: str, most: int) -> str:
         """A whole number, as the program reads it; 0, with a fault, where it is none."""
@@ -252,6 +187,7 @@ class Importer:
             export.column(option, needed=not export.source.get(f"{option} default"))
         if not any(export.column(option) for option in ("meetings", "days")):
             export.column("meetings", needed=not export.source.get("meetings default"))
+        self.refuse_filled(export)
         drafts: dict[str, Draft] = {}
         for row in export.rows if self.sections.is_whole else []:
             text = export.cell(row, "section")
@@ -264,6 +200,17 @@ class Importer:
             draft.rows.append(row.number)
             self.take_row(export, row, draft)
         self.settle(export, list(drafts.values()))
+
+    def refuse_filled(self, export: Export) -> None:
+        """Refuses a cell that was filled down from a row of another course: no merged cell is that."""
+        by_number = {row.number: row for row in export.rows}
+        for row in export.rows:
+            for option in OF_SECTIONS:
+                source = export.filled_from(row, option)
+                course = export.cell(by_number[source], "course") if source else ""
+                if source and course != export.cell(row, "course"):
+                    expected = f"{option} of its own: what stands above, in row {source}, is of another course ({course})"
+                    export.fault(row, option, "", expected)
 
     def take_row(self, export: Export, row: Row, draft: Draft) -> None:
         """One row of a section. What it says of course, seats, credits and parts has to be what its other rows say."""

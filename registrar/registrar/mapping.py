@@ -26,6 +26,7 @@ OF_EVERY_EXPORT: typing.Mapping[str, str] = {
     "encoding": "of a text without a mark that is not UTF-8, for instance cp1252",
     "header row": "the row that has the columns' names",
     "first row": "the first row below it that counts, where it is not the next one",
+    "fill down": "columns of merged cells, with | between them: a blank there means what stands above it",
 }
 
 #: The options of each kind of section, each with what is said above it. A column may also be `@3`, the third one, or several
@@ -74,12 +75,17 @@ OPTIONS: typing.Mapping[str, typing.Mapping[str, str]] = {
         "choice, a further one for anything",
         "extra": "(students, `columns = *`) the columns that are no sections, with | between them: any other has to be one",
         "pairs": "(students, choices) a column with pairs as `A-1 + B-2 = 9; A-1 + C-1 = -5`",
-        "says": "rating: 0 to 100, more is better; rank: 1 is the best",
-        "first rating": "(rank, choices) the rating of rank 1",
-        "rating step": "(rank, choices) by so much less each next rank is rated",
-        "least rating": "(rank, choices) and no less than this",
+        "says": "(wishes, students) rating: 0 to 100, more is better; rank: 1 is the best, and a student gives each rank once; "
+        "grade: 1 is the best, and may come again; blank: a fault",
+        "first rating": "(rank, grade, choices) the rating of 1",
+        "rating step": "(rank, grade, choices) by so much less each next one is rated",
+        "least rating": "(rank, grade, choices) and no less than this",
         "answers": "words in place of numbers, as `High: 100, Medium: 60, Low: 20`",
-        "again": "what a second answer of one student means: refuse, or last (the lowest row counts)",
+        "again": "what a second submission of one student means: refuse: a fault; last: it replaces the whole earlier one, by the "
+        "column `time`; last row or first row: the lowest or the uppermost one counts, where there is no such column",
+        "time": "the column of the time at which a row was sent",
+        "dates": "day first or month first, where 3/4/2026 in that column reads in two ways",
+        "submission": "(wishes) the column that has the same in all rows that were sent together; blank: `time` tells that",
     },
     "requests": {
         **OF_EVERY_EXPORT,
@@ -99,7 +105,9 @@ OPTIONS: typing.Mapping[str, typing.Mapping[str, str]] = {
         "credit unit": "how many credits are one unit of the program, which takes whole units: 0.5 for half credits",
     },
     "times": {
+        "clock": "24: a time that says neither am nor pm is of 24 hours; blank: it is a fault where it could be of the evening too",
         "earliest": "an earlier time that says neither am nor pm is a fault",
+        "latest": "(`clock` blank) no meeting of the evening ends later, so that 10:00-11:30 reads in one way",
         "no meeting": "the words for no meeting",
     },
     "students": {
@@ -119,15 +127,14 @@ DEFAULTS: typing.Mapping[str, typing.Mapping[str, str]] = {
     "catalogue": {"header row": "1"},
     "roll": {"header row": "1"},
     "survey": {
-        "header row": "1", "shape": "wishes", "says": "rating", "first rating": "100", "rating step": "5",
-        "least rating": "1", "again": "refuse",
+        "header row": "1", "shape": "wishes", "first rating": "100", "rating step": "5", "least rating": "1", "again": "refuse",
     },
     "requests": {
         "header row": "1", "add words": "add, enrol, enroll", "drop words": "drop, withdraw",
         "leave words": "leave, leave waitlist",
     },
     "numbers": {"decimal": ".", "credit unit": "1"},
-    "times": {"earliest": "7:00", "no meeting": ", ".join(NO_MEETING)},
+    "times": {"earliest": "7:00", "latest": "22:00", "no meeting": ", ".join(NO_MEETING)},
     "students": {"pad": "0", "any case": "no"},
     "sections": {"any case": "no"},
 }  # fmt: skip
@@ -135,7 +142,7 @@ DEFAULTS: typing.Mapping[str, typing.Mapping[str, str]] = {
 #: Sections whose options are the registrar's own words.
 FREE: typing.Mapping[str, str] = {
     "parts": "words for the halves of the term, as `Q1 = 1`, `Q2 = 2`, `Full = 12`",
-    "days": "words for days and the program's letters (M T W R F S U), as `Di = T`",
+    "days": "words for days and the program's letters (M T W R F S U), as `Di = T`, or `SU = SU` for Saturday and Sunday",
     "same students": "what stands in an export = the student that is meant",
     "same sections": "what stands in an export = the section that is meant",
     "spell students": "a student = a name of the program, chosen by hand",
@@ -146,10 +153,12 @@ FREE: typing.Mapping[str, str] = {
 #: Options that are one of a few words.
 CHOICES: typing.Mapping[str, tuple[str, ...]] = {
     "shape": ("wishes", "students", "choices"),
-    "says": ("rating", "rank"),
-    "again": ("refuse", "last"),
+    "says": ("rating", "rank", "grade"),
+    "again": ("refuse", "last", "last row", "first row"),
+    "dates": ("day first", "month first"),
     "any case": ("yes", "no"),
     "decimal": (".", ","),
+    "clock": ("24",),
 }
 
 #: Options that are whole numbers, and their ranges.
@@ -328,16 +337,23 @@ class MappingReader:
     def meeting_rules(self) -> MeetingRules:
         """What is stated of meetings."""
         rules = MeetingRules(none=tuple(split(self.value("times", "no meeting"))))
-        earliest = self.value("times", "earliest")
-        try:
-            rules.earliest = clock(earliest).minutes
-        except MeetingFault as fault:
-            self.fault("times", "earliest", earliest, str(fault))
-        for word, letter in self.free("days").items():
-            if letter not in set(DAYS.values()):
-                self.fault("days", word, letter, "one of the letters M, T, W, R, F, S, U")
-            rules.days[word.casefold()] = letter
+        rules.is_24 = self.value("times", "clock") == "24"
+        rules.earliest = self.time_of_day("earliest")
+        rules.latest = self.time_of_day("latest")
+        for word, letters in self.free("days").items():
+            if not letters or len(set(letters)) != len(letters) or not set(letters) <= set(DAYS.values()):
+                self.fault("days", word, letters, "one of the letters M, T, W, R, F, S, U, or those of several days, as MW")
+            rules.days[word.casefold()] = letters
         return rules
+
+    def time_of_day(self, option: str) -> int:
+        """The minute of the day that an option of [times] states; 0, with a fault, where it states none."""
+        text = self.value("times", option)
+        try:
+            return clock(text).minutes
+        except MeetingFault as fault:
+            self.fault("times", option, text, str(fault))
+            return 0
 
     def name_rules(self, title: str) -> NameRules:
         """What is stated of the names of one kind."""

@@ -9,7 +9,7 @@ from __future__ import annotations
 
 import re
 from dataclasses import dataclass, field
-from typing import Mapping
+from typing import Iterator, Mapping
 
 #: The words for days, in small letters, and the program's letters. The longest one that fits is taken.
 DAYS: Mapping[str, str] = {
@@ -25,6 +25,15 @@ DAYS: Mapping[str, str] = {
     }.items()
     for word in words.split()
 }
+
+#: The days' names, by the program's letters.
+DAY_NAMES: Mapping[str, str] = dict(zip("MTWRFSU", "Monday Tuesday Wednesday Thursday Friday Saturday Sunday".split()))
+
+#: What stands between days.
+BETWEEN = re.compile(r"(?:[\s,./&+;]|\band\b|\bund\b)+", re.IGNORECASE)
+
+#: No word for a day is longer; a longer text of one word is cut by it alone.
+LONGEST = 12
 
 #: The words for no meeting at all.
 NO_MEETING = ("TBA", "TBD", "ARR", "ARRANGED", "ONLINE", "ASYNC", "NONE", "N/A", "-")
@@ -51,44 +60,76 @@ class MeetingFault(Exception):
 class MeetingRules:
     """What a mapping states of meetings."""
 
-    #: Words for days beside those of `DAYS`, in small letters, with the program's letters.
+    #: Words for days beside those of `DAYS`, in small letters, with the program's letters: one, or those of several days.
     days: dict[str, str] = field(default_factory=dict)
     #: Words for no meeting.
     none: tuple[str, ...] = NO_MEETING
     #: A time before this minute of the day that says neither am nor pm is a fault.
     earliest: int = 7 * 60
+    #: A time that says neither am nor pm reads in two ways where it could also end in the evening, by this minute of the day.
+    latest: int = 22 * 60
+    #: Whether a time that says neither am nor pm is of 24 hours, so that it reads in one way.
+    is_24: bool = False
     #: The minutes of a meeting that states no end; 0 where none are stated.
     length: int = 0
 
 
 @dataclass(frozen=True)
 class Clock:
-    """A time as it is written: minutes of the day, and `a` or `p` where it says so."""
+    """A time as it is written: minutes of the day, `a` or `p` where it says so, and whether its hour is one of 24 (`09:00`, `13:00`)."""
 
     minutes: int
     half: str
+    is_24: bool = False
 
 
 def days_of(text: str, rules: MeetingRules) -> str:
-    """The program's letters for the days that the text names, in its order. Raises `MeetingFault`."""
-    words = {**DAYS, **rules.days}
+    """The program's letters for the days that the text names, in its order. Raises `MeetingFault`, also where it reads in two ways."""
     letters = ""
-    rest = text.casefold()
-    while rest:
-        skipped = re.match(r"(?:[\s,./&+;]|and\b|und\b)+", rest)
-        if skipped:
-            rest = rest[skipped.end() :]
-            continue
-        word = next((rest[:size] for size in range(min(len(rest), 12), 0, -1) if rest[:size] in words), "")
-        if not word:
-            raise MeetingFault(f'{EXPECTED}: "{text.strip()}" are no days; write them one by one, or name them under [days]')
-        if words[word] in letters:
-            raise MeetingFault(f'{EXPECTED}: a day stands twice in "{text.strip()}"')
-        letters += words[word]
-        rest = rest[len(word) :]
-    if not letters:
+    whole = rules.days.get(text.strip().casefold())
+    for word in [] if whole else BETWEEN.split(text.strip()):
+        for letter in days_of_word(word, text, rules) if word else "":
+            if letter in letters:
+                raise MeetingFault(f'{EXPECTED}: a day stands twice in "{text.strip()}"')
+            letters += letter
+    if not whole and not letters:
         raise MeetingFault(f"{EXPECTED}: no day is named")
-    return letters
+    return whole or letters
+
+
+def days_of_word(word: str, text: str, rules: MeetingRules) -> str:
+    """The letters of one word without blanks and signs, as `MWF`, `TTh`, `TuTh`, `Sunday`. Raises `MeetingFault`.
+
+    A word of the mapping is what the mapping says. Where capitals begin small letters, each capital begins a day. A day's name
+    of three letters or more that stands alone is that day. Any other word is read in all ways that there are.
+    """
+    folded = word.casefold()
+    words = {**DAYS, **rules.days}
+    parts = [part.casefold() for part in re.findall(r"[^\W\d_][^\W\d_A-Z]*", word)]
+    if folded in rules.days or len(folded) > 2 and folded in words:
+        return words[folded]
+    if not (word.isupper() or word.islower()) and "".join(parts) == folded and all(part in words for part in parts):
+        return "".join(words[part] for part in parts)
+    found = list(readings(folded, words))
+    once = {"".join(sorted(letters)): letters for letters in found if len(set(letters)) == len(letters)}
+    if not found:
+        raise MeetingFault(f'{EXPECTED}: "{text.strip()}" are no days; write them one by one, or name them under [days]')
+    if not once:
+        raise MeetingFault(f'{EXPECTED}: a day stands twice in "{text.strip()}"')
+    if len(once) > 1:
+        shown = ", or ".join(" and ".join(DAY_NAMES[letter] for letter in letters) for letters in once.values())
+        said = " or ".join(f"`{word} = {letters}`" for letters in once.values())
+        raise MeetingFault(f'days that read in one way: "{word}" may be {shown}; write the days apart, or say {said} under [days]')
+    return next(iter(once.values()))
+
+
+def readings(text: str, words: Mapping[str, str]) -> Iterator[str]:
+    """The letters of each way to read a text in small letters as words for days that stand side by side."""
+    if not text:
+        yield ""
+    for size in range(1, min(len(text), LONGEST) + 1):
+        if text[:size] in words:
+            yield from (words[text[:size]] + rest for rest in readings(text[size:], words))
 
 
 def clock(text: str) -> Clock:
@@ -102,7 +143,7 @@ def clock(text: str) -> Clock:
         raise MeetingFault("a time as `9:00`, `13:30` or `1:30pm`, from 0:00 to 23:59")
     if half:
         hour = hour % 12 + (12 if half == "p" else 0)
-    return Clock(hour * 60 + minute, half)
+    return Clock(hour * 60 + minute, half, not half and (hour > 12 or found["hour"].startswith("0")))
 
 
 def other_half(time: Clock, half: str) -> Clock:
@@ -125,7 +166,7 @@ def span(start: str, end: str, length: int, rules: MeetingRules) -> tuple[int, i
         minutes = length or rules.length
         if not minutes:
             raise MeetingFault("an end or a length: state `length` or `length default`, in minutes")
-        stop = Clock(begin.minutes + minutes, begin.half)
+        stop = Clock(begin.minutes + minutes, begin.half, begin.is_24)
     else:
         stop = clock(end)
         if stop.half and not begin.half:
@@ -138,7 +179,20 @@ def span(start: str, end: str, length: int, rules: MeetingRules) -> tuple[int, i
         raise MeetingFault(f"a time from {told(rules.earliest)} on, or with am or pm (`earliest` under [times] changes that)")
     if not begin.minutes < stop.minutes < 24 * 60:
         raise MeetingFault("an end that is later than the start, on the same day")
+    refuse_two_readings(begin, stop, rules)
     return begin.minutes, stop.minutes
+
+
+def refuse_two_readings(begin: Clock, stop: Clock, rules: MeetingRules) -> None:
+    """Refuses times that say neither am nor pm where they may be of the evening as well as of the morning."""
+    half = 12 * 60
+    is_said = bool(begin.half or stop.half or begin.is_24 or stop.is_24 or rules.is_24)
+    if not is_said and begin.minutes < half and stop.minutes + half <= rules.latest:
+        morning, evening = (f"{told(begin.minutes + more)}-{told(stop.minutes + more)}" for more in (0, half))
+        raise MeetingFault(
+            f"a time that reads in one way: this may be {morning} or {evening}; write am or pm, "
+            "or state `clock = 24` under [times] where times are of 24 hours"
+        )
 
 
 def told(minutes: int) -> str:

@@ -78,6 +78,18 @@ class NameFault(Exception):
     """A code that is no name, or of nobody: its words say what was expected."""
 
 
+class UnknownName(NameFault):
+    """A code that stands there and is nobody's.
+
+    `hint` tells the nearest name; `is_nearly`, whether capitals, zeros or signs alone are other than in that one.
+    """
+
+    def __init__(self, words: str, hint: str = "", is_nearly: bool = False) -> None:
+        super().__init__(words)
+        self.hint = hint
+        self.is_nearly = is_nearly
+
+
 class Names:
     """The names of one kind (`student`, `section`, `course`), with the codes that they stand for."""
 
@@ -131,15 +143,23 @@ class Names:
         return name
 
     def find(self, cell: str) -> str:
-        """The name of a code that the school's table should have. Raises `NameFault` where it has not, with the nearest one."""
-        name = self.spelt(cell)[1]
+        """The name of a code that the school's table should have. Raises `UnknownName` where it has not, with the nearest one.
+
+        A blank, and a code that lost a letter, are a `NameFault` that is no `UnknownName`: nobody can say whose they are.
+        """
+        try:
+            name = self.spelt(cell)[1]
+        except NameFault as fault:
+            if not tidy(cell) or "\ufffd" in cell:
+                raise
+            raise UnknownName(str(fault)) from None
         if name in self.originals or not self.is_whole:
             return name
         if self.rules.any_case and name.casefold() in self.folded:
             return self.folded[name.casefold()]
-        raise NameFault(self.missing(name))
+        raise self.missing(name)
 
-    def missing(self, name: str) -> str:
+    def missing(self, name: str) -> UnknownName:
         """What is said of a name that nobody has."""
         if self.nearer is None:
             self.nearer = Meant(self.originals)
@@ -149,7 +169,7 @@ class Names:
             advice = "; `any case = yes` joins them"
         elif hint.endswith("zeros)"):
             advice = f"; `pad = {max(len(known) for known in self.originals if known.isdigit())}` joins them"
-        return f"a {self.kind} of the {table_of(self.kind)}{hint}{advice}"
+        return UnknownName(f"a {self.kind} of the {table_of(self.kind)}{hint}{advice}", hint, self.nearer.is_nearly(name))
 
     def rows(self) -> list[list[str]]:
         """The rows of `names.csv`: kind, code, name."""
@@ -189,6 +209,10 @@ class Meant:
             return same
         near = difflib.get_close_matches(letters, self.by_letters, n=1, cutoff=0.75) if len(self.told) < COMPARED else []
         return self.by_letters[near[0]] if near else ""
+
+    def is_nearly(self, name: str) -> bool:
+        """Whether capitals, signs or leading zeros alone are other than in a known name."""
+        return letters_of(name) in self.by_letters or name.isdigit() and name.lstrip("0") in self.bare
 
     def look(self, name: str) -> str:
         """The hint for a name that was not looked for yet."""

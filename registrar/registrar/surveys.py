@@ -7,14 +7,17 @@ student and a column for each choice. A wish says a rating, or a rank that the m
 from __future__ import annotations
 
 import re
-from dataclasses import dataclass
-from typing import Callable, Iterator
+from dataclasses import dataclass, field
+from typing import Callable, Iterator, Sequence
 
 from registrar.amounts import AmountFault, whole
 from registrar.exported import Column, Export, Row, plain
 from registrar.faults import Faults
 from registrar.mapping import Mapping, Source, split
-from registrar.spelling import NameFault, Names, tidy
+from registrar.meaning import what_numbers_may_mean
+from registrar.spelling import NameFault, Names, UnknownName, tidy
+from registrar.submissions import Chooser
+from registrar.tally import REPLACED, SILENT, STRANGER, ZERO, Tally
 
 #: How many sections a student rates above 0, and how many pairs it adjusts, at most.
 MOST_RATED = 60
@@ -34,6 +37,8 @@ class Wish:
     row: int
     column: str
     value: str
+    #: The rank that was given, where the survey asks for ranks of sections; else 0.
+    rank: int = 0
 
     @property
     def about(self) -> tuple[str, ...]:
@@ -49,20 +54,28 @@ class Wish:
 
 @dataclass(frozen=True)
 class Known:
-    """Who and what the wishes may be about."""
+    """Who and what the wishes may be about. Whoever is not on the roll is a fault, or left out."""
 
     mapping: Mapping
     students: Names
     sections: Names
+    leaves_strangers: bool = False
 
 
 @dataclass
 class Survey:
-    """What one survey says. `passed_over` are the columns that nothing was taken from."""
+    """What one survey says, and what was not taken of it.
+
+    `passed_over` are the columns that nothing was taken from, `replaced` the number of submissions of each student that a later
+    one replaced, and `strangers` the rows of each code that is nobody's on the roll, with what is told of it.
+    """
 
     name: str
-    wishes: list[Wish]
-    passed_over: list[str]
+    tally: Tally
+    wishes: list[Wish] = field(default_factory=list)
+    passed_over: list[str] = field(default_factory=list)
+    replaced: dict[str, int] = field(default_factory=dict)
+    strangers: dict[str, tuple[list[int], str]] = field(default_factory=dict)
 
 
 def rating_of(rank: int, source: Source) -> int:
@@ -86,8 +99,11 @@ class SurveyReader:
         self.faults = faults
         self.export = Export(source, faults)
         self.answers = answers_of(source)
-        self.survey = Survey(source.name, [], [])
-        self.rows_of: dict[str, list[int]] = {}
+        self.survey = Survey(source.name, self.export.tally)
+        self.rows_of: dict[str, list[Row]] = {}
+        #: What stands in the cells for sections, by student, for examples of what they may mean.
+        self.given: dict[str, list[str]] = {}
+        self.first_row_of: dict[str, int] = {}
 
     def read(self) -> Survey:
         """The survey's wishes; each fault is added to the faults."""
@@ -100,9 +116,17 @@ class SurveyReader:
         shape = shapes.get(self.source.get("shape"))
         if shape:
             wishes = list(shape())
-            self.survey.wishes = self.once(wishes)
+            if self.source.get("shape") != "choices" and not self.source.get("says"):
+                self.ask_what_numbers_mean()
+            self.survey.wishes = self.once(self.of_last_submissions(wishes))
+            self.ranks_once()
             self.limits()
         return self.survey
+
+    def ask_what_numbers_mean(self) -> None:
+        """Keeps the fault that the mapping does not say what the numbers mean, with examples."""
+        rows = [(f"row {self.first_row_of[student]}", values) for student, values in self.given.items()]
+        self.export.missing("says", "", "; ".join(what_numbers_may_mean(rows, self.source)))
 
     def name(self, names: Names, row: Row, column: str, text: str) -> str:
         """The name that a cell means, or nothing, with a fault, where it is nobody's."""
@@ -113,25 +137,66 @@ class SurveyReader:
             return ""
 
     def students(self) -> Iterator[tuple[Row, str]]:
-        """The rows with the student of each. A row whose student is nobody's is still read, for its other faults."""
+        """The rows with the student of each. A row whose student is nobody's is still read, for its other faults, unless it is left out."""
         column = self.export.column("student")
         assert column is not None
         for row in self.export.rows:
-            student = self.name(self.known.students, row, column.title, column.cell(row))
+            text = column.cell(row)
+            if self.known.leaves_strangers and self.is_stranger(row, text):
+                continue
+            student = self.name(self.known.students, row, column.title, text)
             if student:
-                self.rows_of.setdefault(student, []).append(row.number)
+                self.rows_of.setdefault(student, []).append(row)
             yield row, student
 
-    def points(self, row: Row, column: str, text: str) -> int | None:
-        """The rating that a cell says, by the rule of ranks where it says a rank; none, with a fault, where it says neither."""
-        text = self.answers.get(tidy(text).casefold(), text)
+    def is_stranger(self, row: Row, text: str) -> bool:
+        """Whether a code is nobody's on the roll, and is left out and listed.
+
+        Where capitals, zeros or signs alone are other than those of somebody's, it is a fault all the same: it may be that one.
+        """
         try:
-            if self.source.get("says") == "rank":
-                return rating_of(whole(text, 1, 999, self.known.mapping.decimal), self.source)
-            return whole(text, 0, 100, self.known.mapping.decimal)
+            self.known.students.find(text)
+        except UnknownName as fault:
+            if fault.is_nearly:
+                return False
+            self.survey.tally.leave(row.number, STRANGER)
+            self.survey.strangers.setdefault(tidy(text), ([], fault.hint))[0].append(row.number)
+            return True
+        except NameFault:
+            pass
+        return False
+
+    def of_last_submissions(self, wishes: list[Wish]) -> list[Wish]:
+        """The wishes of the submissions that count."""
+        chooser = Chooser(self.export, self.source.get("shape") == "wishes")
+        counted = chooser.counted(self.rows_of)
+        for rows in self.rows_of.values():
+            for row in rows:
+                if row.number not in counted:
+                    self.survey.tally.leave(row.number, REPLACED)
+        self.survey.replaced = chooser.replaced
+        return [wish for wish in wishes if wish.row in counted]
+
+    def points(self, row: Row, column: str, text: str) -> tuple[int, int] | None:
+        """The rating that a cell says, and the rank where the survey asks for ranks; none, with a fault, where it says no such number.
+
+        While the mapping does not say what the numbers mean, nothing is read.
+        """
+        text = self.answers.get(tidy(text).casefold(), text)
+        says = self.source.get("says")
+        try:
+            if says in ("rank", "grade"):
+                rank = whole(text, 1, 999, self.known.mapping.decimal)
+                return rating_of(rank, self.source), rank if says == "rank" else 0
+            return (whole(text, 0, 100, self.known.mapping.decimal), 0) if says else None
         except AmountFault as fault:
             self.faults.add(self.export.file, row.number, column, text, str(fault))
             return None
+
+    def give(self, row: Row, student: str, text: str) -> None:
+        """Keeps what a student gave a section, as it stands."""
+        self.first_row_of.setdefault(student, row.number)
+        self.given.setdefault(student, []).append(self.answers.get(tidy(text).casefold(), text))
 
     def adjustment(self, row: Row, column: str, text: str) -> int | None:
         """What a cell says of two sections together; none, with a fault, where it says nothing."""
@@ -154,9 +219,14 @@ class SurveyReader:
             other_text = second.cell(row) if second else ""
             other = self.name(self.known.sections, row, second.title, other_text) if second and other_text else ""
             text = self.export.cell(row, "value")
-            points = self.adjustment(row, value.title, text) if other_text else self.points(row, value.title, text)
+            if other_text:
+                adjustment = self.adjustment(row, value.title, text)
+                points = None if adjustment is None else (adjustment, 0)
+            else:
+                self.give(row, student, text)
+                points = self.points(row, value.title, text)
             if student and first and points is not None and bool(other) == bool(other_text):
-                yield Wish(student, first, other, points, row.number, value.title, text)
+                yield Wish(student, first, other, points[0], row.number, value.title, text, points[1])
 
     def section_columns(self) -> list[tuple[Column, str]]:
         """The columns that stand for sections, with the section of each. One that should and does not is a fault."""
@@ -181,6 +251,8 @@ class SurveyReader:
 
     def pass_over(self, taken: list[str]) -> None:
         """Keeps the columns from which nothing was taken."""
+        if self.source.get("again") != "refuse":
+            taken = taken + self.titles("time", "submission")
         self.survey.passed_over = [title for title in self.export.header if title and title not in taken]
 
     def matching(self) -> list[tuple[Column, str]]:
@@ -203,19 +275,31 @@ class SurveyReader:
         """The wishes of a row for each student with a column for each section. A blank is no wish."""
         columns = self.section_columns()
         for row, student in self.students():
-            for column, section in columns:
-                text = column.cell(row)
+            texts = [(column, section, column.cell(row)) for column, section in columns]
+            self.count(row, [text for _, _, text in texts])
+            for column, section, text in texts:
                 if not text:
                     continue
+                self.give(row, student, text)
                 points = self.points(row, column.title, text)
                 if student and points is not None:
-                    yield Wish(student, section, "", points, row.number, column.title, text)
+                    yield Wish(student, section, "", points[0], row.number, column.title, text, points[1])
             yield from self.pairs(row, student)
+
+    def count(self, row: Row, texts: Sequence[str]) -> None:
+        """Counts the answers and the blanks of a row. One without any answer is not taken."""
+        answers = sum(bool(text) for text in texts)
+        self.survey.tally.answers += answers
+        self.survey.tally.blanks += len(texts) - answers
+        pairs = self.export.column("pairs")
+        if not answers and not (pairs and pairs.cell(row)):
+            self.survey.tally.leave(row.number, SILENT)
 
     def by_choice(self) -> Iterator[Wish]:
         """The wishes of a row for each student with a column for each choice. A blank is no choice."""
         columns = self.choice_columns()
         for row, student in self.students():
+            self.count(row, [column.cell(row) for column, _ in columns])
             for column, rank in columns:
                 text = column.cell(row)
                 section = self.name(self.known.sections, row, column.title, text) if text else ""
@@ -254,31 +338,27 @@ class SurveyReader:
                 yield Wish(student, both[0], both[1], points, row.number, column.title, text)
 
     def once(self, wishes: list[Wish]) -> list[Wish]:
-        """The wishes without repeats: a repeat is a fault, or the last one counts, as the mapping says."""
-        takes_last = self.source.get("again") == "last"
-        if self.source.get("shape") != "wishes":
-            wishes = self.of_one_row(wishes, takes_last)
-            takes_last = False
+        """The wishes. One that a student has twice in one submission is a fault."""
         kept: dict[tuple[str, ...], Wish] = {}
         for wish in wishes:
             key = (wish.student, *wish.about)
             if wish.second == wish.section:
                 self.fault(wish, "two different sections")
-            elif takes_last or key not in kept:
+            elif key not in kept:
                 kept[key] = wish
             else:
                 said = f"row {kept[key].row}" if kept[key].row != wish.row else "this row"
                 self.fault(wish, f"a wish of {wish.student} that {said} does not have yet")
         return list(kept.values())
 
-    def of_one_row(self, wishes: list[Wish], takes_last: bool) -> list[Wish]:
-        """The wishes of one row for each student: the last row, or else a further row is a fault."""
-        column = self.export.column("student")
-        for student, rows in self.rows_of.items():
-            for row in rows[1:] if column and not takes_last else []:
-                expected = f"one row for each student; row {rows[0]} is one of {student} too (`again = last` takes the last)"
-                self.faults.add(self.export.file, row, column.title if column else "", student, expected)
-        return [wish for wish in wishes if wish.row == self.rows_of[wish.student][-1 if takes_last else 0]]
+    def ranks_once(self) -> None:
+        """A rank that a student gives to two sections is a fault: then the numbers may be no ranks."""
+        first: dict[tuple[str, int], Wish] = {}
+        for wish in self.survey.wishes:
+            if wish.rank and first.setdefault((wish.student, wish.rank), wish) is not wish:
+                before = first[wish.student, wish.rank]
+                place = f"column {before.column}" if before.row == wish.row else f"row {before.row}"
+                self.fault(wish, f"a rank that {wish.student} did not give in {place} (`says = grade` where 1 is the best and may come again)")
 
     def fault(self, wish: Wish, expected: str) -> None:
         """Keeps a fault of a wish."""
@@ -287,6 +367,10 @@ class SurveyReader:
     def limits(self) -> None:
         """Adds the students with more wishes than the program takes, and drops the wishes that say 0."""
         counts: dict[tuple[str, bool], int] = {}
+        if self.source.get("shape") == "wishes":
+            for wish in self.survey.wishes:
+                if not wish.points:
+                    self.survey.tally.leave(wish.row, ZERO)
         self.survey.wishes = [wish for wish in self.survey.wishes if wish.points]
         for wish in self.survey.wishes:
             key = (wish.student, bool(wish.second))

@@ -38,7 +38,7 @@ class InFolder(support.InFolder):
 
 
 class WithSchool(InFolder):
-    """A test with the exports of a made school, and the mapping that was guessed and then corrected in one line."""
+    """A test with the exports of a made school, and the mapping that was guessed and then corrected in three lines."""
 
     STUDENTS = 60
     SECTIONS = 24
@@ -48,6 +48,8 @@ class WithSchool(InFolder):
         self.school = school.write_school(".", 7, self.STUDENTS, self.SECTIONS)
         self.guessed = say("import", *sorted(school.exports(self.school)))
         self.settle("courses default", "5")
+        for survey in ("web", "desk"):
+            self.settle("says", "rating", f"survey {survey}")
 
     def spoil(self, name: str, old: str, new: str, count: int = -1) -> None:
         """Replaces a text in an export, in its own encoding."""

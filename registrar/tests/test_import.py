@@ -32,8 +32,10 @@ class Imports(WithSchool):
     def test_the_guess_is_whole_but_for_what_no_export_says(self) -> None:
         status, told = self.guessed
         self.assertEqual(status, tell.FAULTS)
-        self.assertIn("[roll] courses default: 60 of 60 rows have nothing in Max Courses", told)
-        self.assertEqual(told.split("What could not be guessed")[1].count("\n  "), 1)
+        self.assertIn("[roll] courses: 60 of 60 rows have nothing in Max Courses: `courses default` where all of them mean one value", told)
+        self.assertIn("[survey desk] says: rating (the greatest number is the best), rank (1 is the best", told)
+        self.assertIn("[survey web] says: ", told)
+        self.assertEqual(told.split("What could not be guessed")[1].count("\n  ["), 3)
 
     def test_exports_become_what_the_school_is(self) -> None:
         status, told = self.imported()
@@ -164,16 +166,31 @@ class Imports(WithSchool):
         self.assertEqual(status, 0, told)
         self.assertEqual(self.commands("desk"), {f"rate {number} ACCT_101_A 100", f"rate {number} ACCT_101_B 80"})
 
-    def test_the_last_of_two_answers_where_the_mapping_says_so(self) -> None:
-        one = next(one for one in self.school.students if one.survey == "desk")
-        text = self.read("desk.tsv")
+    def test_the_last_of_two_answers_where_the_mapping_says_which_is_the_last(self) -> None:
+        one = next(one for one in self.school.students if one.survey == "web")
+        text = self.read("web.csv")
         code = next(iter(one.ratings))
-        self.write("desk.tsv", text + f"{one.number}\t{code}\t\t1\n", "utf-8-sig")
-        self.assertEqual(self.imported()[0], tell.FAULTS)
-        self.settle("again", "last", "survey desk")
-        self.assertEqual(self.imported()[0], 0)
-        one.ratings[code] = 1
-        self.expect_the_school()
+        line = next(line for line in text.splitlines() if f",{one.number}," in line)
+        later = line.replace("2026-11-10 10:00", "2026-11-19 10:00").replace(f",{one.ratings[code]},", ",1,", 1)
+        for again, time, is_first in (("last", "Timestamp", True), ("first row", "", True), ("last row", "", False)):
+            with self.subTest(again):
+                rows = text.splitlines()
+                self.write("web.csv", "\n".join([rows[0], later, *rows[1:]] if is_first else [*rows, later]) + "\n")
+                self.settle("again", "refuse", "survey web")
+                self.settle("time", time, "survey web")
+                status, told = self.imported()
+                self.assertIn("one submission of each student; row", told)
+                self.settle("again", again, "survey web")
+                status, told = say("import", "--into", "out", "--replace")
+                self.assertEqual(status, 0, told)
+                self.assertIn(f"1 submission was replaced whole by a later one, of {one.number}", told)
+                self.assertIn(f"web.csv: {len(rows)} rows, {len(rows) - 1} taken, 1 not: 1 replaced by a later submission", told)
+                before, one.ratings[code] = one.ratings[code], 1
+                self.expect_the_school()
+                one.ratings[code] = before
+        self.settle("again", "last", "survey web")
+        status, told = self.imported()
+        self.assertIn("column [survey web] time: blank where this was expected: the column of the time; where there is none, `again = last row`", told)
 
     def test_a_session_of_an_earlier_survey_is_told(self) -> None:
         os.mkdir("out")
@@ -276,7 +293,7 @@ class Many(InFolder):
     def test_300_bad_rows_take_one_run(self) -> None:
         self.write("mapping.ini", "[catalogue]\nfile = c.csv\nsection = s\ncourse = c\nseats = n\ncredits default = 1\nmeetings default = TBA\n"
                    "[roll]\nfile = r.csv\nstudent = id\nbudget = b\ncredits default = 9\ncourses default = 5\n"
-                   "[survey w]\nfile = w.csv\nstudent = id\nsection = s\nvalue = v\n")  # fmt: skip
+                   "[survey w]\nfile = w.csv\nstudent = id\nsection = s\nvalue = v\nsays = rating\n")  # fmt: skip
         self.write("c.csv", "s,c,n\nA,A,5\n")
         self.write("r.csv", "id,b\n" + "".join(f"s{at},bad{at}\n" for at in range(300)))
         self.write("w.csv", "id,s,v\ns1,A,5\n")
@@ -292,7 +309,7 @@ class Many(InFolder):
     def test_the_limits_of_the_program(self) -> None:
         self.write("mapping.ini", "[catalogue]\nfile = c.csv\nsection = s\ncourse = s\nseats default = 5\ncredits default = 1\n"
                    "meetings default = TBA\n[roll]\nfile = r.csv\nstudent = id\nbudget default = 5\ncredits default = 9\n"
-                   "courses default = 5\n[survey w]\nfile = w.csv\nstudent = id\nsection = s\nvalue = v\nsecond = t\n")  # fmt: skip
+                   "courses default = 5\n[survey w]\nfile = w.csv\nstudent = id\nsection = s\nvalue = v\nsecond = t\nsays = rating\n")  # fmt: skip
         self.write("c.csv", "s\n" + "".join(f"C{at}\n" for at in range(401)))
         self.write("r.csv", "id\n" + "".join(f"s{at}\n" for at in range(2001)))
         rated = "".join(f"s1,C{at},5,\n" for at in range(61))
@@ -311,7 +328,7 @@ class Many(InFolder):
         self.write("mapping.ini", "[catalogue]\nfile = c.csv\nsection = Subject + No + Sec\ncourse = Subject + No\nseats = cap\ncredits = cr\n"
                    "days = Days\nstart = Begin\nend = End\nparts = Half\nparts default = 12\n[numbers]\ndecimal = ,\ncredit unit = 0.5\n"
                    "[roll]\nfile = r.csv\nheader row = 3\nstudent = @2\nbudget default = 5\ncredits default = 9,5\ncourses default = 5\n"
-                   "[survey w]\nfile = w.csv\nshape = students\nstudent = id\nextra = name\n[parts]\nQ1 = 1\n")  # fmt: skip
+                   "[survey w]\nfile = w.csv\nshape = students\nstudent = id\nextra = name\nsays = rating\n[parts]\nQ1 = 1\n")  # fmt: skip
         self.write("c.csv", "SUBJECT;no;sec;CAP;cr;days;begin;end;half\nACCT;101;A;1.200;1,5;MW;9:00;10:15;Q1\nACCT;101;A;;;F;1:00 PM;2:00 PM;\n"
                    ";;;;;;;;\nACCT;101;B;20,0;1;TBA;;;\n")  # fmt: skip
         self.write("r.csv", "The register\n\nname,number\nAnn,a1\nBen,b1\n")
@@ -335,7 +352,8 @@ class Many(InFolder):
         self.write("r.csv", "student,budget,credits,courses\na1,5,9,5\nb1,5,9,5\n")
         self.write("w.csv", "student,ECON-1-A - Micro (first),ECON-1-B - Macro\na1,5,7\n")
         self.write("w.tsv", "student\tFirst choice\tSecond choice\nb1\tECON-1-B - Macro\tECON-1-A - Micro (first)\n")
-        self.assertEqual(say("import", "c.csv", "r.csv", "w.csv", "w.tsv")[0], 0)
+        self.assertEqual(say("import", "c.csv", "r.csv", "w.csv", "w.tsv")[0], tell.FAULTS)
+        self.settle("says", "rating", "survey w")
         text = self.read("mapping.ini")
         self.assertIn("\ncolumns = * - *\n", text)
         self.assertIn("\n[survey w-2]\n", text)
@@ -360,7 +378,7 @@ class Many(InFolder):
     def test_a_column_that_is_no_section_is_not_passed_over_in_silence(self) -> None:
         self.write("mapping.ini", "[catalogue]\nfile = c.csv\nsection = s\ncourse = s\nseats default = 5\ncredits default = 1\n"
                    "meetings default = TBA\n[roll]\nfile = r.csv\nstudent = id\nbudget default = 5\ncredits default = 9\n"
-                   "courses default = 5\n[survey w]\nfile = w.csv\nshape = students\nstudent = id\n")  # fmt: skip
+                   "courses default = 5\n[survey w]\nfile = w.csv\nshape = students\nstudent = id\nsays = rating\n")  # fmt: skip
         self.write("c.csv", "s\nECON-1-A\nECON-1-B\n")
         self.write("r.csv", "id\na1\n")
         self.write("w.csv", "id,ECON-1-A,ECON-1B\na1,5,7\n")
@@ -419,23 +437,26 @@ class Guesses(InFolder):
         )
         for line in (
             "section = Subject + Catalog Number + Section", "course = Subject + Catalog Number", "header row = 3",
-            "start = Start Time", "section = Code", "value = Priority", "says = rank", "credit unit = 0.5",
+            "start = Start Time", "section = Code", "value = Priority", "says =", "credit unit = 0.5", "clock = 24",
         ):  # fmt: skip
             with self.subTest(line=line):
                 self.assertIn(f"\n{line}\n", text)
+        self.settle("says", "rank", "survey survey")
         self.assertEqual(say("import")[0], 0)
         catalogue = self.read("catalogue.csv").splitlines()
         self.assertEqual(catalogue[1], "FNCE-601-A,FNCE-601,30,3,M0900-1015;W0900-1015")
 
     def test_columns_with_codes_alone_and_a_decimal_comma(self) -> None:
         text = self.guessed(
-            sections="Section;Course;Seats;Credits;Time\nA-1;A;30;1,5;Mo 9:00-10:00\nB-1;B;30;2;Di 9:00-10:00\n",
+            sections="Section;Course;Seats;Credits;Time\nA-1;A;30;1,5;Mo 9:00-10:15\nB-1;B;30;2;Di 9:00-10:15\n",
             register="E-mail;Credits;Tokens;Max Courses\na@b.edu;10;5000;5\n",
             survey="Timestamp;E-mail;A-1;B-1;Comments\n1;a@b.edu;5;7;none\n",
         )
-        for line in ("decimal = ,", "columns = *", "extra = Timestamp | Comments", "student = E-mail"):
+        for line in ("decimal = ,", "columns = *", "extra = Timestamp | Comments", "student = E-mail", "time = Timestamp"):
             with self.subTest(line=line):
                 self.assertIn(f"\n{line}\n", text)
+        self.settle("says", "rating", "survey survey")
+        text = self.read("mapping.ini")
         status, told = say("import")
         self.assertEqual((status, told.splitlines()[0].split(":")[0]), (tell.FAULTS, "sections.csv row 3, column Time"))
         self.write("mapping.ini", text.replace("[days]", "[days]\nDi = T"))

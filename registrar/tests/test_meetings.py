@@ -30,7 +30,16 @@ class Meetings(unittest.TestCase):
             ("MW 9:00 AM - 10:15 AM; F 14:00-15:00", 0, "M0900-1015 W0900-1015 F1400-1500"),
             ("MW 9:00-10:15\nF 9:00-9:50", 0, "M0900-1015 W0900-1015 F0900-0950"),
             ("Mon, Wed 09:00\u201310:15", 0, "M0900-1015 W0900-1015"),
-            ("Mon 9:00-10:15, Wed 8:00-9:15", 0, "M0900-1015 W0800-0915"),
+            ("Mon 9:00-10:15, Wed 08:00-09:15", 0, "M0900-1015 W0800-0915"),
+            ("Mon, Wed 7:00-9:00pm", 0, "M1900-2100 W1900-2100"),
+            ("Su 9:00-12:00", 0, "U0900-1200"),
+            ("SUN 9:00-12:00", 0, "U0900-1200"),
+            ("S,U 9:00-12:00", 0, "S0900-1200 U0900-1200"),
+            ("TTH 9:00-10:15", 0, "T0900-1015 R0900-1015"),
+            ("MTWTHF 9:00-9:50", 0, "M0900-0950 T0900-0950 W0900-0950 R0900-0950 F0900-0950"),
+            ("MWR 10:00-11:30", 0, "M1000-1130 W1000-1130 R1000-1130"),
+            ("SAT 10:00-11:30", 0, "S1000-1130"),
+            ("F 8:00-13:00", 0, "F0800-1300"),
             ("Monday and Wednesday 9.00 - 10.15", 0, "M0900-1015 W0900-1015"),
             ("Sa 9h00-10h15", 0, "S0900-1015"),
             ("MoWeFr 9:00:00 AM - 10:15:00 AM", 0, "M0900-1015 W0900-1015 F0900-1015"),
@@ -40,7 +49,7 @@ class Meetings(unittest.TestCase):
         ]
         for text, length, expected in cases:
             with self.subTest(text=text):
-                self.assertEqual(" ".join(meetings.meetings_of(text, length, MeetingRules())), expected)
+                self.assertEqual(" ".join(meetings.meetings_of(text, length, MeetingRules(is_24=True))), expected)
 
     def test_what_can_be_read_in_two_ways_or_none_is_a_fault(self) -> None:
         cases = [
@@ -52,11 +61,16 @@ class Meetings(unittest.TestCase):
             ("9:00-10:15", "can not be read"),
             ("M 10:15-9:00", "later than the start"),
             ("Di 9:00-10:00", "no days"),
-            ("F 9:00-10:15 Sum 12", "no time"),
+            ("F 9:00-10:15 Mon 12", "no time"),
             ("F 13:30pm-14:00", "a time"),
             ("F 9:60-10:15", "a time"),
             ("MM 9:00-10:00", "twice"),
             ("F 22:00-24:00", "a time"),
+            ("SU 9:00-12:00", '"SU" may be Saturday and Sunday, or Sunday; write the days apart, or say `SU = SU` or `SU = U` under [days]'),
+            ("TUTH 9:00-10:15", '"TUTH" may be Tuesday and Sunday and Thursday, or Tuesday and Thursday'),
+            ("MWFR 9:00-9:50", "Friday and Thursday"),
+            ("MW 7:00-9:00", "may be 7:00-9:00 or 19:00-21:00; write am or pm, or state `clock = 24` under [times]"),
+            ("MW 8:30-9:50", "may be 8:30-9:50 or 20:30-21:50"),
         ]
         for text, words in cases:
             with self.subTest(text=text), self.assertRaises(MeetingFault) as told:
@@ -64,10 +78,23 @@ class Meetings(unittest.TestCase):
             self.assertIn(words, str(told.exception))
 
     def test_words_of_the_mapping(self) -> None:
-        rules = MeetingRules(days={"di": "T", "do": "R"}, none=("frei",), length=90, earliest=0)
+        rules = MeetingRules(days={"di": "T", "do": "R"}, none=("frei",), length=90, earliest=0, is_24=True)
         for text, expected in (("DiDo 9:00", "T0900-1030 R0900-1030"), ("Frei", ""), ("M 1:30-2:45", "M0130-0245")):
             with self.subTest(text=text):
                 self.assertEqual(" ".join(meetings.meetings_of(text, 0, rules)), expected)
+
+    def test_what_the_mapping_says_of_days_and_times_reads_in_one_way(self) -> None:
+        letters = MeetingRules(days={"h": "R"})
+        self.assertEqual(meetings.days_of("MTWHF", letters), "MTWRF")
+        self.assertEqual(meetings.days_of("TTh", letters), "TR")
+        with self.assertRaisesRegex(MeetingFault, '"TH" may be Tuesday and Thursday, or Thursday'):
+            meetings.days_of("TH", letters)
+        for word, wanted in (("TR", "TR"), ("R", "R")):
+            letters = MeetingRules(days={"h": "R", "th": word})
+            self.assertEqual(meetings.days_of("TH", letters), wanted)
+        rules = MeetingRules(days={"su": "SU"}, is_24=True)
+        self.assertEqual(meetings.meetings_of("SU 7:00-9:00", 0, rules), ["S0700-0900", "U0700-0900"])
+        self.assertEqual(meetings.meetings_of("MW 8:30", 80, MeetingRules(latest=21 * 60)), ["M0830-0950", "W0830-0950"])
 
     def test_columns(self) -> None:
         cases = [

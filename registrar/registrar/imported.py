@@ -1,0 +1,133 @@
+"""What an import makes, and what it tells of it."""
+
+from __future__ import annotations
+
+import os
+from dataclasses import dataclass, field
+
+from registrar import own_names, tables, tell
+from registrar.amounts import grouped
+from registrar.faults import Faults, spans
+from registrar.mapping import Mapping
+from registrar.surveys import Survey
+from registrar.tally import Tally
+
+#: The limits of the program.
+MOST_SECTIONS = 400
+MOST_STUDENTS = 2000
+MOST_SESSIONS = 64
+MOST_COMMANDS = 200_000
+MOST_BYTES = 16 * 1024 * 1024
+
+#: So many students are named in a line of several.
+NAMED = 10
+
+
+@dataclass
+class Made:
+    """What an import makes: the rows of both tables, the surveys, and the names."""
+
+    mapping: Mapping
+    catalogue: list[list[str]] = field(default_factory=list)
+    roll: list[list[str]] = field(default_factory=list)
+    surveys: list[Survey] = field(default_factory=list)
+    tallies: list[Tally] = field(default_factory=list)
+    names: list[list[str]] = field(default_factory=list)
+    #: The rows of `names.csv` that have no names: each section's meetings as the timetable writes them.
+    written: list[list[str]] = field(default_factory=list)
+    notes: list[str] = field(default_factory=list)
+
+    def files(self) -> dict[str, bytes]:
+        """The files by name."""
+        files = {
+            "catalogue.csv": tables.csv_text(self.catalogue).encode(),
+            "roll.csv": tables.csv_text(self.roll).encode(),
+            own_names.FILE: tables.sheet_bytes(self.own_rows()),
+        }
+        for survey in self.surveys:
+            files[f"{survey.name}.session"] = session_text(survey).encode()
+        return files
+
+    def own_rows(self) -> list[list[str]]:
+        """The rows of `names.csv`: the names, the meetings, and the unit of credits."""
+        unit = own_names.rows_of_units(self.mapping.unit, self.mapping.decimal)
+        return [["kind", "original", "name"], *self.names, *self.written, *unit]
+
+    def limits(self, faults: Faults) -> None:
+        """Adds what passes the limits of the program."""
+        source = os.path.basename(self.mapping.path)
+        counts = (
+            ("sections", len(self.catalogue) - 1, MOST_SECTIONS),
+            ("students", len(self.roll) - 1, MOST_STUDENTS),
+            ("surveys", len(self.surveys), MOST_SESSIONS),
+            ("wishes", sum(len(survey.wishes) for survey in self.surveys), MOST_COMMANDS),
+        )
+        for what, count, most in counts:
+            if count > most:
+                faults.add(source, None, what, grouped(count), f"at most {grouped(most)} {what}, the limit of the program")
+        if self.mapping.is_read and "survey" not in self.mapping.kinds:
+            faults.add(source, None, "", "", "there is no section [survey NAME]")
+        for name, content in self.files().items():
+            if len(content) > MOST_BYTES and name != own_names.FILE:
+                faults.add(name, None, "", f"{grouped(len(content))} bytes", f"at most {grouped(MOST_BYTES)} bytes")
+
+    def lines(self) -> list[str]:
+        """What is told of an import."""
+        students = len(self.roll) - 1
+        lines = [f"catalogue.csv: {tell.count(len(self.catalogue) - 1, 'section', 'sections')}"]
+        lines.append(f"roll.csv: {tell.count(students, 'student', 'students')}")
+        spoke: set[str] = set()
+        for survey in self.surveys:
+            named = {wish.student for wish in survey.wishes}
+            spoke |= named
+            wishes = tell.count(len(survey.wishes), "wish", "wishes")
+            lines.append(f"{survey.name}.session: {wishes} of {tell.count(len(named), 'student', 'students')}")
+            lines += of_survey(survey)
+        spelt = sum(original != name for _, original, name in self.names)
+        lines.append(f"{own_names.FILE}: {tell.count(len(self.names), 'name', 'names')}, {spelt} of them spelt anew")
+        lines += self.notes
+        for tally in [*self.tallies, *(survey.tally for survey in self.surveys)]:
+            lines += tally.lines()
+        lines += self.in_several()
+        if students > len(spoke):
+            lines.append(
+                f"{tell.count(students - len(spoke), 'student has', 'students have')} no wishes; `registrar look` names them"
+            )
+        return lines
+
+
+    def in_several(self) -> list[str]:
+        """That students are in several surveys, where some are: what they want may depend on which session is heard first."""
+        surveys: dict[str, list[str]] = {}
+        for survey in self.surveys:
+            for student in dict.fromkeys(wish.student for wish in survey.wishes):
+                surveys.setdefault(student, []).append(survey.name)
+        several = [f"{student} ({', '.join(found)})" for student, found in surveys.items() if len(found) > 1]
+        if not several:
+            return []
+        return [f"{tell.count(len(several), 'student is', 'students are')} in several surveys, so that `run` will stop: {some(several)}"]
+
+
+def of_survey(survey: Survey) -> list[str]:
+    """What is told below the line of a session: columns passed over, submissions replaced, who is not on the roll."""
+    lines: list[str] = []
+    if survey.passed_over:
+        lines.append(f"  columns passed over: {', '.join(survey.passed_over)}")
+    if survey.replaced:
+        count = tell.count(sum(survey.replaced.values()), "submission was", "submissions were")
+        lines.append(f"  {count} replaced whole by a later one, of {some(list(survey.replaced))}")
+    for code, (rows, hint) in survey.strangers.items():
+        lines.append(f"  not on the roll, left out: {code} (row{'s' * (len(rows) > 1)} {spans(rows)}{hint})")
+    return lines
+
+
+def some(words: list[str]) -> str:
+    """The first of these words, and how many more there are."""
+    more = f" and {len(words) - NAMED} more" if len(words) > NAMED else ""
+    return ", ".join(words[:NAMED]) + more
+
+
+def session_text(survey: Survey) -> str:
+    """A survey as a session."""
+    lines = [f"# The survey {survey.name}, written by `registrar import`."]
+    return "\n".join(lines + [wish.command() for wish in survey.wishes]) + "\n"

@@ -1,0 +1,54 @@
+"""What became of the rows of an export: how many were taken, and how many were not and why. The two make the rows there are."""
+
+from __future__ import annotations
+
+from collections import Counter
+from dataclasses import dataclass, field
+
+from registrar import tell
+from registrar.amounts import grouped
+
+#: Why a row is not taken.
+EMPTY = "empty"
+ABOVE = "above the first row that counts"
+REPLACED = "replaced by a later submission"
+STRANGER = "of nobody on the roll"
+SILENT = "without an answer"
+ZERO = "with a rating of 0, which says nothing"
+
+
+@dataclass
+class Tally:
+    """The rows of one export below its header. `left` has the numbers of the rows that were not taken, each with its reason.
+
+    `filled` counts, for each column of merged cells, the cells that were filled down; `answers` and `blanks` the cells of a
+    survey that have an answer and those that have none.
+    """
+
+    file: str
+    rows: int = 0
+    left: dict[int, str] = field(default_factory=dict)
+    filled: Counter[str] = field(default_factory=Counter)
+    answers: int = 0
+    blanks: int = 0
+
+    @property
+    def taken(self) -> int:
+        """How many rows were taken."""
+        return self.rows - len(self.left)
+
+    def leave(self, row: int, reason: str) -> None:
+        """Keeps that a row is not taken. The first reason stays."""
+        self.left.setdefault(row, reason)
+
+    def lines(self) -> list[str]:
+        """What is told of the export."""
+        line = f"{self.file}: {tell.count(self.rows, 'row', 'rows')}, {grouped(self.taken)} taken"
+        reasons = Counter(self.left.values())
+        if reasons:
+            line += f", {grouped(len(self.left))} not: " + ", ".join(f"{grouped(count)} {reason}" for reason, count in reasons.items())
+        found = [line]
+        if self.answers or self.blanks:
+            found.append(f"  {tell.count(self.answers, 'answer', 'answers')} in them, {tell.count(self.blanks, 'cell', 'cells')} blank")
+        found += [f"  {tell.count(count, 'cell', 'cells')} of {title} filled down" for title, count in self.filled.items()]
+        return found
