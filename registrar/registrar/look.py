@@ -35,6 +35,7 @@ KINDS = {
     "twice": "a file that is given twice, or two files with the same content",
     "two-sessions": "a student who is named in two sessions: the end may depend on who is heard first",
     "no-wishes": "a student without wishes",
+    "few-wishes": "half of the roll or more without wishes: a session may be missing",
     "unwanted": "a section that nobody wants",
 }
 
@@ -154,6 +155,9 @@ def findings(seen: Seen) -> list[Finding]:
     for student in seen.students:
         if not seen.ratings.get(student.name):
             found.append(Finding("no-wishes", f"{student.file}:{student.line}: no-wishes: {student.name}"))
+    silent = sum(not seen.ratings.get(student.name) for student in seen.students)
+    if seen.students and silent * 2 >= len(seen.students):
+        found.append(Finding("few-wishes", f"few-wishes: {silent} of {len(seen.students)} students have no wishes"))
     wanted = {section for ratings in seen.ratings.values() for section in ratings}
     for section in seen.sections:
         if section.code not in wanted:

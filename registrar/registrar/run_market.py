@@ -7,7 +7,7 @@ import os
 import tempfile
 from typing import Dict, List, Sequence, Tuple
 
-from registrar import at_work, manifest, program, published, ranges, streams, tables, tell, whole, work_log
+from registrar import at_work, before_run, manifest, program, published, ranges, streams, tables, tell, whole, work_log
 
 NAME = "run"
 HELP = "run the market to a file, which takes its name only where the run succeeds, with a manifest beside it"
@@ -20,6 +20,7 @@ def add_arguments(parser: argparse.ArgumentParser) -> None:
     add_market(parser)
     parser.add_argument("--text", default="published.txt", metavar="FILE", help="where the text goes (default: published.txt)")
     add_workers(parser)
+    before_run.add_argument(parser)
 
 
 def writes(arguments: argparse.Namespace) -> List[str]:
@@ -49,7 +50,10 @@ def workers() -> int:
 
 
 def run(arguments: argparse.Namespace) -> int:
-    """Runs the market, and keeps the last good text where that fails."""
+    """Runs the market, and keeps the last good text where that fails. What looks like an oversight is told before."""
+    stopped = before_run.stop(arguments)
+    if stopped:
+        return stopped
     sessions = arguments.sessions
     words = ["run", str(arguments.workers), arguments.catalogue, arguments.roll, arguments.settings, *sessions]
     answer = to_file(words, arguments.text)

@@ -9,7 +9,7 @@ import tempfile
 from dataclasses import dataclass
 from typing import Dict, List, Optional, Sequence, Tuple
 
-from registrar import program, published, run_market, ranges, tables, tell, work_log
+from registrar import before_run, program, published, run_market, ranges, tables, tell, work_log
 
 NAME = "settings"
 HELP = "try values of accept and turns, show what each gives, and write the settings that are chosen"
@@ -75,6 +75,8 @@ def run(arguments: argparse.Namespace) -> int:
         if status:
             return status
     for line in tell.table(HEADER, [row_of(number, trial) for number, trial in enumerate(trials, 1)]):
+        tell.say(line)
+    for line in before_run.why_not_again(arguments):
         tell.say(line)
     return choose(arguments, settings, trials)
 

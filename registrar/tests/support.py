@@ -12,7 +12,7 @@ import unittest
 from dataclasses import dataclass
 from typing import Dict, List, Sequence
 
-from registrar import command, program, tell
+from registrar import before_run, command, program, tell
 
 TERM = os.path.join(program.TOP, "examples", "term")
 MARKET = os.path.join(program.TOP, "examples", "market")
@@ -29,6 +29,8 @@ SCARCE: Dict[str, str] = {
     "a.session": "rate u X 90\nrate u Y 50\n",
     "b.session": "rate v X 80\nrate v Y 40\n",
 }
+# A run in spite of all that would stop it.
+IN_SPITE = [word for kind in before_run.STOPPING for word in ("--allow", kind)]
 SCARCE_WORDS = ["catalogue.csv", "roll.csv", "settings.json", "a.session", "b.session"]
 
 

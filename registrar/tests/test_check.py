@@ -7,7 +7,7 @@ import unittest
 from unittest import mock
 
 from registrar import audit, explain, findings, manifest, program, reasons, tell
-from tests.support import SCARCE_WORDS, TERM, InFolder, call, needs_program
+from tests.support import IN_SPITE, SCARCE_WORDS, TERM, InFolder, call, needs_program
 
 FILES = ["catalogue.csv", "roll.csv", "settings.json", "published.txt", "a.session", "b.session"]
 
@@ -76,7 +76,7 @@ class Check(InFolder):
         told = call("check", *FILES[:4], "b.session", "a.session")
         self.assertIn("accepted", told.out)  # Each names one student alone: any order of the two holds.
         self.put("b.session", self.read("b.session") + "rate u Y 60\nrate v Y 30\n")
-        self.assertEqual(call("run", *SCARCE_WORDS).status, 0)
+        self.assertEqual(call("run", *SCARCE_WORDS, *IN_SPITE).status, 0)
         told = call("check", *FILES[:4], "b.session", "a.session")
         self.assertEqual(told.status, 8)
         self.assert_told(
@@ -144,7 +144,7 @@ class Again(InFolder):
         self.scarce()
         self.put("a.session", "rate u X 90\nrate u Y 50\n# nothing\nnot a command\nrate u X 0\r\r\nclear v\n")
         self.put("b.session", "rate v X 80\nrate u Y 7\nrate v Y 40\n")
-        self.assertEqual(call("run", *SCARCE_WORDS).status, 0)
+        self.assertEqual(call("run", *SCARCE_WORDS, *IN_SPITE).status, 0)
         told = call("again")
         self.assertEqual(told.status, 0)
         self.assertIn("the same, byte for byte, but for the order line", told.out)

@@ -10,7 +10,7 @@ import xml.etree.ElementTree
 from unittest import mock
 
 from registrar import alone, explain, figures, manifest, plots, program, published, reasons, sheet, streams, tell
-from tests.support import SCARCE, SCARCE_WORDS, TERM, InFolder, call, needs_program
+from tests.support import IN_SPITE, SCARCE, SCARCE_WORDS, TERM, InFolder, call, needs_program
 
 TERM_FILES = [
     os.path.join(TERM, name)
@@ -76,7 +76,7 @@ class Lists(InFolder):
     def test_a_student_without_wishes(self) -> None:
         """A student who rated nothing above 0 has not what it rated highest."""
         self.put("b.session", "rate v X 0\nrate v Z 9\n")
-        self.assertEqual(call("run", *SCARCE_WORDS).status, 0)
+        self.assertEqual(call("run", *SCARCE_WORDS, *IN_SPITE).status, 0)
         self.assertEqual(call("lists").status, 0)
         text = self.read("lists/students/v.txt")
         self.assertIn("No wish of yours was heard: at the end no section has a rating of yours above 0.", text)
@@ -87,7 +87,7 @@ class Lists(InFolder):
         """Beside each text stands what the student said, in the text's order and up to a `close`; the second checker takes it."""
         self.put("a.session", "rate u X 90\n# note\nrate  u Y 50\nnone\nrate v Y 40\nclose\nrate u Y 7\n")
         self.put("b.session", "# nothing\n")
-        self.assertEqual(call("run", *SCARCE_WORDS).status, 0)
+        self.assertEqual(call("run", *SCARCE_WORDS, *IN_SPITE).status, 0)
         self.assertEqual(call("lists", "--no-reasons").status, 0)
         said = self.read("lists/students/u.session").splitlines()
         self.assertEqual(said, ["# What u said, in the order in which the desk took it.", "rate u X 90", "rate u Y 50"])

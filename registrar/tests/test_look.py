@@ -82,12 +82,17 @@ class Looks(InFolder):
         status, lines = self.look("rate t.jain FNCE-601-A 5\n")
         self.assertEqual(status, tell.FAULTS)
         self.assertEqual(
-            lines[:3],
-            ["roll.csv:2: no-wishes: 00123", "catalogue.csv:3: unwanted: FNCE-601-B", "catalogue.csv:4: unwanted: MGMT-690-A"],
+            lines[:4],
+            [
+                "roll.csv:2: no-wishes: 00123",
+                "few-wishes: 1 of 2 students have no wishes",
+                "catalogue.csv:3: unwanted: FNCE-601-B",
+                "catalogue.csv:4: unwanted: MGMT-690-A",
+            ],
         )
         self.assertEqual(self.look("rate t.jain FNCE-601-A 5\n", words=("--allow", "no-wishes"))[0], tell.FAULTS)
-        both = ("--allow", "no-wishes", "--allow", "unwanted")
-        self.assertEqual(self.look("rate t.jain FNCE-601-A 5\n", words=both)[0], 0)
+        words = ("--allow", "no-wishes", "--allow", "unwanted", "--allow", "few-wishes")
+        self.assertEqual(self.look("rate t.jain FNCE-601-A 5\n", words=words)[0], 0)
 
     def test_a_student_in_two_sessions(self) -> None:
         status, lines = self.look(ALL, "# web\nrate t.jain MGMT-690-A 7\n")

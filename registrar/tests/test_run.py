@@ -5,7 +5,7 @@ import stat
 import unittest
 
 from registrar import program, tell
-from tests.support import SCARCE, SCARCE_WORDS, InFolder, call, needs_program
+from tests.support import IN_SPITE, SCARCE, SCARCE_WORDS, InFolder, call, needs_program
 
 CATALOGUE = "section,course,seats,credits,meetings\n"
 ROLL = "student,budget,credits,courses\n"
@@ -122,7 +122,7 @@ class Refused(InFolder):
             self.assertIn(f"argument --workers: '{number}' is no whole number from 1 to 16", told.err)
         told = call("run", *SCARCE_WORDS[:3], *["a.session"] * 65)
         self.assertEqual((told.status, told.err), (tell.USAGE, "65 sessions are given; the program takes at most 64\n"))
-        self.assertEqual(call("run", *SCARCE_WORDS[:3], *["a.session"] * 64).status, 0)
+        self.assertEqual(call("run", *SCARCE_WORDS[:3], *["a.session"] * 64, *IN_SPITE).status, 0)
 
     @unittest.skipUnless(os.path.exists("/dev/full"), "there is no /dev/full")
     def test_a_full_disk(self) -> None:
@@ -152,7 +152,7 @@ class Good(InFolder):
         """A raw export given as a session publishes a market without wishes: that is said."""
         self.scarce()
         self.put("b.session", "student,X,Y\nv,80,40\n")
-        told = call("run", *SCARCE_WORDS)
+        told = call("run", *SCARCE_WORDS, *IN_SPITE)
         self.assertEqual(told.status, 0)
         self.assert_told(told.err, ("warning: b.session: 2 of 2 commands had no effect", "line 1: student,X,Y"))
 
@@ -171,9 +171,9 @@ class Good(InFolder):
         """The `close` that closed the desk is told, and what came behind it had no effect; so had a second `close`."""
         self.scarce()
         self.put("a.session", "rate u X 90\nclose\nrate u Y 50\nrate v X 80\nclose\n")
-        told = call("run", *SCARCE_WORDS[:3], "a.session")
+        told = call("run", *SCARCE_WORDS[:3], "a.session", *IN_SPITE)
         self.assertEqual(told.status, 0)
-        self.assertEqual(told.err.splitlines(), [
+        self.assertEqual(told.err.splitlines()[-2:], [
             "warning: a.session: 3 of 5 commands had no effect, the first in line 3: rate u Y 50 (`registrar look` tells each)",
             "warning: a.session: line 2 closed the desk: what any session said behind it had no effect",
         ])  # fmt: skip
@@ -252,7 +252,7 @@ class NoProgram(InFolder):
     def test_an_input_that_changes(self) -> None:
         """A file that changes while the program runs is no input that a manifest can name."""
         self.other("echo '#' >> a.session; exit 0")
-        told = call("run", *SCARCE_WORDS)
+        told = call("run", *SCARCE_WORDS, *IN_SPITE)
         self.assertEqual(told.status, tell.FAULTS)
         self.assertIn("changed while the program ran", told.err)
         self.assertEqual(self.read("published.txt"), "the last good text\n")
