@@ -14,6 +14,10 @@ class AmountFault(Exception):
 GROUPS = " \u00a0\u202f\u2009'\u2019"
 
 
+#: Seats some of which are reserved.
+RESERVED = re.compile(r"(\d+)\s*\(\s*(\d+)\s+reserved\s*\)", re.IGNORECASE)
+
+
 def amount(text: str, decimal: str = ".") -> Decimal:
     """The number that the text writes, under this decimal sign. Raises `AmountFault`.
 
@@ -43,6 +47,21 @@ def whole(text: str, least: int, most: int, decimal: str = ".") -> int:
     if found != found.to_integral_value() or not least <= found <= most:
         raise AmountFault(expected)
     return int(found)
+
+
+def seats(text: str, most: int, decimal: str, reserved: str) -> int:
+    """A number of seats. Of `35 (5 reserved)` it is 35 where `reserved` is `all`, and 30 where it is `less`. Raises `AmountFault`."""
+    found = RESERVED.fullmatch(text.strip())
+    if not found:
+        return whole(text, 0, most, decimal)
+    everything, kept = (whole(part, 0, most, decimal) for part in found.groups())
+    if kept > everything:
+        raise AmountFault("no more reserved seats than there are seats")
+    if not reserved:
+        raise AmountFault(
+            f"a number of seats: this may be {everything} or {everything - kept}; state `reserved seats = all` or `reserved seats = less`"
+        )
+    return everything if reserved == "all" else everything - kept
 
 
 def in_units(text: str, unit: Decimal, most: int, decimal: str = ".") -> int:

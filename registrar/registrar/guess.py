@@ -10,10 +10,12 @@ import re
 from dataclasses import dataclass, field
 
 from registrar import tell
+from registrar.amounts import RESERVED
 from registrar.exported import plain
 from registrar.guess_times import hours_of_24, is_of_submissions, two_ways
 from registrar.mapping import Source, mapping_text
 from registrar.meaning import what_numbers_may_mean
+from registrar.meetings import NO_MEETING
 from registrar.sheet import SheetFault, read_rows
 from registrar.spelling import spelt, tidy
 from registrar.surveys import rank_of
@@ -164,9 +166,15 @@ class Guesser:
         return [seen for seen in self.files if seen.kind == kind]
 
     def joined(self, seen: Seen, names: str) -> list[str]:
-        """The codes of a column, or of several that are joined by `-`."""
+        """The codes of a column, or of several that are joined by `-`; what is blank in one of these is what stands above it."""
         places = [seen.header.index(name) for name in names.split(" + ")]
-        return ["-".join(row[at] for at in places if at < len(row) and row[at]) for row in seen.rows]
+        found: list[str] = []
+        above = [""] * len(places)
+        for row in seen.rows:
+            cells = [row[at] if at < len(row) else "" for at in places]
+            above = [cell or before for cell, before in zip(cells, above)]
+            found.append("-".join(cell for cell in (above if len(places) > 1 else cells) if cell))
+        return found
 
     def split_codes(self, seen: Seen) -> None:
         """Where two courses have a section of one code (`A`), a section's code is the course's and that one.
@@ -188,7 +196,7 @@ class Guesser:
         if any(len(several) > 1 for several in courses.values()):
             seen.values["section"] = f"{course} + {section}"
         if seen.values["meetings"] and seen.values["days"]:
-            clocks = seen.column(seen.values["meetings"])
+            clocks = [clock for clock in seen.column(seen.values["meetings"]) if clock.upper() not in NO_MEETING]
             if not any(re.match(r"[A-Za-z]", clock) for clock in clocks):
                 seen.values["start"], seen.values["meetings"] = seen.values["start"] or seen.values["meetings"], ""
 
@@ -245,13 +253,14 @@ class Guesser:
             seen.asked.append(f"answers: these stand in place of numbers: {shown}")
 
     def values_of(self, seen: Seen, titles: list[str]) -> list[tuple[str, list[str]]]:
-        """What each student gave in these columns, with the first of its rows."""
+        """What each answer gave in these columns, with its first row: a row, or in a long sheet the rows of a student with one time."""
         student = seen.header.index(seen.values["student"])
         places = [seen.header.index(title) for title in titles]
         second = seen.header.index(seen.values["second"]) if seen.values.get("second") else len(seen.header)
-        found: dict[str, tuple[str, list[str]]] = {}
+        time = seen.header.index(seen.has("time")) if seen.has("time") else len(seen.header)
+        found: dict[tuple[str, ...], tuple[str, list[str]]] = {}
         for number, row in zip(seen.numbers, seen.rows):
-            key = row[student] if student < len(row) else ""
+            key = (str(number),) if seen.values["shape"] != "wishes" else tuple(row[at] for at in (student, time) if at < len(row))
             is_pair = second < len(row) and row[second].strip()
             values = [] if is_pair else [tidy(row[at]) for at in places if at < len(row) and row[at].strip()]
             found.setdefault(key, (f"row {number}", []))[1].extend(values)
@@ -314,7 +323,7 @@ class Guesser:
                 self.open.append(f"[{title}] {options.replace('|', ' or ')}")
         self.open += [f"[{title}] {line}" for line in (*seen.asked, *self.blanks(seen))]
         if seen.kind in SOUGHT:
-            self.open += [f"[{title}] {line}" for line in self.lengths(seen)]
+            self.open += [f"[{title}] {line}" for line in (*self.lengths(seen), *self.reserved(seen))]
 
     def blanks(self, seen: Seen) -> list[str]:
         """The columns that are blank in some rows, so that the mapping has to say what a blank means.
@@ -324,19 +333,25 @@ class Guesser:
         names = self.joined(seen, seen.values["section"]) if seen.kind == "catalogue" else []
         firsts = [row for at, row in enumerate(seen.rows) if not names or names.index(names[at]) == at]
         found: list[str] = []
-        for option in ("section", "course", "student", "seats", "credits", "meetings", "budget", "courses"):
+        options = ("section", "course", "student", "seats", "credits", "meetings", "budget", "courses") if seen.kind in SOUGHT else ("student",)
+        told: set[str] = set()
+        for option in options:
             is_name = option in ("section", "course", "student")
-            title = seen.values.get(option, "")
-            if not title or title not in seen.header or seen.kind not in SOUGHT and option != "student":
-                continue
-            rows = seen.rows if is_name or option == "meetings" else firsts
-            at = seen.header.index(title)
-            blank = sum(at >= len(row) or not row[at] for row in rows)
-            if blank:
-                choices = [f"`fill down = {title}` where these are merged cells"] if blank < len(rows) else []
-                choices += [] if is_name else [f"`{option} default` where all of them mean one value"]
-                found.append(f"{option}: {blank} of {len(rows)} rows have nothing in {title}: {', or '.join(choices)}")
+            for title in (title for title in seen.values.get(option, "").split(" + ") if title in seen.header and title not in told):
+                rows = seen.rows if is_name or option == "meetings" else firsts
+                at = seen.header.index(title)
+                blank = sum(at >= len(row) or not row[at] for row in rows)
+                if blank:
+                    told.add(title)
+                    choices = [f"`fill down = {title}` where these are merged cells"] if blank < len(rows) else []
+                    choices += [] if is_name else [f"`{option} default` where all of them mean one value"]
+                    found.append(f"{option}: {blank} of {len(rows)} rows have nothing in {title}: {', or '.join(choices)}")
         return found
+
+    def reserved(self, seen: Seen) -> list[str]:
+        """That seats some of which are reserved read in two ways."""
+        texts = seen.column(seen.values["seats"]) if seen.values.get("seats") in seen.header else []
+        return [f'reserved seats: what "{text}" means, all or less' for text in texts if RESERVED.fullmatch(text)][:1]
 
     def lengths(self, seen: Seen) -> list[str]:
         """That meetings without an end need a length, where there are some and no column has one."""

@@ -10,7 +10,7 @@ from dataclasses import dataclass, field
 from typing import Container
 
 from registrar import at_work, guess, own_names, tables, tell
-from registrar.amounts import AmountFault, in_units, whole
+from registrar.amounts import AmountFault, in_units, seats, whole
 from registrar.exported import Export, Row
 from registrar.faults import Faults
 from registrar.imported import Made
@@ -167,9 +167,11 @@ class Importer:
         try:
             if option == "credits":
                 return str(in_units(text, self.mapping.unit, most, self.mapping.decimal))
+            if option == "seats":
+                return str(seats(text, most, self.mapping.decimal, export.source.get("reserved seats")))
             return str(whole(text, 0, most, self.mapping.decimal))
         except AmountFault as fault:
-            hint = "" if text else f"; `{option} default` states what a blank means"
+            hint = "" if text else f"; `{option} default` states what a blank means, `fill down` that cells are merged"
             export.fault(row, option, text, f"{fault}{hint}")
             return "0"
 

@@ -38,6 +38,7 @@ OPTIONS: typing.Mapping[str, typing.Mapping[str, str]] = {
         "course": "the column of the course: of one course a student takes one section",
         "seats": "the column of the seats",
         "seats default": "what a blank there means",
+        "reserved seats": "what `35 (5 reserved)` means: all: 35 seats; less: 30 seats; blank: a fault",
         "credits": "the column of the credits",
         "credits default": "what a blank there means",
         "meetings": "the column of days and times together, as `MWF 9:00-10:15`",
@@ -159,6 +160,7 @@ CHOICES: typing.Mapping[str, tuple[str, ...]] = {
     "any case": ("yes", "no"),
     "decimal": (".", ","),
     "clock": ("24",),
+    "reserved seats": ("all", "less"),
 }
 
 #: Options that are whole numbers, and their ranges.

@@ -19,13 +19,15 @@ WORDS = "rating (the greatest number is the best), rank (1 is the best, and a st
 
 
 def what_numbers_may_mean(rows: Sequence[tuple[str, Sequence[str]]], source: Source) -> list[str]:
-    """What the option `says` has to be, and then examples before and after. Each row has its place, and the values of one student."""
+    """What the option `says` has to be, and then examples before and after. Each row has its place, and the values of one answer."""
     shown = [(place, [value for value in values if is_number(value)][:VALUES]) for place, values in rows]
     shown = [(place, values) for place, values in shown if values][:ROWS]
     parts = [WORDS, *(example(place, values, source) for place, values in shown)]
     repeats = next(((place, found) for place, values in rows for found in [repeated(values)] if found), None)
     if repeats:
         parts.append(f"{repeats[0]} has {repeats[1]} twice, so these are no ranks")
+    elif shown:
+        parts.append("no answer has a number twice, as is so of ranks")
     return parts
 
 

@@ -101,9 +101,8 @@ class SurveyReader:
         self.answers = answers_of(source)
         self.survey = Survey(source.name, self.export.tally)
         self.rows_of: dict[str, list[Row]] = {}
-        #: What stands in the cells for sections, by student, for examples of what they may mean.
-        self.given: dict[str, list[str]] = {}
-        self.first_row_of: dict[str, int] = {}
+        #: What stands in the cells for sections, by answer, with its first row: examples of what they may mean.
+        self.given: dict[tuple[str, ...], tuple[str, list[str]]] = {}
 
     def read(self) -> Survey:
         """The survey's wishes; each fault is added to the faults."""
@@ -125,8 +124,7 @@ class SurveyReader:
 
     def ask_what_numbers_mean(self) -> None:
         """Keeps the fault that the mapping does not say what the numbers mean, with examples."""
-        rows = [(f"row {self.first_row_of[student]}", values) for student, values in self.given.items()]
-        self.export.missing("says", "", "; ".join(what_numbers_may_mean(rows, self.source)))
+        self.export.missing("says", "", "; ".join(what_numbers_may_mean(list(self.given.values()), self.source)))
 
     def name(self, names: Names, row: Row, column: str, text: str) -> str:
         """The name that a cell means, or nothing, with a fault, where it is nobody's."""
@@ -194,9 +192,9 @@ class SurveyReader:
             return None
 
     def give(self, row: Row, student: str, text: str) -> None:
-        """Keeps what a student gave a section, as it stands."""
-        self.first_row_of.setdefault(student, row.number)
-        self.given.setdefault(student, []).append(self.answers.get(tidy(text).casefold(), text))
+        """Keeps what a student gave a section, as it stands. An answer is a row, in a long sheet the rows of a student with one time."""
+        key = (student, self.export.cell(row, "time")) if self.source.get("shape") == "wishes" else (str(row.number),)
+        self.given.setdefault(key, (f"row {row.number}", []))[1].append(self.answers.get(tidy(text).casefold(), text))
 
     def adjustment(self, row: Row, column: str, text: str) -> int | None:
         """What a cell says of two sections together; none, with a fault, where it says nothing."""
@@ -230,7 +228,7 @@ class SurveyReader:
 
     def section_columns(self) -> list[tuple[Column, str]]:
         """The columns that stand for sections, with the section of each. One that should and does not is a fault."""
-        extra = {plain(name) for name in [*self.source.get("extra").split("|"), *self.titles("student", "pairs")]}
+        extra = {plain(name) for name in [*self.source.get("extra").split("|"), *self.titles("student", "pairs", "time")]}
         found: list[tuple[Column, str]] = []
         for column, text in self.matching():
             if plain(column.title) in extra:
@@ -289,8 +287,7 @@ class SurveyReader:
     def count(self, row: Row, texts: Sequence[str]) -> None:
         """Counts the answers and the blanks of a row. One without any answer is not taken."""
         answers = sum(bool(text) for text in texts)
-        self.survey.tally.answers += answers
-        self.survey.tally.blanks += len(texts) - answers
+        self.survey.tally.cells[row.number] = (answers, len(texts) - answers)
         pairs = self.export.column("pairs")
         if not answers and not (pairs and pairs.cell(row)):
             self.survey.tally.leave(row.number, SILENT)

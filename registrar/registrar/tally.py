@@ -21,16 +21,15 @@ ZERO = "with a rating of 0, which says nothing"
 class Tally:
     """The rows of one export below its header. `left` has the numbers of the rows that were not taken, each with its reason.
 
-    `filled` counts, for each column of merged cells, the cells that were filled down; `answers` and `blanks` the cells of a
-    survey that have an answer and those that have none.
+    `filled` counts, for each column of merged cells, the cells that were filled down; `cells` has for each row of a survey how
+    many of its cells have an answer and how many are blank.
     """
 
     file: str
     rows: int = 0
     left: dict[int, str] = field(default_factory=dict)
     filled: Counter[str] = field(default_factory=Counter)
-    answers: int = 0
-    blanks: int = 0
+    cells: dict[int, tuple[int, int]] = field(default_factory=dict)
 
     @property
     def taken(self) -> int:
@@ -43,12 +42,19 @@ class Tally:
 
     def lines(self) -> list[str]:
         """What is told of the export."""
-        line = f"{self.file}: {tell.count(self.rows, 'row', 'rows')}, {grouped(self.taken)} taken"
+        line = f"{self.file}: {counted(self.rows, 'row', 'rows')}, {grouped(self.taken)} taken"
         reasons = Counter(self.left.values())
         if reasons:
             line += f", {grouped(len(self.left))} not: " + ", ".join(f"{grouped(count)} {reason}" for reason, count in reasons.items())
         found = [line]
-        if self.answers or self.blanks:
-            found.append(f"  {tell.count(self.answers, 'answer', 'answers')} in them, {tell.count(self.blanks, 'cell', 'cells')} blank")
-        found += [f"  {tell.count(count, 'cell', 'cells')} of {title} filled down" for title, count in self.filled.items()]
+        if self.cells:
+            taken = [cells for row, cells in self.cells.items() if row not in self.left]
+            answers, blanks = (sum(cells[at] for cells in taken) for at in (0, 1))
+            found.append(f"  in those taken {counted(answers, 'answer', 'answers')}, {counted(blanks, 'cell', 'cells')} blank")
+        found += [f"  {counted(count, 'cell', 'cells')} of {title} filled down" for title, count in self.filled.items()]
         return found
+
+
+def counted(number: int, one: str, more: str) -> str:
+    """A number with its noun, and with commas between thousands."""
+    return tell.count(number, one, more).replace(str(number), grouped(number), 1)
