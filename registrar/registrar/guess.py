@@ -62,6 +62,7 @@ NEEDED = {
     "catalogue": ("section", "course", "seats", "credits", "meetings|days"),
     "roll": ("student", "budget|budget default", "credits|credits default", "courses|courses default"),
     "survey": ("student",),
+    "sessions": ("folder",),
     "requests": ("student", "request|add|drop"),
 }
 
@@ -116,8 +117,9 @@ def look_at(path: str, encoding: str) -> Seen:
 class Guesser:
     """Guesses what the files are. `open` are what the registrar has to say."""
 
-    def __init__(self, files: list[Seen], folder: str) -> None:
+    def __init__(self, files: list[Seen], folders: list[str], folder: str) -> None:
         self.files = files
+        self.folders = folders
         self.folder = folder
         self.codes: set[str] = set()
         self.numbers: set[str] = set()
@@ -136,11 +138,13 @@ class Guesser:
             if not any(seen.kind == kind for seen in self.files):
                 self.open.append(f"[{kind}]: none of the files looks like it")
                 self.sections[kind] = {}
-        order = {"catalogue": 0, "roll": 1, "survey": 2, "requests": 3}
+        order = {"catalogue": 0, "roll": 1, "survey": 2, "sessions": 3, "requests": 4}
         for seen in sorted((seen for seen in self.files if seen.kind), key=lambda seen: order[seen.kind]):
             if seen.kind == "survey":
                 self.sent(seen)
             self.keep(seen)
+        for folder in self.folders:
+            self.keep_folder(folder)
         self.sections = dict(sorted(self.sections.items(), key=lambda item: order[item[0].split(" ")[0]]))
         self.sections["numbers"] = self.of_numbers()
         self.sections.update({"times": self.of_times(), "students": {}, "sections": {}})
@@ -325,6 +329,13 @@ class Guesser:
         if seen.kind in SOUGHT:
             self.open += [f"[{title}] {line}" for line in (*self.lengths(seen), *self.reserved(seen))]
 
+    def keep_folder(self, path: str) -> None:
+        """Keeps a folder of students' own session files."""
+        title = f"sessions {spelt(os.path.basename(os.path.abspath(path)))[:28] or 'own'}"
+        self.sections[title] = {"folder": os.path.relpath(path, self.folder)}
+        count = sum(name.endswith(".session") for name in os.listdir(path))
+        self.told.append(f"{os.path.basename(os.path.abspath(path))} is [{title}]: {tell.count(count, 'session file', 'session files')}")
+
     def blanks(self, seen: Seen) -> list[str]:
         """The columns that are blank in some rows, so that the mapping has to say what a blank means.
 
@@ -401,7 +412,7 @@ def run(exports: list[str], mapping: str, encoding: str) -> int:
     seen: list[Seen] = []
     faults: list[str] = []
     status = tell.FAULTS
-    for path in exports:
+    for path in (path for path in exports if not os.path.isdir(path)):
         try:
             seen.append(look_at(path, encoding))
         except SheetFault as fault:
@@ -411,7 +422,7 @@ def run(exports: list[str], mapping: str, encoding: str) -> int:
             status = tell.NO_FILE
     if faults:
         raise tell.Trouble("\n".join(faults), status)
-    guesser = Guesser(seen, os.path.dirname(mapping) or ".")
+    guesser = Guesser(seen, [path for path in exports if os.path.isdir(path)], os.path.dirname(mapping) or ".")
     text = guesser.guess()
     make_folder(os.path.dirname(mapping) or ".")
     write_whole(mapping, text.encode("utf-8"))

@@ -14,8 +14,9 @@ from registrar.amounts import AmountFault, in_units, seats, whole
 from registrar.exported import Export, Row
 from registrar.faults import Faults
 from registrar.imported import Made
-from registrar.mapping import Mapping, Source, read_mapping
+from registrar.mapping import OF_WISHES, Mapping, Source, read_mapping
 from registrar.meetings import MeetingFault, joined, meetings_by_columns, meetings_of, minutes_of
+from registrar.own_sessions import FolderReader
 from registrar.spelling import NameFault, Names, tidy
 from registrar.surveys import Known, Survey, SurveyReader
 from registrar.whole import write_all as write_files
@@ -99,6 +100,9 @@ def tell_faults(faults: Faults, table: str | None, mapping: str) -> int:
 def refuse_exports(folder: str, files: dict[str, bytes], mapping: Mapping) -> None:
     """Refuses where a file would be written over one of the exports that it is made of."""
     exports = {tables.file_at(source.path) for source in mapping.sources} - {None}
+    folders = [source.path for source in mapping.sources if source.kind == "sessions" and os.path.exists(source.path)]
+    if os.path.isdir(folder) and any(os.path.samefile(folder, one) for one in folders):
+        raise tell.Trouble(f"{folder} is the folder of the students' files: `--into` names another folder")
     over = [name for name in files if tables.file_at(os.path.join(folder, name)) in exports]
     if over:
         raise tell.Trouble(f"{', '.join(over)} would be written over an export of that name: `--into` names another folder")
@@ -151,15 +155,17 @@ class Importer:
                 self.result.tallies.append(export.tally)
             elif kind not in self.mapping.kinds:
                 self.faults.add(self.mapping.path, None, "", "", f"there is no section [{kind}]")
-        for source in self.mapping.of_kind("survey"):
-            self.result.surveys.append(self.survey(source))
+        for source in self.mapping.sources:
+            if source.kind in OF_WISHES:
+                self.result.surveys.append(self.survey(source))
         self.result.names = [*self.sections.rows(), *self.courses.rows(), *self.students.rows()]
         return self.result
 
     def survey(self, source: Source) -> Survey:
         """A survey. Where a table could not be read its names are not looked up: that would be a fault a row."""
         known = Known(self.mapping, self.students, self.sections, NOT_ON_ROLL in self.allowed)
-        return SurveyReader(source, known, self.faults).read()
+        reader = FolderReader if source.kind == "sessions" else SurveyReader
+        return reader(source, known, self.faults).read()
 
     def number(self, export: Export, row: Row, option: str, most: int) -> str:
         """A whole number, as the program reads it; 0, with a fault, where it is none."""

@@ -8,7 +8,7 @@ from dataclasses import dataclass, field
 from registrar import own_names, tables, tell
 from registrar.amounts import grouped
 from registrar.faults import Faults, spans
-from registrar.mapping import Mapping
+from registrar.mapping import OF_WISHES, Mapping
 from registrar.surveys import Survey
 from registrar.tally import Tally
 
@@ -21,6 +21,9 @@ MOST_BYTES = 16 * 1024 * 1024
 
 #: So many students are named in a line of several.
 NAMED = 10
+
+#: So many students without a file are named; `look` names all students without wishes.
+MISSING = 60
 
 
 @dataclass
@@ -65,8 +68,8 @@ class Made:
         for what, count, most in counts:
             if count > most:
                 faults.add(source, None, what, grouped(count), f"at most {grouped(most)} {what}, the limit of the program")
-        if self.mapping.is_read and "survey" not in self.mapping.kinds:
-            faults.add(source, None, "", "", "there is no section [survey NAME]")
+        if self.mapping.is_read and not self.mapping.kinds & set(OF_WISHES):
+            faults.add(source, None, "", "", "there is no section [survey NAME] or [sessions NAME]")
         for name, content in self.files().items():
             if len(content) > MOST_BYTES and name != own_names.FILE:
                 faults.add(name, None, "", f"{grouped(len(content))} bytes", f"at most {grouped(MOST_BYTES)} bytes")
@@ -89,12 +92,23 @@ class Made:
         for tally in [*self.tallies, *(survey.tally for survey in self.surveys)]:
             lines += tally.lines()
         lines += self.in_several()
+        lines += self.without_file(spoke)
         if students > len(spoke):
             lines.append(
                 f"{tell.count(students - len(spoke), 'student has', 'students have')} no wishes; `registrar look` names them"
             )
         return lines
 
+
+    def without_file(self, spoke: set[str]) -> list[str]:
+        """Whose file is missing in a folder of students' files, whoever spoke elsewhere left out."""
+        lines: list[str] = []
+        for survey in (survey for survey in self.surveys if survey.has_file is not None):
+            missing = [row[0] for row in self.roll[1:] if row[0] not in (survey.has_file or ()) and row[0] not in spoke]
+            if missing:
+                who = tell.count(len(missing), "student has no file, and spoke", "students have no file, and spoke")
+                lines.append(f"{survey.tally.file}: {who} nowhere else: {some(missing, MISSING)}")
+        return lines
 
     def in_several(self) -> list[str]:
         """That students are in several surveys, where some are: what they want may depend on which session is heard first."""
@@ -117,14 +131,15 @@ def of_survey(survey: Survey) -> list[str]:
         count = tell.count(sum(survey.replaced.values()), "submission was", "submissions were")
         lines.append(f"  {count} replaced whole by a later one, of {some(list(survey.replaced))}")
     for code, (rows, hint) in survey.strangers.items():
-        lines.append(f"  not on the roll, left out: {code} (row{'s' * (len(rows) > 1)} {spans(rows)}{hint})")
+        place = f" (row{'s' * (len(rows) > 1)} {spans(rows)}{hint})" if rows else hint
+        lines.append(f"  not on the roll, left out: {code}{place}")
     return lines
 
 
-def some(words: list[str]) -> str:
-    """The first of these words, and how many more there are."""
-    more = f" and {len(words) - NAMED} more" if len(words) > NAMED else ""
-    return ", ".join(words[:NAMED]) + more
+def some(words: list[str], most: int = NAMED) -> str:
+    """The first of these words, at most so many, and how many more there are."""
+    more = f" and {len(words) - most} more" if len(words) > most else ""
+    return ", ".join(words[:most]) + more
 
 
 def session_text(survey: Survey) -> str:

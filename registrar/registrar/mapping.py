@@ -88,6 +88,10 @@ OPTIONS: typing.Mapping[str, typing.Mapping[str, str]] = {
         "dates": "day first or month first, where 3/4/2026 in that column reads in two ways",
         "submission": "(wishes) the column that has the same in all rows that were sent together; blank: `time` tells that",
     },
+    "sessions": {
+        "folder": "the folder with a file of each student, as the page's form saves it; its place is told from the folder of this mapping",
+        "files": "how these files are named, the * standing for the student",
+    },
     "requests": {
         **OF_EVERY_EXPORT,
         "student": "the column of the student",
@@ -130,6 +134,7 @@ DEFAULTS: typing.Mapping[str, typing.Mapping[str, str]] = {
     "survey": {
         "header row": "1", "shape": "wishes", "first rating": "100", "rating step": "5", "least rating": "1", "again": "refuse",
     },
+    "sessions": {"files": "*.session"},
     "requests": {
         "header row": "1", "add words": "add, enrol, enroll", "drop words": "drop, withdraw",
         "leave words": "leave, leave waitlist",
@@ -150,6 +155,10 @@ FREE: typing.Mapping[str, str] = {
     "spell sections": "a section = a name of the program, chosen by hand",
     "spell courses": "a course = a name of the program, chosen by hand",
 }
+
+#: The kinds of sections of which there may be several, each with a name of its own; and those that make a session.
+NAMED_KINDS = ("survey", "sessions", "requests")
+OF_WISHES = ("survey", "sessions")
 
 #: Options that are one of a few words.
 CHOICES: typing.Mapping[str, tuple[str, ...]] = {
@@ -189,8 +198,8 @@ class Source:
 
     @property
     def path(self) -> str:
-        """Where the export is."""
-        return os.path.join(self.folder, self.get("file"))
+        """Where the export, or the folder of students' files, is."""
+        return os.path.join(self.folder, self.get("folder" if self.kind == "sessions" else "file"))
 
 
 @dataclass
@@ -277,7 +286,7 @@ class MappingReader:
         kind, _, name = title.partition(" ")
         if title in FREE:
             return
-        if kind not in OPTIONS or (name and kind not in ("survey", "requests")):
+        if kind not in OPTIONS or (name and kind not in NAMED_KINDS):
             known = [*OPTIONS, *FREE]
             self.fault(title, "", title, f"one of {', '.join(known)}")
             return
@@ -292,13 +301,20 @@ class MappingReader:
                 values[option] = ""
             elif value and option in RANGES:
                 values[option] = self.in_range(title, option, value)
-        if kind not in ("catalogue", "roll", "survey", "requests"):
+        if kind not in ("catalogue", "roll", *NAMED_KINDS):
             return
-        if kind in ("survey", "requests") and not is_name(name):
+        if kind in NAMED_KINDS and not is_name(name):
             self.fault(title, "", title, f"[{kind} NAME], the name of letters, digits, '-', '_' and '.'")
             return
-        if values.get("file"):
+        if kind in OF_WISHES and any(source.name == name and source.kind in OF_WISHES for source in self.mapping.sources):
+            self.fault(title, "", title, f"a name of its own: another section makes {name}.session")
+        if kind == "sessions" and values.get("files", "*").count("*") != 1:
+            self.fault(title, "files", values["files"], "a name with one * for the student, as `*.session`")
+            values["files"] = ""
+        if values.get("folder" if kind == "sessions" else "file"):
             self.mapping.sources.append(Source(title, kind, name, os.path.dirname(self.path), values))
+        elif kind == "sessions":
+            self.fault(title, "folder", "", "the folder of the students' files")
         else:
             self.fault(title, "file", "", "the export's file")
 

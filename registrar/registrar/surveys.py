@@ -76,6 +76,8 @@ class Survey:
     passed_over: list[str] = field(default_factory=list)
     replaced: dict[str, int] = field(default_factory=dict)
     strangers: dict[str, tuple[list[int], str]] = field(default_factory=dict)
+    #: Of a folder of students' own files, the students who have one there.
+    has_file: set[str] | None = None
 
 
 def rating_of(rank: int, source: Source) -> int:
@@ -363,19 +365,25 @@ class SurveyReader:
 
     def limits(self) -> None:
         """Adds the students with more wishes than the program takes, and drops the wishes that say 0."""
-        counts: dict[tuple[str, bool], int] = {}
         if self.source.get("shape") == "wishes":
             for wish in self.survey.wishes:
                 if not wish.points:
                     self.survey.tally.leave(wish.row, ZERO)
         self.survey.wishes = [wish for wish in self.survey.wishes if wish.points]
-        for wish in self.survey.wishes:
-            key = (wish.student, bool(wish.second))
-            counts[key] = counts.get(key, 0) + 1
-            most = MOST_PAIRS if wish.second else MOST_RATED
-            if counts[key] == most + 1:
-                what = "pairs" if wish.second else "rated sections"
-                self.fault(wish, f"at most {most} {what} of one student; {wish.student} has more from here on")
+        for wish, words in over_limits(self.survey.wishes):
+            self.fault(wish, words)
+
+
+def over_limits(wishes: Sequence[Wish]) -> Iterator[tuple[Wish, str]]:
+    """The first wish of each student that is one more than the program takes, and what was expected."""
+    counts: dict[tuple[str, bool], int] = {}
+    for wish in wishes:
+        key = (wish.student, bool(wish.second))
+        counts[key] = counts.get(key, 0) + 1
+        most = MOST_PAIRS if wish.second else MOST_RATED
+        if counts[key] == most + 1:
+            what = "pairs" if wish.second else "rated sections"
+            yield wish, f"at most {most} {what} of one student; {wish.student} has more from here on"
 
 
 def rank_of(text: str) -> int:

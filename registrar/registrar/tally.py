@@ -15,11 +15,15 @@ REPLACED = "replaced by a later submission"
 STRANGER = "of nobody on the roll"
 SILENT = "without an answer"
 ZERO = "with a rating of 0, which says nothing"
+COPY = "with the content of another file of that student"
+OF_SYSTEM = "of the system"
 
 
 @dataclass
 class Tally:
-    """The rows of one export below its header. `left` has the numbers of the rows that were not taken, each with its reason.
+    """The rows of one export below its header, or the files of a folder (`what` is their noun).
+
+    `left` has the numbers of the rows that were not taken, each with its reason.
 
     `filled` counts, for each column of merged cells, the cells that were filled down; `cells` has for each row of a survey how
     many of its cells have an answer and how many are blank.
@@ -27,6 +31,7 @@ class Tally:
 
     file: str
     rows: int = 0
+    what: tuple[str, str] = ("row", "rows")
     left: dict[int, str] = field(default_factory=dict)
     filled: Counter[str] = field(default_factory=Counter)
     cells: dict[int, tuple[int, int]] = field(default_factory=dict)
@@ -42,7 +47,7 @@ class Tally:
 
     def lines(self) -> list[str]:
         """What is told of the export."""
-        line = f"{self.file}: {counted(self.rows, 'row', 'rows')}, {grouped(self.taken)} taken"
+        line = f"{self.file}: {counted(self.rows, *self.what)}, {grouped(self.taken)} taken"
         reasons = Counter(self.left.values())
         if reasons:
             line += f", {grouped(len(self.left))} not: " + ", ".join(f"{grouped(count)} {reason}" for reason, count in reasons.items())
