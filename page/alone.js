@@ -1,0 +1,170 @@
+// The market of one student: what the program is asked in, where nobody else's ratings are at hand or are needed.
+//
+// What `check`, `explain` and `demand` say of one student depends on its own lines, its budget and caps, the catalogue and
+// the prices, and on nothing of anybody else. So the page makes a market that has all of these and one student: each
+// section has a seat for it, its base is the budget that is printed, nothing is drawn or raised, and the bundle and its tree
+// are lines of a text that the program checks. Where not all sections are to be had, as at a turn of the aftermarket, those
+// that are not cost more than the budget: by "Trees" (FORMATS) a place is closed alike for both, and the tree is the same.
+
+import { encoded } from './bytes.js';
+
+/** The greatest budget that a roll can give to one student alone. */
+export const MOST_BASE = 900000;
+
+/** The most sessions that a market has. */
+const MOST_SESSIONS = 64;
+
+const SETTINGS = encoded('{"seed":0,"spread":0,"accept":0,"turns":0,"tabu":1,"patience":1,"steps":[1],"raise":0}');
+const MARK = [0xef, 0xbb, 0xbf];
+const WITH_MARK = new TextDecoder('utf-8', { ignoreBOM: true });
+
+/**
+ * The lines of a session that are commands, in their order, each with its bytes (without the line feed) and its words. A
+ * byte order mark at the beginning of the session belongs to no line.
+ * @param {Uint8Array} bytes
+ * @returns {{ bytes: Uint8Array, words: string[] }[]}
+ */
+export function commandLines(bytes) {
+  const found = [];
+  const first = MARK.every((it, at) => bytes[at] === it) ? MARK.length : 0;
+  for (let from = first; from < bytes.length;) {
+    const feed = bytes.indexOf(10, from), to = feed < 0 ? bytes.length : feed;
+    const line = bytes.subarray(from, to);
+    const words = WITH_MARK.decode(line).replace(/\r$/, '').split(/[ \t]+/).filter(Boolean);
+    if (words.length && !words[0].startsWith('#')) found.push({ bytes: line, words });
+    from = to + 1;
+  }
+  return found;
+}
+
+/**
+ * Which students the lines of a session name, each with how many commands name it; `others` are the commands that name
+ * nobody, as `close` or a line that is none.
+ * @param {Uint8Array} bytes
+ * @returns {{ names: Map<string, number>, others: number }}
+ */
+export function namedIn(bytes) {
+  /** @type {Map<string, number>} */
+  const names = new Map();
+  let others = 0;
+  for (const { words } of commandLines(bytes)) {
+    if (['rate', 'pair', 'clear'].includes(words[0]) && words[1]) names.set(words[1], (names.get(words[1]) ?? 0) + 1);
+    else others++;
+  }
+  return { names, others };
+}
+
+/**
+ * A session of lines, byte for byte. The comment comes first so that no line stands where a byte order mark is dropped.
+ * @param {Uint8Array[]} lines
+ */
+export function sessionOf(lines) {
+  const head = encoded('# The lines of one student.\n');
+  const all = new Uint8Array(lines.reduce((sum, it) => sum + it.length + 1, head.length));
+  all.set(head);
+  let at = head.length;
+  for (const it of lines) {
+    all.set(it, at);
+    all[at + it.length] = 10;
+    at += it.length + 1;
+  }
+  return all;
+}
+
+/**
+ * The lines of one student among those of a session that somebody handed out as the student's own.
+ * @param {Uint8Array} bytes
+ * @param {string} name
+ * @returns {Said}
+ */
+export function saidIn(bytes, name) {
+  const lines = commandLines(bytes).filter(({ words }) => words[1] === name).map(it => it.bytes);
+  return { bytes: sessionOf(lines), count: lines.length };
+}
+
+/**
+ * The lines of each student among all sessions, in the order of the text, up to the first `close`.
+ * @param {number[]} order the number of a session, from 1, for each command
+ * @param {Uint8Array[]} sessions
+ * @returns {Map<string, Said>}
+ */
+export function saidByAll(order, sessions) {
+  const left = sessions.map(commandLines), at = sessions.map(() => 0);
+  /** @type {Map<string, Uint8Array[]>} */
+  const lines = new Map();
+  for (const it of order) {
+    const { bytes, words } = left[it - 1][at[it - 1]++];
+    if (words.length === 1 && words[0] === 'close') break;
+    if (words[1] === undefined) continue;
+    if (!lines.has(words[1])) lines.set(words[1], []);
+    lines.get(words[1]).push(bytes);
+  }
+  return new Map([...lines].map(([name, said]) => [name, { bytes: sessionOf(said), count: said.length }]));
+}
+
+/**
+ * Sessions of as many commands as an order takes of each, none of which is readable. With these `check` judges of a text
+ * what stands before the bundles: its form, and everybody's budget.
+ * @param {number[]} order
+ * @returns {PageFile[]}
+ */
+export function blankSessions(order) {
+  const counts = new Array(Math.min(MOST_SESSIONS, Math.max(1, ...new Set(order)))).fill(0);
+  for (const it of order) if (it >= 1 && it <= counts.length) counts[it - 1]++;
+  return counts.map((count, at) => fileOf('session', `session ${at + 1}, without what it says`, encoded('x\n'.repeat(count))));
+}
+
+/**
+ * The prices where only some sections are to be had: each other one costs more than the budget.
+ * @param {Section[]} catalogue
+ * @param {number[]} prices
+ * @param {Set<string> | undefined} allowed all sections, where it is left out
+ * @param {number} budget
+ */
+export function pricesWithin(catalogue, prices, allowed, budget) {
+  return allowed ? catalogue.map(it => allowed.has(it.name) ? prices[it.at] : budget + 1) : prices;
+}
+
+/**
+ * The inputs of a market of one student.
+ * @param {Section[]} catalogue
+ * @param {Alone} of
+ * @returns {Parts & { prices: PageFile }}
+ */
+export function roomOf(catalogue, of) {
+  const prices = pricesWithin(catalogue, of.prices, of.allowed, of.budget);
+  const rows = catalogue.map(it => [it.name, it.course, 1, it.credits, meetingsText(it), it.parts].join());
+  const roll = ['student,budget,credits,courses', [of.name, of.budget, of.credits, of.courses].join()];
+  return {
+    catalogue: fileOf('catalogue', 'catalogue', table(['section,course,seats,credits,meetings,parts', ...rows])),
+    roll: fileOf('roll', 'roll', table(roll)),
+    settings: fileOf('settings', 'settings', SETTINGS),
+    prices: fileOf('prices', 'prices', table(['section,price', ...catalogue.map(it => `${it.name},${prices[it.at]}`)])),
+    text: fileOf('text', 'text', encoded(textOf(catalogue, prices, of))),
+    sessions: [fileOf('session', 'lines', of.said.bytes)],
+  };
+}
+
+/** @param {string} kind @param {string} name @param {Uint8Array} bytes @returns {PageFile} */
+const fileOf = (kind, name, bytes) => ({ kind, name, bytes });
+
+/** @param {string[]} rows */
+const table = rows => encoded(`${rows.join('\n')}\n`);
+
+/** @param {Section} section */
+const meetingsText = section => section.meetings.map(it => `${it.day}${it.from}-${it.to}`).join(';');
+
+/**
+ * The published text of one student alone.
+ * @param {Section[]} catalogue @param {number[]} prices @param {Alone} of
+ */
+function textOf(catalogue, prices, of) {
+  const bundle = `[${of.names.join()}]`, budget = `budget ${of.name} ${of.budget}`;
+  return [
+    'course-match 2', 'order' + ' 1'.repeat(of.said.count), budget,
+    ...catalogue.map(it => `start ${it.name} 0`), 'error 0',
+    ...catalogue.map(it => `price ${it.name} ${prices[it.at]}`),
+    `bundle ${of.name} ${bundle} ${of.tree}`, `turn 1 ${of.name} ${bundle} ${of.tree}`, `final ${of.name} ${bundle}`,
+    ...catalogue.map(it => `used ${it.name} ${of.names.includes(it.name) ? 1 : 0} 1`), 'end', '',
+  ].join('\n');
+}

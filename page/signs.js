@@ -1,0 +1,217 @@
+// Explains the signs of a tree one after another, and stops at the first that does not fit (FORMATS, "Trees").
+
+import { TAKES, boundOf, closedBy, leftOf, losesTies, openPlaces, worthOf } from './reckoning.js';
+import { listed, plural } from './wording.js';
+
+const SIGN = /[*nx!+-]|[bcm](?:0|[1-9]\d?)(?!\d)/y;
+const RESOURCES = [['b', 'token', 'tokens'], ['c', 'credit', 'credits'], ['m', 'section', 'sections']];
+
+/**
+ * The sign that is due at a node: the first that fits of those that FORMATS names. `null` where none does, so that the
+ * chosen places are better than the bundle.
+ * @param {Walk} walk
+ * @param {number[]} chosen
+ * @param {number} place
+ * @returns {string | null}
+ */
+export function dueSign(walk, chosen, place) {
+  const isEnd = place === walk.menu.places.length;
+  if (isEnd && String(chosen) === String([...walk.champion].sort((one, other) => one - other))) return '*';
+  const isUndecided = walk.forced !== null && walk.forced >= place;
+  if (isUndecided && closedBy(walk, chosen, walk.forced) !== null) return 'x';
+  const bound = closingBound(walk, chosen, place);
+  if (bound || isEnd) return bound;
+  if (isUndecided && walk.forced === place) return '!';
+  return closedBy(walk, chosen, place) === null ? '+' : '-';
+}
+
+/**
+ * The sign of the first bound that closes a node; null where none does.
+ * @param {Walk} walk @param {number[]} chosen @param {number} place
+ */
+function closingBound(walk, chosen, place) {
+  const closed = 1000 * (walk.worth + (losesTies(walk, chosen, place) ? 1 : 0));
+  const closes = (/** @type {string} */ symbol, /** @type {number} */ number) =>
+    boundOf(walk, chosen, place, /** @type {any} */ ({ symbol, number })).bound < closed;
+  if (closes('n', -1)) return 'n';
+  const open = openPlaces(walk, chosen, place).filter(it => it.worth > 0);
+  for (const [symbol] of RESOURCES) {
+    const takes = TAKES[symbol];
+    const by = open.find(it => takes(walk.menu.places[it.place]) > 0 && closes(symbol, it.place));
+    if (by) return symbol + by.place;
+  }
+  return null;
+}
+
+/**
+ * The sections that the signs themselves choose on their way to the bundle; null where they do not come to it.
+ * @param {string} text
+ * @returns {{ champion: number[], forced: number | null } | null} places of the menu
+ */
+export function championOf(text) {
+  /** @type {{ chosen: number[], place: number }[]} */
+  const waiting = [];
+  let chosen = [], place = 0, at = 0;
+  /** @type {number | null} */
+  let forced = null;
+  for (;;) {
+    const sign = signAt(text, at);
+    if (!sign) return null;
+    at += sign.length;
+    if (sign === '*') return { champion: chosen, forced };
+    if (sign === '-') { place++; continue; }
+    if (sign === '+') waiting.push({ chosen, place: place + 1 });
+    if (sign === '!') forced = place;
+    if (sign === '+' || sign === '!') { chosen = [...chosen, place]; place++; continue; }
+    const next = waiting.pop();
+    if (!next) return null;
+    ({ chosen, place } = next);
+  }
+}
+
+/** The sign that stands at a byte; null where none does. @param {string} text @param {number} at */
+function signAt(text, at) {
+  SIGN.lastIndex = at;
+  return SIGN.exec(text)?.[0] ?? null;
+}
+
+/**
+ * The signs of a tree one after another, each in words. Places that may not be taken and follow each other are one step.
+ * The last step is of kind `fault` where a sign does not fit, and of kind `end` where all do.
+ * @param {Walk} walk
+ * @param {string} text
+ * @returns {Generator<Step>}
+ */
+export function* stepsOf(walk, text) {
+  /** @type {{ chosen: number[], place: number }[]} */
+  const waiting = [];
+  let chosen = [], place = 0, at = 0;
+  for (;;) {
+    const sign = signAt(text, at), due = dueSign(walk, chosen, place);
+    if (!sign || sign !== due) { yield faultAt(walk, chosen, text, at, due); return; }
+    const node = { walk, chosen, place };
+    if (sign === '-') {
+      const run = closedRun(walk, chosen, place, text, at);
+      yield { kind: 'closed', at, sign: '-'.repeat(run), words: closedWords(node, run), depth: waiting.length };
+      place += run;
+      at += run;
+      continue;
+    }
+    yield { kind: KINDS[sign[0]] ?? 'leaf', at, sign, words: signWords(node, sign), depth: waiting.length };
+    at += sign.length;
+    if (sign === '+') waiting.push({ chosen, place: place + 1 });
+    if (sign === '+' || sign === '!') { chosen = [...chosen, place]; place++; continue; }
+    const next = waiting.pop();
+    if (!next) break;
+    ({ chosen, place } = next);
+  }
+  if (at < text.length) { yield faultAt(walk, null, text, at, null); return; }
+  yield { kind: 'end', at, sign: '', words: END, depth: 0 };
+}
+
+/** @type {Record<string, Step['kind']>} */
+const KINDS = { '+': 'taken', '!': 'taken', '*': 'bundle' };
+const END = 'All signs fit: every bundle that the budget buys was looked at, and none is better.';
+
+/** How many places from this one on are closed, each with its sign `-`. */
+function closedRun(/** @type {Walk} */ walk, /** @type {number[]} */ chosen, /** @type {number} */ place,
+  /** @type {string} */ text, /** @type {number} */ at) {
+  let run = 1;
+  while (text[at + run] === '-' && dueSign(walk, chosen, place + run) === '-') run++;
+  return run;
+}
+
+/** @param {Node} node @param {number} run */
+function closedWords({ walk, chosen, place }, run) {
+  return Array.from({ length: run }, (_, at) => {
+    const it = walk.menu.places[place + at];
+    return `Place ${it.place}, ${it.name}, may not be taken: it ${closedBy(walk, chosen, it.place)}.`;
+  }).join(' ');
+}
+
+/** @param {Node} node @param {string} sign */
+function signWords(node, sign) {
+  const { walk, chosen, place } = node, names = listed(chosen.map(it => walk.menu.places[it].name));
+  if (sign === '*') return `Nothing is left to decide, and this is the bundle: ${names}, worth ${walk.worth}.`;
+  if (sign === 'x') {
+    return `${walk.menu.places[walk.forced].name}, which has to be taken, can no more be: it `
+      + `${closedBy(walk, chosen, walk.forced)}.`;
+  }
+  if (sign !== '+' && sign !== '!') return boundSentence(node, sign);
+  const it = walk.menu.places[place], left = leftWords(walk, [...chosen, place]);
+  const may = sign === '!' ? 'is the section that is asked for and has to be taken' : 'may be taken';
+  return `Place ${place}, ${it.name}, ${may} (rating ${it.rating}, price ${it.price}). First comes what begins with `
+    + `${listed([...chosen, place].map(that => walk.menu.places[that].name))}: ${left}.`;
+}
+
+/**
+ * What is left of a budget and of the caps beside what is chosen, in words.
+ * @param {Walk} walk @param {number[]} chosen
+ */
+export function leftWords(walk, chosen) {
+  const left = leftOf(walk, chosen);
+  return `left are ${left.b} of ${plural(walk.budget, 'token')}, ${left.c} of ${plural(walk.credits, 'credit')} and `
+    + `${left.m} of ${plural(walk.courses, 'section')}`;
+}
+
+/** Thousandths of a point as points. @param {number} thousandths */
+export const points = thousandths => (thousandths / 1000).toFixed(3).replace(/\.?0+$/, '');
+
+/** @param {Node} node @param {string} sign */
+function boundSentence({ walk, chosen, place }, sign) {
+  const symbol = sign[0], number = Number(sign.slice(1));
+  const it = boundOf(walk, chosen, place, /** @type {any} */ ({ symbol, number }));
+  const names = listed(chosen.map(that => walk.menu.places[that].name)), begins = beginsWith(place, chosen, names, it.value);
+  const most = Math.floor(it.bound / 1000), isTie = most === walk.worth;
+  const end = isTie
+    ? `So at most ${most}, as much as the bundle; and of bundles of equal worth the one with the earlier section wins, which is the bundle.`
+    : `So at most ${most}, less than the ${walk.worth} of the bundle: no more need be looked at.`;
+  if (symbol === 'n') {
+    const more = it.brought.map(that => `${that.worth} (${that.name})`).join(' + ');
+    return `${begins} ${more ? `What may still come brings ${more} at most.` : 'Nothing else can come to it.'} ${end}`;
+  }
+  const [, one, many] = RESOURCES.find(([that]) => that === symbol), by = walk.menu.places[number];
+  const sum = [`${it.value}`, `${points(it.rate)} · ${it.left}`,
+    ...it.brought.map(that => `${points(that.brings)} (${that.name}: ${that.worth} less ${points(it.rate)} · ${that.takes})`)];
+  return `${begins} ${plural(it.left, `${one} is`, `${many} are`)} left. At place ${number}, ${by.name}, `
+    + `${plural(TAKES[symbol](by), one, many)} bring ${it.by.worth}, ${points(it.rate)} each. Counted at that rate, with what `
+    + `each course may bring above it: ${sum.join(' + ')} = ${points(it.bound)}. ${end}`;
+}
+
+/** @param {number} place @param {number[]} chosen @param {string} names @param {number} value */
+function beginsWith(place, chosen, names, value) {
+  if (!chosen.length) return `Without the places below ${place}: nothing is chosen yet.`;
+  return `With ${names}, worth ${value}, and ${place ? `no other of the places below ${place}` : 'nothing else'}:`;
+}
+
+/** @param {Walk} walk @param {number[] | null} chosen @param {string} text @param {number} at @param {string | null} due */
+function faultAt(walk, chosen, text, at, due) {
+  const stands = at < text.length ? `“${signAt(text, at) ?? text[at]}” stands here` : 'the signs end here';
+  const what = chosen === null ? 'nothing more is due' : due === null
+    ? `${listed(chosen.map(it => walk.menu.places[it].name))} ${chosen.length === 1 ? 'is' : 'are'} worth `
+      + `${worthOf(walk.menu, chosen)}, better than the ${walk.worth} of the bundle`
+    : `“${due}” is due`;
+  return /** @type {Step} */ ({ kind: 'fault', at, sign: text.slice(at, at + 3), words: `Behind ${plural(at, 'character')} `
+    + `${stands}, and by these ratings, prices and this budget ${what}.`, depth: 0 });
+}
+
+/** Why a tree may not fit that a school published, in words. */
+export const CAUSES = [
+  'a rating or an adjustment in the lines is not the one that the desk took last (a line is missing, or was changed)',
+  'a price in the text was changed',
+  'the budget in the text was changed, or the signs belong to another stage: the aftermarket has a raised budget',
+  'the bundle or its signs were changed, or belong to another student',
+];
+
+/**
+ * The signs in what somebody pasted: a whole line of the text or of `explain`, or the signs alone.
+ * @param {string} pasted
+ * @returns {{ tree: string, bundle?: string[], student?: string, pass?: number }}
+ */
+export function pastedSigns(pasted) {
+  const words = pasted.trim().split(/\s+/), at = words.findIndex(it => /^\[.*\]$/.test(it));
+  if (at < 0) return { tree: words.length > 1 && words[0] === 'tree' ? words.slice(1).join('') : words.join('') };
+  const bundle = words[at].slice(1, -1).split(',').filter(Boolean);
+  const pass = words[0] === 'turn' ? Number(words[1]) : undefined;
+  return { tree: words.slice(at + 1).join(''), bundle, student: at ? words[at - 1] : undefined, pass };
+}

@@ -1,0 +1,62 @@
+import assert from 'node:assert/strict';
+import { test } from 'node:test';
+
+import { blankSessions, commandLines, namedIn, pricesWithin, roomOf, saidByAll, saidIn } from '../../alone.js';
+
+const bytes = (/** @type {string} */ it) => new TextEncoder().encode(it);
+const text = (/** @type {Uint8Array} */ it) => new TextDecoder().decode(it);
+const section = (/** @type {number} */ at, /** @type {string} */ name, /** @type {any} */ more) =>
+  ({ at, name, course: name, seats: 0, credits: 1, meetings: [], parts: '12', ...more });
+
+test('a line is a command by its words, and keeps its bytes', () => {
+  const lines = commandLines(bytes('\ufeff# a comment\n\n \t\nrate ann A 5\r\n\r\n rate  ann\tB 6\r\r\n#x\nclose'));
+  assert.deepEqual(lines.map(it => text(it.bytes)), ['rate ann A 5\r', ' rate  ann\tB 6\r\r', 'close']);
+  assert.deepEqual(lines[1].words, ['rate', 'ann', 'B', '6\r']);
+});
+
+test('the lines of a student are kept as they stand, behind a comment', () => {
+  const said = saidIn(bytes('rate ann A 5\r\r\nrate bob A 7\nclear ann\nclose\npair ann A B -3'), 'ann');
+  assert.equal(text(said.bytes), '# The lines of one student.\nrate ann A 5\r\r\nclear ann\npair ann A B -3\n');
+  assert.equal(said.count, 3);
+});
+
+test('names are counted apart from lines that name nobody', () => {
+  const { names, others } = namedIn(bytes('rate ann A 5\nrate ann B 5\nclear bob\nclose\nrate\nwhat ann\n'));
+  assert.deepEqual([[...names], others], [[['ann', 2], ['bob', 1]], 3]);
+});
+
+test('all sessions are heard in the order of the text, up to a close', () => {
+  const sessions = [bytes('rate ann A 1\nrate ann A 3\n'), bytes('rate ann A 2\nclear bob\nclose\nrate ann A 9\n')];
+  const said = saidByAll([1, 2, 1, 2, 2, 2], sessions);
+  assert.equal(text(said.get('ann').bytes), '# The lines of one student.\nrate ann A 1\nrate ann A 2\nrate ann A 3\n');
+  assert.deepEqual([...said].map(([name, it]) => [name, it.count]), [['ann', 3], ['bob', 1]]);
+});
+
+test('blank sessions have as many commands as the order takes', () => {
+  assert.deepEqual(blankSessions([3, 1, 3]).map(it => text(it.bytes)), ['x\n', '', 'x\nx\n']);
+  assert.deepEqual(blankSessions([]).map(it => text(it.bytes)), ['']);
+  assert.equal(blankSessions([64, 1]).length, 64);
+});
+
+test('what is not to be had costs more than the budget', () => {
+  const catalogue = [section(0, 'A', {}), section(1, 'B', {})];
+  assert.deepEqual(pricesWithin(catalogue, [5, 6], new Set(['B']), 100), [101, 6]);
+  assert.deepEqual(pricesWithin(catalogue, [5, 6], undefined, 100), [5, 6]);
+});
+
+test('the market of one student has a seat in each section, its budget, and its bundle as the whole text', () => {
+  const meetings = [{ day: 'M', from: '0900', to: '1020' }, { day: 'W', from: '0900', to: '1020' }];
+  const catalogue = [section(0, 'A', { credits: 3, meetings, parts: '1' }), section(1, 'B', { course: 'X' })];
+  const room = roomOf(catalogue, {
+    name: 'ann', credits: 8, courses: 5, budget: 70, prices: [50, 30], names: ['A'], tree: '+*n',
+    said: { bytes: bytes('rate ann A 5\n'), count: 1 },
+  });
+  assert.equal(text(room.catalogue.bytes),
+    'section,course,seats,credits,meetings,parts\nA,A,1,3,M0900-1020;W0900-1020,1\nB,X,1,1,,12\n');
+  assert.equal(text(room.roll.bytes), 'student,budget,credits,courses\nann,70,8,5\n');
+  assert.equal(text(room.prices.bytes), 'section,price\nA,50\nB,30\n');
+  assert.equal(text(room.text.bytes), [
+    'course-match 2', 'order 1', 'budget ann 70', 'start A 0', 'start B 0', 'error 0', 'price A 50', 'price B 30',
+    'bundle ann [A] +*n', 'turn 1 ann [A] +*n', 'final ann [A]', 'used A 1 1', 'used B 0 1', 'end', '',
+  ].join('\n'));
+});
