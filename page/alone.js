@@ -106,7 +106,7 @@ export function saidByAll(order, sessions) {
  * Sessions of as many commands as an order takes of each, none of which is readable. With these `check` judges of a text
  * what stands before the bundles: its form, and everybody's budget.
  * @param {number[]} order
- * @returns {PageFile[]}
+ * @returns {GivenFile[]}
  */
 export function blankSessions(order) {
   const counts = new Array(Math.min(MOST_SESSIONS, Math.max(1, ...new Set(order)))).fill(0);
@@ -129,7 +129,7 @@ export function pricesWithin(catalogue, prices, allowed, budget) {
  * The inputs of a market of one student.
  * @param {Section[]} catalogue
  * @param {Alone} of
- * @returns {Parts & { prices: PageFile }}
+ * @returns {Parts & { prices: GivenFile }}
  */
 export function roomOf(catalogue, of) {
   const prices = pricesWithin(catalogue, of.prices, of.allowed, of.budget);
@@ -145,7 +145,7 @@ export function roomOf(catalogue, of) {
   };
 }
 
-/** @param {string} kind @param {string} name @param {Uint8Array} bytes @returns {PageFile} */
+/** @param {Kind} kind @param {string} name @param {Uint8Array} bytes @returns {GivenFile} */
 const fileOf = (kind, name, bytes) => ({ kind, name, bytes });
 
 /** @param {string[]} rows */

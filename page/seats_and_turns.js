@@ -6,7 +6,7 @@ import { clashOf } from './reckoning.js';
 /**
  * The first of these findings, in the words of `check`; null where there is none. Form, order and budgets are taken as they
  * stand, and of a bundle it is judged only what ratings have no part in.
- * @param {{ text: Published, catalogue: Section[], roll: Student[], settings: { raise: number } }} market
+ * @param {{ text: PublishedText, catalogue: Section[], roll: Student[], settings: { raise: number } }} market
  * @returns {string | null}
  */
 export function findingWithoutRatings(market) {

@@ -121,7 +121,7 @@ function closedRun(/** @type {Walk} */ walk, /** @type {number[]} */ chosen, /**
   return run;
 }
 
-/** @param {Node} node @param {number} run */
+/** @param {NodeAt} node @param {number} run */
 function closedWords({ walk, chosen, place }, run) {
   return Array.from({ length: run }, (_, at) => {
     const it = walk.menu.places[place + at];
@@ -129,7 +129,7 @@ function closedWords({ walk, chosen, place }, run) {
   }).join(' ');
 }
 
-/** @param {Node} node @param {string} sign */
+/** @param {NodeAt} node @param {string} sign */
 function signWords(node, sign) {
   const { walk, chosen, place } = node, names = listed(chosen.map(it => walk.menu.places[it].name));
   if (sign === '*') return `Nothing is left to decide, and this is the bundle: ${names}, worth ${walk.worth}.`;
@@ -157,7 +157,7 @@ export function leftWords(walk, chosen) {
 /** Thousandths of a point as points. @param {number} thousandths */
 export const points = thousandths => (thousandths / 1000).toFixed(3).replace(/\.?0+$/, '');
 
-/** @param {Node} node @param {string} sign */
+/** @param {NodeAt} node @param {string} sign */
 function boundSentence({ walk, chosen, place }, sign) {
   const symbol = sign[0], number = Number(sign.slice(1));
   const it = boundOf(walk, chosen, place, /** @type {any} */ ({ symbol, number }));

@@ -1,0 +1,147 @@
+// What the program answers about one student, each time in a market of this student alone.
+
+import { MOST_BASE, roomOf, sessionOf } from './alone.js';
+import { encoded } from './bytes.js';
+import { callOf } from './program.js';
+import { menuOf, priceOf, raisedBudget, worthOf } from './reckoning.js';
+import { namesOf, turnsOf } from './texts.js';
+
+/**
+ * Runs one call of the program and tells that it works.
+ * @typedef {(title: string, call: Call) => Promise<Answer>} Ask
+ */
+
+/** What a student said, where it said nothing. @type {Said} */
+const NOTHING_SAID = { bytes: sessionOf([]), count: 0 };
+
+/**
+ * The stages in which a student took a bundle: the second one, and its turns as they stood.
+ * @param {Market} market
+ * @param {number} student
+ * @returns {Stage[]}
+ */
+export function stagesOf(market, student) {
+  const { bundles, budgets } = market.text, raised = raisedBudget(market, student);
+  return [
+    { ...bundles[student], pass: 0, budget: budgets[student], before: [] },
+    ...turnsOf(market, student).map(({ names, tree, pass, before, free, allowed }) =>
+      ({ names, tree, pass, before, free, allowed, budget: raised })),
+  ];
+}
+
+/**
+ * The inputs of the market of a student alone, in one of its stages.
+ * @param {Market} market @param {number} student @param {Stage} stage
+ */
+export function roomOfStage(market, student, { names, tree, budget, allowed }) {
+  const { name, credits, courses } = market.roll[student], said = market.said.get(name) ?? NOTHING_SAID;
+  return roomOf(market.catalogue, { name, credits, courses, prices: market.text.prices, said, names, tree, budget, allowed });
+}
+
+/** Why the program cannot be asked about a stage of a student alone, in words; nothing where it can. @param {Stage} stage */
+export const unjudgedWords = ({ budget }) => budget <= MOST_BASE ? ''
+  : `The budget of ${budget} is more than a roll can give to one student alone, so the program cannot be asked.`;
+
+/**
+ * Has the program check a student's stages, each in a market of this student alone.
+ * @param {Ask} ask
+ * @param {Market} market
+ * @param {number} student
+ * @returns {Promise<JudgedStage[]>}
+ */
+export async function judgedStages(ask, market, student) {
+  const judged = [];
+  for (const stage of stagesOf(market, student)) {
+    const unjudged = unjudgedWords(stage);
+    const answer = unjudged ? null : await ask('Checking the bundles', callOf('check', roomOfStage(market, student, stage)));
+    judged.push({ ...stage, ...findingOf(answer, unjudged) });
+  }
+  return judged;
+}
+
+/** @param {Answer | null} answer @param {string} unjudged */
+function findingOf(answer, unjudged) {
+  if (!answer) return { finding: null, unjudged };
+  if (answer.status === 0) return { finding: null };
+  const [, finding] = /^finding: (.*)\n$/.exec(answer.text) ?? [];
+  return finding ? { finding } : { finding: null, unjudged: answer.status === 'stopped' ? STOPPED : `It ended with ${answer.status}.` };
+}
+
+const STOPPED = 'The work was stopped before the program had answered.';
+
+/**
+ * What `explain` prints, as its parts.
+ * @param {string} answer
+ * @returns {Explanation}
+ */
+export function explanationOf(answer) {
+  const [first, best, lost, tree] = answer.trimEnd().split('\n'), [, , ...words] = first.split(' ');
+  const told = words[0] === 'clash' ? { reason: 'clash', other: words[1] } : { reason: words.join(' ') };
+  if (!best) return told;
+  const [, bundle, worth] = best.split(' ');
+  return { ...told, best: namesOf(bundle), worth: Number(worth), lost: Number(lost.split(' ')[1]), tree: tree.slice(5) };
+}
+
+/**
+ * Asks why a student has no seat in a section in one of its stages. Of a turn of the aftermarket the answer is of what was
+ * held and what was free, and of the raised budget.
+ * @param {Ask} ask
+ * @param {Market} market
+ * @param {number} student
+ * @param {Stage} stage
+ * @param {string} section
+ * @returns {Promise<{ told: Explanation } | { answer: Answer, call: Call }>}
+ */
+export async function explainedIn(ask, market, student, stage, section) {
+  const call = callOf('explain', roomOfStage(market, student, stage), [market.roll[student].name, section]);
+  const answer = await ask(`Asking about ${section}`, call);
+  return answer.status === 0 ? { told: explanationOf(answer.text) } : { answer, call };
+}
+
+/**
+ * Asks what a student would take at the printed prices, with another rating or another budget.
+ * @param {Ask} ask
+ * @param {Market} market
+ * @param {number} student
+ * @param {Tried} tried
+ * @returns {Promise<{ demanded: Demanded } | { answer: Answer, call: Call }>}
+ */
+export async function demandedWith(ask, market, student, { section, points, budget }) {
+  const { name } = market.roll[student], said = market.said.get(name) ?? NOTHING_SAID;
+  const more = section === undefined ? '' : `rate ${name} ${section} ${points}\n`;
+  const [stage] = stagesOf(market, student), room = roomOfStage(market, student, { ...stage, budget });
+  const call = callOf('demand', { ...room, sessions: [{ ...room.sessions[0], bytes: joined(said.bytes, encoded(more)) }] });
+  const answer = await ask('Asking what would be taken', call);
+  const bundle = answer.status === 0 && answer.text.split('\n').find(it => it.startsWith('bundle '))?.split(' ')[2];
+  if (!bundle) return { answer, call };
+  const names = namesOf(bundle), menu = menuOf(withRating(market, name, section, points), student);
+  return { demanded: { names, worth: worthOf(menu, names.map(it => menu.of.get(it))), price: priceOf(market, names) } };
+}
+
+/** @param {Uint8Array} one @param {Uint8Array} other */
+function joined(one, other) {
+  const all = new Uint8Array(one.length + other.length);
+  all.set(one);
+  all.set(other, one.length);
+  return all;
+}
+
+/**
+ * The market with one rating of a student in place of what it said.
+ * @param {Market} market @param {string} name @param {string} [section] @param {number} [points]
+ */
+function withRating(market, name, section, points) {
+  if (section === undefined) return market;
+  const wishes = market.wishes.get(name) ?? { ratings: new Map(), pairs: [] };
+  const ratings = new Map(wishes.ratings).set(section, points);
+  return { ...market, wishes: new Map(market.wishes).set(name, { ...wishes, ratings }) };
+}
+
+/**
+ * What of the own wishes a bundle does not keep, so that no tree of it can be walked: its sections without a rating.
+ * @param {Market} market @param {number} student @param {string[]} names
+ */
+export function unratedIn(market, student, names) {
+  const { of } = menuOf(market, student);
+  return names.filter(it => !of.has(it));
+}

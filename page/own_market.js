@@ -1,0 +1,83 @@
+// A text as whoever has no lines but its own can know it: the form and all budgets by the program, what needs nobody's ratings
+// by the page's own reading, and of each student whose lines were given what it said.
+
+import { blankSessions, commandLines, namedIn, saidIn, sessionOf } from './alone.js';
+import { decoded } from './bytes.js';
+import { callOf } from './program.js';
+import { findingWithoutRatings } from './seats_and_turns.js';
+import { catalogueIn, rollIn } from './tables.js';
+import { countsOf, publishedOf } from './texts.js';
+import { orderOf, preferencesOf, repliesOf } from './wishes.js';
+import { listed, plural, shortList } from './wording.js';
+
+/** The findings that `check` tells before it looks at a bundle: with these a text is refused, whoever said what. */
+const BEFORE_BUNDLES = /^finding: (?:line|journal|budget)/;
+
+/**
+ * Whose lines files have: for each student of the roll its lines, and in words what was passed over. Of a file the lines of
+ * every student are taken that it names; of two files that name one student the later one counts.
+ * @param {GivenFile[]} files
+ * @param {Student[]} roll
+ * @returns {{ said: Map<string, Said>, notes: string[] }}
+ */
+export function ownLines(files, roll) {
+  /** @type {Map<string, Said>} */
+  const said = new Map();
+  const known = new Set(roll.map(it => it.name)), notes = [];
+  for (const { name: file, bytes } of files) {
+    const { names, others } = namedIn(bytes), strange = [...names.keys()].filter(it => !known.has(it));
+    for (const it of names.keys()) {
+      if (!known.has(it)) continue;
+      if (said.has(it)) notes.push(`Several files have lines of ${it}: those of ${file} are taken.`);
+      said.set(it, saidIn(bytes, it));
+    }
+    if (strange.length) notes.push(`${file} has lines of ${shortList(strange)}, whom the roll does not have: they are left out.`);
+    if (others) notes.push(`${plural(others, 'line')} of ${file} ${others > 1 ? 'name' : 'names'} no student, and ${others > 1 ? 'are' : 'is'} left out.`);
+  }
+  return { said, notes };
+}
+
+/**
+ * The market of whoever has its own lines alone; or the answer by which a file or the text is refused. A finding of the
+ * page's own reading comes as `finding`.
+ * @param {import('./one_student.js').Ask} ask
+ * @param {Parts} parts without sessions
+ * @param {GivenFile[]} lines
+ * @returns {Promise<{ market?: Market, notes?: string[], refusal?: Checked, finding?: string }>}
+ */
+export async function ownMarketOf(ask, parts, lines) {
+  const blank = { ...parts, sessions: blankSessions(orderOf(parts.text.bytes)) };
+  const call = callOf('check', blank), answer = await ask('Checking form and budgets', call);
+  if (answer.status !== 0 && (answer.status !== 8 || BEFORE_BUNDLES.test(answer.text))) {
+    return { refusal: { answer, call, parts: blank } };
+  }
+  const catalogue = catalogueIn(parts), roll = rollIn(parts), text = publishedOf(decoded(parts.text.bytes), catalogue, roll);
+  const settings = JSON.parse(decoded(parts.settings.bytes)), finding = findingWithoutRatings({ text, catalogue, roll, settings });
+  if (finding) return { finding };
+  const { said, notes } = ownLines(lines, roll), heard = { ...parts, sessions: [sessionOfAll(said)] };
+  const wished = said.size ? callOf('prefer', heard) : null;
+  const preferred = wished && await ask('Reading what was wished', wished);
+  if (preferred && preferred.status !== 0) return { refusal: { answer: preferred, call: wished, parts: heard } };
+  if (preferred) notes.push(...repliesWords(repliesOf(preferred.text, heard.sessions)));
+  return { notes, market: {
+    parts: { ...parts, sessions: [] }, files: [parts.catalogue, parts.roll, parts.settings, parts.text, ...lines],
+    catalogue, roll, text, settings, said, isOwn: true, ms: answer.ms,
+    wishes: preferred ? preferencesOf(preferred.text) : new Map(),
+    sectionOf: new Map(catalogue.map(it => [it.name, it])),
+    counts: countsOf(text.bundles.map(it => it.names), catalogue), endCounts: countsOf(text.finals, catalogue),
+  } };
+}
+
+/** The lines of all these students as one session. @param {Map<string, Said>} said @returns {GivenFile} */
+const sessionOfAll = said => ({
+  name: 'own lines', kind: 'session',
+  bytes: sessionOf([...said.values()].flatMap(it => commandLines(it.bytes).map(that => that.bytes))),
+});
+
+/** What the desk did not carry out of the own lines, in words. @param {any[]} replies */
+function repliesWords(replies) {
+  if (!replies.length) return [];
+  const told = replies.slice(0, 5).map(it => `“${it.command}” (${it.reply})`);
+  const more = replies.length > told.length ? ` and ${replies.length - told.length} more` : '';
+  return [`The desk carries out all of the lines but ${listed(told)}${more}.`];
+}

@@ -1,0 +1,116 @@
+// What is said of a student's stages and of why it has no seat, in words.
+
+import { clashOf, priceOf } from './reckoning.js';
+import { listed, plural } from './wording.js';
+
+/** A number of tokens, with a comma between thousands. @param {number} count */
+export const tokens = count => `${grouped(count)} ${count === 1 ? 'token' : 'tokens'}`;
+
+/** A number with a comma between thousands. @param {number} count */
+export const grouped = count => String(count).replace(/\B(?=(\d{3})+$)/g, ',');
+
+/** The spelling of sections that the school uses, in a sentence. @param {Market} market @param {string[]} names */
+export const sections = (market, names) => listed(names.map(it => section(market, it)));
+
+/** The school's spelling of a section. @param {Market} market @param {string} name */
+export const section = (market, name) => market.spelling.shown('section', name);
+
+/** The school's spelling of a student. @param {Market} market @param {number} student */
+export const studentName = (market, student) => market.spelling.shown('student', market.roll[student].name);
+
+/** The name of a stage. @param {{ pass: number }} stage */
+export const stageName = ({ pass }) => pass ? `Aftermarket, pass ${pass}` : 'Second stage';
+
+/** What was taken and what given up; nothing where a turn changed nothing. @param {Market} market @param {string[]} before @param {string[]} after */
+export function changeWords(market, before, after) {
+  const gave = before.filter(it => !after.includes(it)), took = after.filter(it => !before.includes(it));
+  return [took.length ? `took ${sections(market, took)}` : '', gave.length ? `gave up ${sections(market, gave)}` : '']
+    .filter(Boolean).join(', ');
+}
+
+/**
+ * What a reason speaks of.
+ * @typedef {{ of: Section, name: string, price: number, left: number, budget: number, caps: Student, held: string,
+ *   spent: number, credits: number, count: number, other: string, clash: string, student: string, isTurn: boolean }} Facts
+ */
+
+/** @param {Facts} it */
+const took = it => it.isTurn ? 'took' : 'bought';
+
+/** The reasons of `explain`, each short for a line. @type {Record<string, (it: Facts) => string>} */
+const SHORT = {
+  held: it => it.isTurn ? 'taken at that turn' : 'bought, and given up later for a better bundle',
+  unrated: () => 'no rating above 0',
+  'alone price': it => `its price is ${grouped(it.price)}, more than the whole budget`,
+  'alone credits': it => `its ${plural(it.of.credits, 'credit')} pass the cap of ${it.caps.credits}`,
+  'alone courses': () => 'the roll allows no section at all',
+  'beside price': it => `its price is ${grouped(it.price)}, and ${grouped(it.left)} were left`,
+  'beside credits': it => `it has ${plural(it.of.credits, 'credit')}, and ${it.caps.credits - it.credits} were left`,
+  'beside courses': it => `it would be one section more than ${it.caps.courses}`,
+  clash: it => `it ${it.clash} ${it.other}`,
+  less: () => 'by the own adjustments the bundle is worth no more with it',
+};
+
+/** The same at length. @type {Record<string, (it: Facts) => string>} */
+const LONG = {
+  held: it => `${it.student} ${took(it)} ${it.name}${it.isTurn ? '' : ' in the second stage, and gave it up in the aftermarket '
+    + 'for a bundle that it prefers'}.`,
+  unrated: it => `${it.student} gave ${it.name} no rating above 0, and so did not ask for it.`,
+  'alone price': it => `The price of ${it.name} is ${grouped(it.price)}, more than the whole budget of ${grouped(it.budget)}.`,
+  'alone credits': it => `${it.name} has ${plural(it.of.credits, 'credit')}, more than the cap of ${it.caps.credits}.`,
+  'alone courses': it => `The roll allows ${it.student} no section at all.`,
+  'beside price': it => `The price of ${it.name} is ${grouped(it.price)}. ${it.student} ${took(it)} ${it.held}, whose prices `
+    + `together are ${grouped(it.spent)}. Of its budget of ${grouped(it.budget)} that leaves ${grouped(it.left)}, too little `
+    + `for ${it.name} besides.`,
+  'beside credits': it => `${it.name} has ${plural(it.of.credits, 'credit')}. With what ${it.student} ${took(it)} `
+    + `(${it.held}) that passes the cap of ${it.caps.credits} credits.`,
+  'beside courses': it => `${it.student} ${took(it)} ${it.held}. With ${it.name} that passes the cap of `
+    + `${plural(it.caps.courses, 'section')}.`,
+  clash: it => `${it.name} ${it.clash} ${it.other}, which ${it.student} ${took(it)}.`,
+  less: it => `${it.student} could have had ${it.name} besides what it ${took(it)}, but by its own adjustments that is worth `
+    + 'no more.',
+};
+
+/** @param {Market} market @param {number} student @param {Stage} stage @param {string} name @param {Explanation} told @returns {Facts} */
+function factsOf(market, student, stage, name, told) {
+  const of = market.sectionOf.get(name), spent = priceOf(market, stage.names), other = market.sectionOf.get(told.other);
+  return {
+    of, name: section(market, name), price: market.text.prices[of.at], left: stage.budget - spent, budget: stage.budget, spent,
+    caps: market.roll[student], held: sections(market, stage.names), count: stage.names.length,
+    credits: stage.names.reduce((sum, it) => sum + market.sectionOf.get(it).credits, 0),
+    other: other ? section(market, other.name) : '', clash: other ? clashOf(of, other) : '',
+    student: studentName(market, student), isTurn: stage.pass > 0,
+  };
+}
+
+/**
+ * Why a student has no seat in a section in a stage, in a few words; a tie is said to be one.
+ * @param {Market} market @param {number} student @param {Stage} stage @param {string} name @param {Explanation} told
+ */
+export function shortReason(market, student, stage, name, told) {
+  const words = SHORT[told.reason](factsOf(market, student, stage, name, told));
+  return told.lost === 0 ? `${words} (a tie: with it the best is worth as much)` : words;
+}
+
+/**
+ * The same at length, with the best bundle that has the section.
+ * @param {Market} market @param {number} student @param {Stage} stage @param {string} name @param {Explanation} told
+ * @returns {string[]} a paragraph each
+ */
+export function longReason(market, student, stage, name, told) {
+  const it = factsOf(market, student, stage, name, told), why = LONG[told.reason](it);
+  return told.best ? [why, bestWords(market, it, stage, told)] : [why];
+}
+
+/** The rule by which a tie is broken, in words. */
+export const TIE = 'of bundles of equal worth the best is the one with the earliest section, in the order of the catalogue, that '
+  + 'only one of them has';
+
+/** @param {Market} market @param {Facts} it @param {Stage} stage @param {Explanation} told */
+function bestWords(market, it, stage, told) {
+  const more = told.lost ? `${told.lost} more.` : `as much: a tie; ${TIE}.`;
+  const of = stage.pass ? 'of what was held and what was free' : '';
+  return `With ${it.name} the best bundle that the budget buys ${of ? `${of} ` : ''}is ${sections(market, told.best)} (prices together `
+    + `${grouped(priceOf(market, told.best))}), worth ${told.worth} by the ratings of ${it.student}. `
+    + `What ${it.student} ${took(it)} is worth ${told.worth + told.lost}, ${more}`;
+}
