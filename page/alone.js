@@ -11,8 +11,8 @@ import { encoded } from './bytes.js';
 /** The greatest budget that a roll can give to one student alone. */
 export const MOST_BASE = 900000;
 
-/** The most sessions that a market has. */
-const MOST_SESSIONS = 64;
+/** The greatest number of a session. */
+const LAST_SESSION = 64;
 
 const SETTINGS = encoded('{"seed":0,"spread":0,"accept":0,"turns":0,"tabu":1,"patience":1,"steps":[1],"raise":0}');
 const MARK = [0xef, 0xbb, 0xbf];
@@ -109,7 +109,7 @@ export function saidByAll(order, sessions) {
  * @returns {GivenFile[]}
  */
 export function blankSessions(order) {
-  const counts = new Array(Math.min(MOST_SESSIONS, Math.max(1, ...new Set(order)))).fill(0);
+  const counts = new Array(Math.min(LAST_SESSION, Math.max(1, ...new Set(order)))).fill(0);
   for (const it of order) if (it >= 1 && it <= counts.length) counts[it - 1]++;
   return counts.map((count, at) => fileOf('session', `session ${at + 1}, without what it says`, encoded('x\n'.repeat(count))));
 }
@@ -140,7 +140,7 @@ export function roomOf(catalogue, of) {
     roll: fileOf('roll', 'roll', table(roll)),
     settings: fileOf('settings', 'settings', SETTINGS),
     prices: fileOf('prices', 'prices', table(['section,price', ...catalogue.map(it => `${it.name},${prices[it.at]}`)])),
-    text: fileOf('text', 'text', encoded(textOf(catalogue, prices, of))),
+    text: fileOf('text', 'text', encoded(textOfOne(catalogue, prices, of))),
     sessions: [fileOf('session', 'lines', of.said.bytes)],
   };
 }
@@ -158,7 +158,7 @@ const meetingsText = section => section.meetings.map(it => `${it.day}${it.from}-
  * The published text of one student alone.
  * @param {Section[]} catalogue @param {number[]} prices @param {Alone} of
  */
-function textOf(catalogue, prices, of) {
+function textOfOne(catalogue, prices, of) {
   const bundle = `[${of.names.join()}]`, budget = `budget ${of.name} ${of.budget}`;
   return [
     'course-match 2', 'order' + ' 1'.repeat(of.said.count), budget,

@@ -18,7 +18,7 @@ export function heldWeek(market, student) {
   const held = market.text.finals[student], name = studentName(market, student);
   const caption = `The week of ${name}`;
   return el('div', { class: 'held' },
-    p(el('b', {}, 'In the end: '), held.length ? `${name} holds ${sections(market, held)} in the end.` : `${name} holds nothing in the end.`),
+    el('p', { class: 'holds' }, `In the end ${name} holds `, el('b', {}, sections(market, held)), '.'),
     held.length ? weekView(held.map(it => market.sectionOf.get(it)), caption, it => market.spelling.shown('section', it)) : null);
 }
 
@@ -48,7 +48,10 @@ function yesWords(market, student) {
   return `Yes: at these prices nothing better was to be had for ${tokens(budget)}.`;
 }
 
-/** Who says what of an answer: the program, the page, and what nobody can say here. @param {Market} market @param {number} student @param {JudgedStage[]} judged */
+/**
+ * Who says what of an answer: the program, the page, and what nobody can say here.
+ * @param {Market} market @param {number} student @param {JudgedStage[]} judged
+ */
 function basisPart(market, student, judged) {
   const name = studentName(market, student), turns = judged.length - 1;
   const program = [
@@ -90,15 +93,18 @@ async function wrongNodes(market, student, judged, wrong) {
   return [
     lead('wrong', title),
     p(`The text gives ${sections(market, of)}. ${findingWords(wrong.finding)}`),
-    p('One of these may be the cause:'), el('ul', {}, causesOf(market).map(it => el('li', {}, it))),
+    p('One of these may be the cause:'), el('ul', {}, possibleCauses(market).map(it => el('li', {}, it))),
     judged.length > 1 ? p(`Judged were ${plural(judged.length, 'stage')}; of these ${listed(judged.filter(it => it.finding).map(stageName))} `
       + 'did not hold.') : null,
   ];
 }
 
 /** @param {Market} market */
-const causesOf = market => market.isOwn
+const possibleCauses = market => market.isOwn
   ? ['These are not the lines that the desk took last, or not all of them: ask the school for them anew.', ...CAUSES] : CAUSES;
 
-/** A button that asks once more. @param {() => void} onclick */
+/**
+ * A button that asks once more.
+ * @param {() => void} onclick
+ */
 export const againButton = onclick => button('Ask again', onclick, { class: 'small' });

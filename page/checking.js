@@ -1,5 +1,6 @@
 // Checks a text, and puts together what the views show of one that holds.
 
+import { saidByAll } from './alone.js';
 import { decoded, hashOf } from './bytes.js';
 import { callOf } from './program.js';
 import { catalogueIn, rollIn } from './tables.js';
@@ -31,10 +32,10 @@ export async function checked(parts, isByManifest) {
 
 /**
  * What the views need of a text that holds; what the students want comes from the program, by the order of the text.
- * @param {Checked} of
+ * @param {Checked} of @param {Spelling} spelling the school's
  * @returns {Promise<{ market?: Market, refusal?: Checked }>}
  */
-export async function marketOf({ answer, parts }) {
+export async function marketOf({ answer, parts }, spelling) {
   const catalogue = catalogueIn(parts), roll = rollIn(parts);
   const text = publishedOf(decoded(parts.text.bytes), catalogue, roll);
   /** @type {GivenFile} */
@@ -50,6 +51,7 @@ export async function marketOf({ answer, parts }) {
     parts, catalogue, roll, text, files, ms: answer.ms,
     settings: JSON.parse(decoded(parts.settings.bytes)), wishes: preferencesOf(preferred.text),
     sectionOf: new Map(catalogue.map(it => [it.name, it])),
+    said: saidByAll(text.order, parts.sessions.map(it => it.bytes)), spelling,
     counts: countsOf(text.bundles.map(it => it.names), catalogue), endCounts: countsOf(text.finals, catalogue),
   } };
 }

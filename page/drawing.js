@@ -3,24 +3,12 @@
 
 import { code, el, opening, p } from './elements.js';
 import { tableOf } from './grid.js';
-import { TAKES, boundOf, closedBy, leftOf, losesTies, nodesOf } from './reckoning.js';
+import { TAKES, boundOf, closedBy, losesTies, nodesOf } from './reckoning.js';
+import { leftWords, points } from './signs.js';
 import { listed, plural } from './wording.js';
-
-/**
- * Points in words.
- * @param {number} thousandths
- */
-const points = thousandths => (thousandths / 1000).toFixed(3).replace(/\.?0+$/, '');
 
 /** @param {string} symbol */
 const sign = symbol => el('span', { class: 'sign' }, symbol);
-
-/** @param {Walk} walk @param {number[]} chosen */
-function leftWords(walk, chosen) {
-  const left = leftOf(walk, chosen);
-  return `left are ${left.b} of ${plural(walk.budget, 'token')}, ${left.c} of ${plural(walk.credits, 'credit')} `
-    + `and ${left.m} of ${plural(walk.courses, 'section')}`;
-}
 
 /**
  * The line of one section that may not be taken, or of several.

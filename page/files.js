@@ -5,11 +5,11 @@ import { listed, shortList } from './wording.js';
 
 /**
  * What a file can be taken for, in words.
- * @type {Record<Kind, string>}
+ * @type {Partial<Record<Kind, string>>}
  */
 export const KINDS = {
   catalogue: 'catalogue', roll: 'roll', settings: 'settings', text: 'published text', session: 'session',
-  manifest: 'manifest', own: 'one student\'s lines', other: 'not needed here', unknown: 'not known',
+  manifest: 'manifest', own: 'one student\'s lines', names: 'the school\'s spelling', other: 'not needed here', unknown: 'not known',
 };
 
 /**
@@ -19,6 +19,9 @@ export const KINDS = {
 export const NEEDED = {
   catalogue: 'the catalogue', roll: 'the roll', settings: 'the settings', text: 'the published text',
 };
+
+/** What is missing where there are no sessions, in words. */
+export const SESSIONS = 'the sessions (what the students wished)';
 
 const LONGEST = 2 ** 27, MOST_SESSIONS = 64;
 
@@ -30,7 +33,7 @@ const BY_NAME = [
 
 // The first lines of what the registrar's tools write beside a market.
 const OF_TOOLS =
-  /^(student,sections|section,student|section,place,student|file,row,request|kind,original,name)\b|^<!doctype html>/i;
+  /^(student,sections|section,student|section,place,student|file,row,request)\b|^<!doctype html>/i;
 
 // How the file begins that those tools write for a student, of what it said itself.
 const OWN_LINES = /^# What \S+ said, in the order in which the desk took it\./;
@@ -79,6 +82,7 @@ export function kindOf(name, bytes) {
   if (/^\s*\{/.test(head)) return entriesIn(bytes) ? 'manifest' : 'settings';
   if (/section.*course/i.test(first)) return 'catalogue';
   if (/student.*budget/i.test(first)) return 'roll';
+  if (/^kind,original,name\b/.test(first)) return 'names';
   if (/^section.*price/i.test(first) || OF_TOOLS.test(first)) return 'other';
   const word = /^[ \t]*([a-z]+)[ \t\r\n]/m.exec(head.replace(/^[ \t]*#.*$/gm, ''))?.[1];
   if (OF_SESSIONS.includes(word)) return 'session';
@@ -153,10 +157,12 @@ const nothing = () => /** @type {null} */ (null);
 const baseName = path => String(path).split(/[\\/]/).at(-1);
 
 /**
- * The files that a manifest names, in its order; the faults are in words.
+ * The files that a manifest names, in its order; the faults are in words. Where somebody's own lines are there, sessions
+ * may be missing.
  * @param {GivenFile} manifest @param {GivenFile[]} files
  */
 async function byManifest(manifest, files) {
+  const hasOwn = files.some(it => it.kind === 'own');
   const entries = entriesIn(manifest.bytes), faults = [];
   /** @type {Parts} */
   const found = { sessions: [] };
@@ -166,6 +172,7 @@ async function byManifest(manifest, files) {
   for (const { role, file, sha256 } of entries ?? []) {
     const base = baseName(file);
     const named = files.find(it => it.name === base) ?? files.find(it => baseName(it.name) === base);
+    if (!named && role === 'session' && hasOwn) continue;
     if (!named) {
       faults.push(`${manifest.name} names ${base}, which is not among the files: give it, or remove ${manifest.name}.`);
       continue;
@@ -205,7 +212,7 @@ export async function partsOf(files, wanted = Object.keys(NEEDED)) {
     }
   }
   const lacks = wanted.filter(kind => !parts[kind]).map(kind => NEEDED[kind]);
-  if (!parts.sessions.length) lacks.push('the sessions (what the students wished)');
+  if (!parts.sessions.length) lacks.push(SESSIONS);
   const used = new Set(Object.values(parts).flat());
   const unused = files.filter(it => (NEEDED[it.kind] || it.kind === 'session') && !used.has(it));
   return { parts: /** @type {Parts} */ (parts), faults, lacks, isByManifest, unused };

@@ -11,7 +11,10 @@ import { namesOf, turnsOf } from './texts.js';
  * @typedef {(title: string, call: Call) => Promise<Answer>} Ask
  */
 
-/** What a student said, where it said nothing. @type {Said} */
+/**
+ * What a student said, where it said nothing.
+ * @type {Said}
+ */
 const NOTHING_SAID = { bytes: sessionOf([]), count: 0 };
 
 /**
@@ -38,7 +41,10 @@ export function roomOfStage(market, student, { names, tree, budget, allowed }) {
   return roomOf(market.catalogue, { name, credits, courses, prices: market.text.prices, said, names, tree, budget, allowed });
 }
 
-/** Why the program cannot be asked about a stage of a student alone, in words; nothing where it can. @param {Stage} stage */
+/**
+ * Why the program cannot be asked about a stage of a student alone, in words; nothing where it can.
+ * @param {Stage} stage
+ */
 export const unjudgedWords = ({ budget }) => budget <= MOST_BASE ? ''
   : `The budget of ${budget} is more than a roll can give to one student alone, so the program cannot be asked.`;
 
@@ -59,7 +65,7 @@ export async function judgedStages(ask, market, student) {
   return judged;
 }
 
-/** @param {Answer | null} answer @param {string} unjudged */
+/** @param {Answer | null} answer @param {string} unjudged @returns {{ finding: string | null, unjudged?: string }} */
 function findingOf(answer, unjudged) {
   if (!answer) return { finding: null, unjudged };
   if (answer.status === 0) return { finding: null };
@@ -132,6 +138,7 @@ function joined(one, other) {
  */
 function withRating(market, name, section, points) {
   if (section === undefined) return market;
+  /** @type {Wishes} */
   const wishes = market.wishes.get(name) ?? { ratings: new Map(), pairs: [] };
   const ratings = new Map(wishes.ratings).set(section, points);
   return { ...market, wishes: new Map(market.wishes).set(name, { ...wishes, ratings }) };

@@ -2,16 +2,29 @@
 // by the page's own reading, and of each student whose lines were given what it said.
 
 import { blankSessions, commandLines, namedIn, saidIn, sessionOf } from './alone.js';
-import { decoded } from './bytes.js';
+import { decoded, hashOf } from './bytes.js';
 import { callOf } from './program.js';
 import { findingWithoutRatings } from './seats_and_turns.js';
 import { catalogueIn, rollIn } from './tables.js';
 import { countsOf, publishedOf } from './texts.js';
-import { orderOf, preferencesOf, repliesOf } from './wishes.js';
+import { orderOf, possibleOrders, preferencesOf, repliesOf } from './wishes.js';
 import { listed, plural, shortList } from './wording.js';
 
 /** The findings that `check` tells before it looks at a bundle: with these a text is refused, whoever said what. */
 const BEFORE_BUNDLES = /^finding: (?:line|journal|budget)/;
+
+/**
+ * The files that have the lines of one student alone: those that are known as such where no sessions are there; or the
+ * sessions, where each names one student and the text does not take so many commands.
+ * @param {GivenFile[]} files
+ * @param {Parts} parts
+ * @returns {GivenFile[]}
+ */
+export function ownFiles(files, { text, sessions }) {
+  if (!sessions.length) return files.filter(it => it.kind === 'own');
+  if (!text || possibleOrders(sessions, orderOf(text.bytes), 1).length) return [];
+  return sessions.every(it => namedIn(it.bytes).names.size === 1) ? sessions : [];
+}
 
 /**
  * Whose lines files have: for each student of the roll its lines, and in words what was passed over. Of a file the lines of
@@ -43,9 +56,10 @@ export function ownLines(files, roll) {
  * @param {import('./one_student.js').Ask} ask
  * @param {Parts} parts without sessions
  * @param {GivenFile[]} lines
+ * @param {Spelling} spelling the school's
  * @returns {Promise<{ market?: Market, notes?: string[], refusal?: Checked, finding?: string }>}
  */
-export async function ownMarketOf(ask, parts, lines) {
+export async function ownMarketOf(ask, parts, lines, spelling) {
   const blank = { ...parts, sessions: blankSessions(orderOf(parts.text.bytes)) };
   const call = callOf('check', blank), answer = await ask('Checking form and budgets', call);
   if (answer.status !== 0 && (answer.status !== 8 || BEFORE_BUNDLES.test(answer.text))) {
@@ -59,22 +73,29 @@ export async function ownMarketOf(ask, parts, lines) {
   const preferred = wished && await ask('Reading what was wished', wished);
   if (preferred && preferred.status !== 0) return { refusal: { answer: preferred, call: wished, parts: heard } };
   if (preferred) notes.push(...repliesWords(repliesOf(preferred.text, heard.sessions)));
+  const files = [parts.catalogue, parts.roll, parts.settings, parts.text, ...lines];
+  for (const it of files) it.sum ??= await hashOf(it.bytes);
   return { notes, market: {
-    parts: { ...parts, sessions: [] }, files: [parts.catalogue, parts.roll, parts.settings, parts.text, ...lines],
-    catalogue, roll, text, settings, said, isOwn: true, ms: answer.ms,
+    parts: { ...parts, sessions: [] }, files, catalogue, roll, text, settings, said, spelling, isOwn: true, ms: answer.ms,
     wishes: preferred ? preferencesOf(preferred.text) : new Map(),
     sectionOf: new Map(catalogue.map(it => [it.name, it])),
     counts: countsOf(text.bundles.map(it => it.names), catalogue), endCounts: countsOf(text.finals, catalogue),
   } };
 }
 
-/** The lines of all these students as one session. @param {Map<string, Said>} said @returns {GivenFile} */
+/**
+ * The lines of all these students as one session.
+ * @param {Map<string, Said>} said @returns {GivenFile}
+ */
 const sessionOfAll = said => ({
   name: 'own lines', kind: 'session',
   bytes: sessionOf([...said.values()].flatMap(it => commandLines(it.bytes).map(that => that.bytes))),
 });
 
-/** What the desk did not carry out of the own lines, in words. @param {any[]} replies */
+/**
+ * What the desk did not carry out of the own lines, in words.
+ * @param {any[]} replies
+ */
 function repliesWords(replies) {
   if (!replies.length) return [];
   const told = replies.slice(0, 5).map(it => `“${it.command}” (${it.reply})`);

@@ -1,15 +1,22 @@
 // The page: files in, the check, and the three readers' views.
 
+import { saidByAll } from './alone.js';
 import { decoded, encoded } from './bytes.js';
 import { checked, marketOf } from './checking.js';
 import { $ } from './elements.js';
 import { FileList } from './file_list.js';
-import { filesDropped, kindOf, loaded, partsOf } from './files.js';
+import { SESSIONS, filesDropped, kindOf, loaded, partsOf } from './files.js';
+import { ownFiles, ownMarketOf } from './own_market.js';
 import { unpacked } from './packed.js';
+import { RatingForm } from './rating_form.js';
 import { Registrar } from './registrar.js';
-import { clearVerdict, showAccepted, showFailure, showOpen, showRefused, showUnopened } from './verdict.js';
+import { spellingIn } from './spelling.js';
+import {
+  clearVerdict, showAccepted, showFailure, showFound, showOpen, showOwn, showRefused, showUnopened,
+} from './verdict.js';
 import { drawReaders, listenToViews, recall, remember, show, shownView } from './views.js';
-import { isWorking, startProgram, stopWork } from './work.js';
+import { orderOf } from './wishes.js';
+import { isWorking, startProgram, stopWork, work } from './work.js';
 
 const GIVE = 'First give the published files above. When their text holds, this part shows what it says.';
 const CHECKING = 'The files are being checked. When their text holds, this part shows what it says.';
@@ -17,7 +24,7 @@ const NOTHING = 'The text does not hold, so nothing of it is shown here.';
 
 /** @type {About} */
 const about = JSON.parse($('about').textContent);
-const list = new FileList(() => check()), registrar = new Registrar(about.version, takeRun);
+const list = new FileList(() => check()), registrar = new Registrar(about.version, takeRun), form = new RatingForm();
 
 /** How many checks were begun: the answers of one that is not the last are of old files. */
 let checks = 0;
@@ -51,6 +58,7 @@ async function check() {
   registrar.filesChanged();
   if (isWorking()) stopWork();
   clearVerdict();
+  document.body.classList.remove('answered');
   drawReaders(null, list.files.length ? CHECKING : GIVE);
   const { parts, faults, lacks, isByManifest, unused } = await partsOf(list.files);
   if (isOld()) return false;
@@ -59,40 +67,80 @@ async function check() {
   const view = await registrar.view(list.files);
   if (isOld()) return false;
   $('registrar').replaceChildren(...view);
+  $('rate').replaceChildren(...form.view(list.files, spellingIn(list.files)));
   if (!list.files.length) return false;
-  if (lacks.length || faults.length) {
-    showOpen(list.files, faults, lacks);
+  const own = ownFiles(list.files, parts), missing = own.length ? lacks.filter(it => it !== SESSIONS) : lacks;
+  if (missing.length || faults.length) {
+    showOpen(list.files, faults, missing);
     drawReaders(null, GIVE);
     return false;
   }
-  return checkParts(parts, isByManifest, unused, isOld);
+  return own.length ? checkOwn(parts, own, isOld) : checkParts(parts, isByManifest, unused, isOld);
 }
 
 /** @param {Parts} parts @param {boolean} isByManifest @param {GivenFile[]} unused @param {() => boolean} isOld */
 async function checkParts(parts, isByManifest, unused, isOld) {
   const answered = await checked(parts, isByManifest);
   const isRefused = answered.answer.status !== 0;
-  const { market, refusal } = isRefused ? { market: null, refusal: answered } : await marketOf(answered);
+  const { market, refusal } = isRefused ? { market: null, refusal: answered } : await marketOf(answered, spellingIn(list.files));
   if (isOld()) return false;
-  if (!market) {
-    const told = showRefused(refusal, () => { $('files').querySelector('summary').focus(); check(); });
-    drawReaders(null, told.finding ? NOTHING : GIVE);
-    return false;
-  }
-  if ($('files').contains(document.activeElement)) $('files').querySelector('summary').focus();
-  $('files').open = false;
+  if (!market) return refuse(refusal);
+  closeFiles();
   showAccepted(market, unused);
   drawReaders(market, '');
   return true;
 }
 
-async function takeExample() {
+/**
+ * Checks what can be known with nobody's lines but these.
+ * @param {Parts} parts @param {GivenFile[]} own @param {() => boolean} isOld
+ */
+async function checkOwn(parts, own, isOld) {
+  const { market, notes, refusal, finding } = await ownMarketOf(work, parts, own, spellingIn(list.files));
+  if (isOld()) return false;
+  if (refusal) return refuse(refusal);
+  if (finding) {
+    showFound(finding, parts);
+    drawReaders(null, NOTHING);
+    return false;
+  }
+  if (market.said.size) closeFiles();
+  showOwn(market, notes);
+  drawReaders(market, '');
+  return true;
+}
+
+/** @param {Checked} refusal */
+function refuse(refusal) {
+  const told = showRefused(refusal, () => { $('files').querySelector('summary').focus(); check(); });
+  drawReaders(null, told.finding ? NOTHING : GIVE);
+  return false;
+}
+
+/** Makes room for an answer: folds the list of the files. What has the focus in it gives it to the line that stays. */
+function closeFiles() {
+  document.body.classList.add('answered');
+  if ($('files').contains(document.activeElement)) $('files').querySelector('summary').focus();
+  $('files').open = false;
+}
+
+/** @returns {Promise<GivenFile[]>} */
+async function exampleFiles() {
   /** @type {[string, string][]} */
   const files = JSON.parse(decoded(await unpacked('example-files')));
-  list.set(files.map(([name, text]) => {
+  return files.map(([name, text]) => {
     const bytes = encoded(text);
     return { name, bytes, kind: kindOf(name, bytes) };
-  }));
+  });
+}
+
+const takeExample = async () => list.set(await exampleFiles());
+
+/** Takes of the example what one of its students has: what is published, and its own lines. */
+async function takeOwnExample() {
+  const files = await exampleFiles(), { bytes } = files.find(it => it.kind === 'text'), name = 'n.jones';
+  const sessions = files.filter(it => it.kind === 'session').map(it => it.bytes), said = saidByAll(orderOf(bytes), sessions);
+  list.set([...files.filter(it => it.kind !== 'session'), { name: `${name}.session`, kind: 'own', bytes: said.get(name).bytes }]);
 }
 
 function listen() {
@@ -103,9 +151,10 @@ function listen() {
     event.target.value = '';
   });
   $('example').addEventListener('click', takeExample);
+  $('example-own').addEventListener('click', takeOwnExample);
   $('clear').addEventListener('click', () => { $('choose').focus(); list.set([]); });
   $('stop').addEventListener('click', stopWork);
-  addEventListener('beforeunload', event => { if (registrar.mayLose()) event.preventDefault(); });
+  addEventListener('beforeunload', event => { if (registrar.mayLose() || form.mayLose()) event.preventDefault(); });
   listenToViews();
   listenToDrops();
   listenToPrints();
@@ -151,14 +200,24 @@ function hasMemory64() {
 async function begin() {
   if (!hasMemory64()) {
     $('old-browser').hidden = false;
-    document.querySelector('main').hidden = true;
     return;
   }
   startProgram(await WebAssembly.compile(await unpacked('module')), $('worker').textContent);
   listen();
+  document.querySelector('main').hidden = false;
   recall();
   await check();
   document.body.dataset.ready = 'yes';
 }
 
-begin().catch(showFailure);
+/**
+ * Tells that the page could not begin: nothing that would do nothing is shown.
+ * @param {any} fault
+ */
+function failed(fault) {
+  document.querySelector('main').hidden = false;
+  for (const it of ['files', 'tabs']) $(it).hidden = true;
+  showFailure(fault);
+}
+
+begin().catch(failed);

@@ -71,9 +71,10 @@ const INPUTS = {
   audit: ['catalogue', 'roll', 'settings', 'text', 'sessions'],
   run: ['catalogue', 'roll', 'settings', 'sessions'],
   prefer: ['catalogue', 'roll', 'sessions'],
+  demand: ['catalogue', 'roll', 'settings', 'prices', 'sessions'],
 };
 /** @type {Record<string, string[]>} */
-const BEFORE = { audit: ['1'], run: ['1'] };
+const BEFORE = { audit: ['1'], run: ['1'], demand: ['1'] };
 
 /**
  * One call of the program: its words, and its inputs in their order, the first being input 1. In `explain` the names

@@ -49,7 +49,7 @@ export class RatingForm {
   /**
    * The form for these files; what was rated before stays.
    * @param {GivenFile[]} files
-   * @param {import('./spelling.js').Spelling} spelling
+   * @param {Spelling} spelling
    */
   view(files, spelling) {
     const of = (/** @type {string} */ kind) => files.filter(it => it.kind === kind);
@@ -116,7 +116,10 @@ export class RatingForm {
       .map(({ it, said }) => button(`Take the ${plural(said.count, 'line')} of ${name} in ${it.name}`, () => this.takeEarlier(said)));
   }
 
-  /** Asks the program what earlier lines come to, and takes that in the place of all that stands in the form. @param {Said} said */
+  /**
+   * Asks the program what earlier lines come to, and takes that in the place of all that stands in the form.
+   * @param {Said} said
+   */
   async takeEarlier(said) {
     const { name } = this.list, prices = this.catalogue.map(() => 0);
     const room = roomOf(this.catalogue, { name, ...this.caps, budget: 0, prices, names: [], tree: '*', said });
@@ -306,7 +309,10 @@ function fillChoice(choice, rated, shown) {
   choice.value = rated.some(it => it.name === before) ? before : '';
 }
 
-/** The call of `quote` of one student. @param {GivenFile} catalogue @param {GivenFile} session @param {string} name @param {{ credits: number, courses: number }} caps @returns {Call} */
+/**
+ * The call of `quote` of one student.
+ * @param {GivenFile} catalogue @param {GivenFile} session @param {string} name @param {{ credits: number, courses: number }} caps @returns {Call}
+ */
 function quoteCall(catalogue, session, name, { credits, courses }) {
   return {
     form: 'quote', words: ['quote', 'input 1', 'input 2', name, String(credits), String(courses)], inputs: [catalogue, session],

@@ -41,7 +41,10 @@ function bundlesFinding(market) {
   return null;
 }
 
-/** How many students have each section, by its place in the catalogue. @param {string[][]} bundles @param {Section[]} catalogue */
+/**
+ * How many students have each section, by its place in the catalogue.
+ * @param {string[][]} bundles @param {Section[]} catalogue
+ */
 function holdersOf(bundles, catalogue) {
   const placeOf = placesOf(catalogue), counts = catalogue.map(() => 0);
   for (const names of bundles) for (const it of names) counts[placeOf.get(it)]++;
@@ -91,7 +94,10 @@ function turnsFinding(market) {
   return wrong ? `final ${wrong.name}` : null;
 }
 
-/** A budget raised by so many percent. @param {number} budget @param {number} percent */
+/**
+ * A budget raised by so many percent.
+ * @param {number} budget @param {number} percent
+ */
 const raised = (budget, percent) => budget + Math.floor(budget * percent / 100);
 
 /** @param {any} market */

@@ -4,7 +4,7 @@ import { TAKES, boundOf, closedBy, leftOf, losesTies, openPlaces, worthOf } from
 import { listed, plural } from './wording.js';
 
 const SIGN = /[*nx!+-]|[bcm](?:0|[1-9]\d?)(?!\d)/y;
-const RESOURCES = [['b', 'token', 'tokens'], ['c', 'credit', 'credits'], ['m', 'section', 'sections']];
+const BOUNDS = [['b', 'token', 'tokens'], ['c', 'credit', 'credits'], ['m', 'section', 'sections']];
 
 /**
  * The sign that is due at a node: the first that fits of those that FORMATS names. `null` where none does, so that the
@@ -35,7 +35,7 @@ function closingBound(walk, chosen, place) {
     boundOf(walk, chosen, place, /** @type {any} */ ({ symbol, number })).bound < closed;
   if (closes('n', -1)) return 'n';
   const open = openPlaces(walk, chosen, place).filter(it => it.worth > 0);
-  for (const [symbol] of RESOURCES) {
+  for (const [symbol] of BOUNDS) {
     const takes = TAKES[symbol];
     const by = open.find(it => takes(walk.menu.places[it.place]) > 0 && closes(symbol, it.place));
     if (by) return symbol + by.place;
@@ -51,7 +51,9 @@ function closingBound(walk, chosen, place) {
 export function championOf(text) {
   /** @type {{ chosen: number[], place: number }[]} */
   const waiting = [];
-  let chosen = [], place = 0, at = 0;
+  /** @type {number[]} */
+  let chosen = [];
+  let place = 0, at = 0;
   /** @type {number | null} */
   let forced = null;
   for (;;) {
@@ -69,7 +71,10 @@ export function championOf(text) {
   }
 }
 
-/** The sign that stands at a byte; null where none does. @param {string} text @param {number} at */
+/**
+ * The sign that stands at a byte; null where none does.
+ * @param {string} text @param {number} at
+ */
 function signAt(text, at) {
   SIGN.lastIndex = at;
   return SIGN.exec(text)?.[0] ?? null;
@@ -85,7 +90,9 @@ function signAt(text, at) {
 export function* stepsOf(walk, text) {
   /** @type {{ chosen: number[], place: number }[]} */
   const waiting = [];
-  let chosen = [], place = 0, at = 0;
+  /** @type {number[]} */
+  let chosen = [];
+  let place = 0, at = 0;
   for (;;) {
     const sign = signAt(text, at), due = dueSign(walk, chosen, place);
     if (!sign || sign !== due) { yield faultAt(walk, chosen, text, at, due); return; }
@@ -97,7 +104,7 @@ export function* stepsOf(walk, text) {
       at += run;
       continue;
     }
-    yield { kind: KINDS[sign[0]] ?? 'leaf', at, sign, words: signWords(node, sign), depth: waiting.length };
+    yield { kind: STEP_KINDS[sign[0]] ?? 'leaf', at, sign, words: signWords(node, sign), depth: waiting.length };
     at += sign.length;
     if (sign === '+') waiting.push({ chosen, place: place + 1 });
     if (sign === '+' || sign === '!') { chosen = [...chosen, place]; place++; continue; }
@@ -110,7 +117,7 @@ export function* stepsOf(walk, text) {
 }
 
 /** @type {Record<string, Step['kind']>} */
-const KINDS = { '+': 'taken', '!': 'taken', '*': 'bundle' };
+const STEP_KINDS = { '+': 'taken', '!': 'taken', '*': 'bundle' };
 const END = 'All signs fit: every bundle that the budget buys was looked at, and none is better.';
 
 /** How many places from this one on are closed, each with its sign `-`. */
@@ -154,7 +161,10 @@ export function leftWords(walk, chosen) {
     + `${left.m} of ${plural(walk.courses, 'section')}`;
 }
 
-/** Thousandths of a point as points. @param {number} thousandths */
+/**
+ * Thousandths of a point as points.
+ * @param {number} thousandths
+ */
 export const points = thousandths => (thousandths / 1000).toFixed(3).replace(/\.?0+$/, '');
 
 /** @param {NodeAt} node @param {string} sign */
@@ -170,7 +180,7 @@ function boundSentence({ walk, chosen, place }, sign) {
     const more = it.brought.map(that => `${that.worth} (${that.name})`).join(' + ');
     return `${begins} ${more ? `What may still come brings ${more} at most.` : 'Nothing else can come to it.'} ${end}`;
   }
-  const [, one, many] = RESOURCES.find(([that]) => that === symbol), by = walk.menu.places[number];
+  const [, one, many] = BOUNDS.find(([that]) => that === symbol), by = walk.menu.places[number];
   const sum = [`${it.value}`, `${points(it.rate)} · ${it.left}`,
     ...it.brought.map(that => `${points(that.brings)} (${that.name}: ${that.worth} less ${points(it.rate)} · ${that.takes})`)];
   return `${begins} ${plural(it.left, `${one} is`, `${many} are`)} left. At place ${number}, ${by.name}, `

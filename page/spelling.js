@@ -4,12 +4,9 @@ import { decoded } from './bytes.js';
 import { records } from './tables.js';
 
 /**
- * How a school spells names. Of a kind (`student`, `section`, `course`) and a name, `shown` gives the spelling, or the name
- * where there is none; `meant` gives the names that may be meant by what somebody typed, exact spellings first.
- * @typedef {{ shown: (kind: string, name: string) => string, meant: (kind: string, typed: string) => string[], count: number }} Spelling
+ * The spelling where no school told one.
+ * @type {Spelling}
  */
-
-/** The spelling where no school told one. @type {Spelling} */
 export const AS_NAMED = { shown: (_, name) => name, meant: () => [], count: 0 };
 
 /**
@@ -42,4 +39,13 @@ function meantOf(originals, typed) {
   const folded = typed.toLowerCase();
   const near = typed ? [...originals].filter(([, original]) => original.toLowerCase().includes(folded)) : [];
   return (exact.length ? exact : near).map(([name]) => name);
+}
+
+/**
+ * The spelling that the files tell, by the last of them that has names.
+ * @param {GivenFile[]} files
+ */
+export function spellingIn(files) {
+  const last = files.filter(it => it.kind === 'names').at(-1);
+  return last ? spellingOf(last.bytes) : AS_NAMED;
 }

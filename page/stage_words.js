@@ -3,25 +3,46 @@
 import { clashOf, priceOf } from './reckoning.js';
 import { listed, plural } from './wording.js';
 
-/** A number of tokens, with a comma between thousands. @param {number} count */
+/**
+ * A number of tokens, with a comma between thousands.
+ * @param {number} count
+ */
 export const tokens = count => `${grouped(count)} ${count === 1 ? 'token' : 'tokens'}`;
 
-/** A number with a comma between thousands. @param {number} count */
+/**
+ * A number with a comma between thousands.
+ * @param {number} count
+ */
 export const grouped = count => String(count).replace(/\B(?=(\d{3})+$)/g, ',');
 
-/** The spelling of sections that the school uses, in a sentence. @param {Market} market @param {string[]} names */
+/**
+ * The spelling of sections that the school uses, in a sentence.
+ * @param {Market} market @param {string[]} names
+ */
 export const sections = (market, names) => listed(names.map(it => section(market, it)));
 
-/** The school's spelling of a section. @param {Market} market @param {string} name */
+/**
+ * The school's spelling of a section.
+ * @param {Market} market @param {string} name
+ */
 export const section = (market, name) => market.spelling.shown('section', name);
 
-/** The school's spelling of a student. @param {Market} market @param {number} student */
+/**
+ * The school's spelling of a student.
+ * @param {Market} market @param {number} student
+ */
 export const studentName = (market, student) => market.spelling.shown('student', market.roll[student].name);
 
-/** The name of a stage. @param {{ pass: number }} stage */
+/**
+ * The name of a stage.
+ * @param {{ pass: number }} stage
+ */
 export const stageName = ({ pass }) => pass ? `Aftermarket, pass ${pass}` : 'Second stage';
 
-/** What was taken and what given up; nothing where a turn changed nothing. @param {Market} market @param {string[]} before @param {string[]} after */
+/**
+ * What was taken and what given up; nothing where a turn changed nothing.
+ * @param {Market} market @param {string[]} before @param {string[]} after
+ */
 export function changeWords(market, before, after) {
   const gave = before.filter(it => !after.includes(it)), took = after.filter(it => !before.includes(it));
   return [took.length ? `took ${sections(market, took)}` : '', gave.length ? `gave up ${sections(market, gave)}` : '']
@@ -37,7 +58,10 @@ export function changeWords(market, before, after) {
 /** @param {Facts} it */
 const took = it => it.isTurn ? 'took' : 'bought';
 
-/** The reasons of `explain`, each short for a line. @type {Record<string, (it: Facts) => string>} */
+/**
+ * The reasons of `explain`, each short for a line.
+ * @type {Record<string, (it: Facts) => string>}
+ */
 const SHORT = {
   held: it => it.isTurn ? 'taken at that turn' : 'bought, and given up later for a better bundle',
   unrated: () => 'no rating above 0',
@@ -51,7 +75,10 @@ const SHORT = {
   less: () => 'by the own adjustments the bundle is worth no more with it',
 };
 
-/** The same at length. @type {Record<string, (it: Facts) => string>} */
+/**
+ * The same at length.
+ * @type {Record<string, (it: Facts) => string>}
+ */
 const LONG = {
   held: it => `${it.student} ${took(it)} ${it.name}${it.isTurn ? '' : ' in the second stage, and gave it up in the aftermarket '
     + 'for a bundle that it prefers'}.`,

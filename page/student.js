@@ -32,7 +32,10 @@ const STAGES = 'First a search finds prices, in tokens. The second stage raises 
   + 'free. Turns go by budget, the greatest first, and pass follows pass until one changes nothing. What is held then is held '
   + '“in the end”: drop and add come later and are not in this text. A bundle is worth the sum of its ratings and adjustments.';
 
-/** One line for each stage, which unfolds. @param {Market} market @param {number} student @param {Stage[]} stages */
+/**
+ * One line for each stage, which unfolds.
+ * @param {Market} market @param {number} student @param {Stage[]} stages
+ */
 function stageNodes(market, student, stages) {
   const { credits, courses } = market.roll[student], budget = market.text.budgets[student];
   return [
@@ -43,7 +46,10 @@ function stageNodes(market, student, stages) {
   ];
 }
 
-/** The stages, of which turns without a change that follow each other are one. @param {Market} market @param {Stage[]} stages */
+/**
+ * The stages, of which turns without a change that follow each other are one.
+ * @param {Market} market @param {Stage[]} stages
+ */
 function quietRuns(market, stages) {
   /** @type {{ stages: Stage[], change: string }[]} */
   const runs = [];
@@ -101,7 +107,7 @@ function ratedTable(market, student) {
 
 /** @param {Market} market @param {number} student */
 function adjustmentWords(market, student) {
-  const { pairs } = market.wishes.get(market.roll[student].name) ?? { pairs: [] };
+  const pairs = market.wishes.get(market.roll[student].name)?.pairs ?? [];
   if (!pairs.length) return null;
   const told = pairs.map(([one, other, worth]) => `${section(market, one)} with ${section(market, other)} ${worth > 0 ? '+' : ''}${worth}`);
   return p(`Together worth more, or less, than apart: ${told.join('; ')}.`);

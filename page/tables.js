@@ -39,7 +39,7 @@ const DAYS = { M: 'Mon', T: 'Tue', W: 'Wed', R: 'Thu', F: 'Fri', S: 'Sat', U: 'S
 const HALVES = { 1: ', first half', 2: ', second half' };
 
 /** @param {string} it four digits */
-const clock = it => `${it.slice(0, 2)}:${it.slice(2)}`;
+export const clock = it => `${it.slice(0, 2)}:${it.slice(2)}`;
 
 /** @param {string} text @returns {Meeting[]} */
 function meetingsOf(text) {

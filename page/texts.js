@@ -51,6 +51,7 @@ export function publishedOf(text, catalogue, roll) {
       ({ number, pass: Number(it[1]), student: places.get(it[2]), names: namesOf(it[3]), tree: it[4] })),
     finals: words(at.finals, students).map(it => namesOf(it[2])),
     used: numbers(at.used, sections),
+    seats: words(at.used, sections).map(it => Number(it[3])),
   };
 }
 

@@ -1,6 +1,11 @@
 // The week of some sections: which days have meetings, and what meets when.
 
-/** The days of a week, in its order. @type {[string, string][]} */
+import { clock } from './tables.js';
+
+/**
+ * The days of a week, in its order.
+ * @type {[string, string][]}
+ */
 const WEEK = [['M', 'Mon'], ['T', 'Tue'], ['W', 'Wed'], ['R', 'Thu'], ['F', 'Fri'], ['S', 'Sat'], ['U', 'Sun']];
 
 /**
@@ -30,8 +35,8 @@ export function weekOf(sections) {
   };
 }
 
-/** @param {string} it four digits */
-const clock = it => `${it.slice(0, 2)}:${it.slice(2)}`;
-
-/** The half of the term in which a section runs, in words; nothing where it runs in both. @param {Section} section */
+/**
+ * The half of the term in which a section runs, in words; nothing where it runs in both.
+ * @param {Section} section
+ */
 export const halfWords = section => section.parts === '1' ? 'first half' : section.parts === '2' ? 'second half' : '';

@@ -1,7 +1,7 @@
 // The types of the page's values, for JSDoc.
 
 /** What a file is taken for. */
-type Kind = 'catalogue' | 'roll' | 'settings' | 'text' | 'session' | 'manifest' | 'own' | 'other' | 'unknown';
+type Kind = 'catalogue' | 'roll' | 'settings' | 'text' | 'session' | 'manifest' | 'own' | 'names' | 'prices' | 'other' | 'unknown';
 
 /** A file that was given. One that could not be read has no bytes. `sum` is its SHA-256, once it is known. */
 interface GivenFile {
@@ -51,6 +51,7 @@ interface Parts {
   catalogue?: GivenFile;
   roll?: GivenFile;
   settings?: GivenFile;
+  prices?: GivenFile;
   text?: GivenFile;
   sessions: GivenFile[];
 }
@@ -105,6 +106,7 @@ interface PublishedText {
   turns: Turn[];
   finals: string[][];
   used: number[];
+  seats: number[];
 }
 
 /** What one student said, as it stands when the desk closes. */
@@ -146,6 +148,9 @@ interface Market {
   counts: Map<string, number>;
   endCounts: Map<string, number>;
   ms: number;
+  said: Map<string, Said>;
+  spelling: Spelling;
+  isOwn?: boolean;
   envy?: EnvyOfAll;
   asksEnvy?: Promise<Answer> | null;
 }

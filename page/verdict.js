@@ -3,7 +3,7 @@
 import { $, button, code, el, p } from './elements.js';
 import { NEEDED, savedAs } from './files.js';
 import { listed, plural, shortList, timed } from './wording.js';
-import { OTHER_ORDERS, OWN_CHECK, answerWords, causesOf, placeOf } from './words.js';
+import { OTHER_ORDERS, answerWords, causesOf, findingWords, placeOf } from './words.js';
 
 /**
  * Shows a verdict.
@@ -44,13 +44,11 @@ export function showOpen(files, faults, lacks) {
 function lacksWords(files, lacks) {
   const canRun = lacks.every(it => it === NEEDED.text || it === NEEDED.settings);
   const named = (/** @type {GivenFile[]} */ of) => of.map(it => it.name);
-  const own = named(files.filter(it => it.kind === 'own')), unknown = files.filter(it => it.kind === 'unknown');
+  const unknown = files.filter(it => it.kind === 'unknown');
   const unread = named(unknown.filter(it => it.isUnread)), saved = unknown.filter(it => savedAs(it.bytes));
   const strange = named(unknown.filter(it => !it.isUnread && !savedAs(it.bytes)));
   return [
     p(`Missing: ${listed(lacks)}. ${canRun ? 'With “Run a market” you can make that from the other files.' : ''}`),
-    own.length ? p(`${shortList(own)} ${own.length > 1 ? 'have each' : 'has'} the lines of one student alone, and the `
-      + `page needs all sessions. ${OWN_CHECK}`) : '',
     unread.length ? p(`${listed(unread)} cannot be read: the browser does not open it, or it is longer than any file `
       + `of a `
       + 'market.') : '',
@@ -77,9 +75,9 @@ export function showRefused({ answer, call, parts, isCut }, again) {
 
 /**
  * Where a finding stands in the text: its line, with the symbol of the tree, or the entry of the order, marked.
- * @param {string} finding @param {Parts} parts
+ * @param {string} finding @param {Parts} parts @param {string} [by] who found it
  */
-function findingPart(finding, parts) {
+function findingPart(finding, parts, by = 'the program\'s words') {
   const { line, text, start } = placeOf(finding, parts);
   if (!line) return p(code(finding));
   const from = Math.max(0, Math.min(start - 60, text.length)), shown = start === null
@@ -87,8 +85,32 @@ function findingPart(finding, parts) {
     : [from ? '.. ' : '', text.slice(from, start), el('mark', {}, text[start] ?? ' '),
       text.slice(start + 1, start + 80)];
   const place = `line ${line}${start === null ? '' : `, column ${start + 1}`} of ${parts.text.name}`;
-  const said = p(`This is ${place} (the program's words: `, code(`finding: ${finding}`), '):');
+  const said = p(`This is ${place} (${by}: `, code(`finding: ${finding}`), '):');
   return [said, el('pre', { class: 'place', tabindex: '0', role: 'region', 'aria-label': place }, shown)];
+}
+
+/**
+ * Tells a finding of the page's own reading, where not all sessions are there.
+ * @param {string} finding @param {Parts} parts
+ */
+export function showFound(finding, parts) {
+  showVerdict('wrong', 'This text does not hold', p(findingWords(finding)), findingPart(finding, parts, 'found by the page itself'),
+    p('Do not trust it as it stands: ask the school about the line that is named.'));
+}
+
+/**
+ * Tells what of a text holds as far as one student can know it.
+ * @param {Market} market @param {string[]} notes what of the lines was passed over
+ */
+export function showOwn({ parts, roll, catalogue, said }, notes) {
+  const names = [...said.keys()], whose = names.length ? `with the lines of ${shortList(names)} alone` : 'but no lines of a student of its roll';
+  showVerdict(names.length ? 'right' : 'open', 'What you can know holds',
+    el('details', {}, el('summary', {}, `${parts.text.name}, ${whose}`),
+      p(`${plural(roll.length, 'student')}, ${plural(catalogue.length, 'section')}. The program says that the form of the text is right, and each `
+        + 'budget the one that the roll, the settings and the draw give. The page itself reads that bundles keep budgets, caps and '
+        + 'timetables, that seats suffice at any time, that turns are the due ones, and that what is held in the end follows. Whether the '
+        + 'bundles of others are their best, nobody can tell without their lines.')),
+    notes.map(it => p(it)));
 }
 
 /**

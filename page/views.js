@@ -1,10 +1,10 @@
-// The three views, and what is looked at in them.
+// The views, of which each has a tab, and what is looked at in them.
 
 import { auditorView } from './auditor.js';
 import { $, button, el, p } from './elements.js';
 import { studentView } from './student.js';
 
-const VIEWS = ['student', 'auditor', 'registrar'];
+const VIEWS = ['student', 'rate', 'auditor', 'registrar'];
 const shown = {
   view: 'student',
   /**
@@ -22,7 +22,8 @@ export function show(view) {
   shown.view = view;
   for (const it of VIEWS) {
     $(it).hidden = it !== view;
-    $(`to-${it}`).setAttribute('aria-pressed', String(it === view));
+    $(`to-${it}`).setAttribute('aria-selected', String(it === view));
+    $(`to-${it}`).tabIndex = it === view ? 0 : -1;
   }
 }
 
@@ -32,7 +33,22 @@ export const shownView = () => $(shown.view);
 /** Listens to whoever goes from view to view, also by the browser's back button. */
 export function listenToViews() {
   for (const it of VIEWS) $(`to-${it}`).addEventListener('click', () => { show(it); remember(); });
+  $('tabs').addEventListener('keydown', goByKey);
   addEventListener('popstate', recall);
+}
+
+/**
+ * Goes from tab to tab by the keys of the arrows, Home and End.
+ * @param {KeyboardEvent} event
+ */
+function goByKey(event) {
+  const at = VIEWS.indexOf(shown.view), last = VIEWS.length - 1;
+  const to = { ArrowRight: at < last ? at + 1 : 0, ArrowLeft: at ? at - 1 : last, Home: 0, End: last }[event.key];
+  if (to === undefined) return;
+  event.preventDefault();
+  show(VIEWS[to]);
+  remember();
+  $(`to-${VIEWS[to]}`).focus();
 }
 
 /**
@@ -42,9 +58,20 @@ export function listenToViews() {
 export function drawReaders(market, words) {
   shown.market = market;
   $('student').replaceChildren(...market ? [chooser(market), el('div', { id: 'student-answer' })] : [p(words)]);
-  $('auditor').replaceChildren(...market ? auditorView(market, showStudent) : [p(words)]);
+  $('auditor').replaceChildren(...market && !market.isOwn ? auditorView(market, showStudent) : [p(market ? ALL_SESSIONS : words)]);
   if (market) recall();
+  const only = market && named(market).length === 1 && market.isOwn ? named(market)[0] : null;
+  if (only && $('student-answer').dataset.name !== only.name) drawStudent(only);
 }
+
+const ALL_SESSIONS = 'The whole text is checked with all sessions, which say what everybody wished. What one student can know '
+  + 'of it with its own lines alone stands under “One student”.';
+
+/**
+ * The students who can be looked at: all of the roll, or those whose own lines are there.
+ * @param {Market} market
+ */
+const named = market => market.isOwn ? market.roll.filter(it => market.said.has(it.name)) : market.roll;
 
 /**
  * Where a student's name is typed.
@@ -54,13 +81,14 @@ function chooser(market) {
   const input = el('input', {
     id: 'student-name', list: 'student-names', autocomplete: 'off', autocapitalize: 'off', spellcheck: 'false',
   });
-  const names = el('datalist', { id: 'student-names' }, market.roll.map(it => el('option', { value: it.name })));
+  const names = el('datalist', { id: 'student-names' }, named(market).map(it => el('option', { value: it.name },
+    market.spelling.shown('student', it.name))));
   input.addEventListener('input', () => {
-    if (market.roll.some(it => it.name === input.value)) showStudent(input.value, false);
+    if (named(market).some(it => it.name === input.value)) showStudent(input.value, false);
     else showNobody();
   });
   const onsubmit = (/** @type {Event} */ event) => { event.preventDefault(); showStudent(input.value); };
-  return el('form', { class: 'chooser', onsubmit }, el('label', { for: 'student-name' }, 'Name of the student'),
+  return el('form', { class: 'chooser', onsubmit, hidden: market.isOwn && named(market).length === 1 }, el('label', { for: 'student-name' }, 'Name of the student'),
     input, names, el('button', { class: 'main' }, 'Show'), el('div', { id: 'student-said', role: 'status' }));
 }
 
@@ -69,14 +97,13 @@ function chooser(market) {
  * @param {string} typed @param {boolean} [focuses] whether the answer gets the focus
  */
 function showStudent(typed, focuses = true) {
-  const { roll } = shown.market, name = typed.trim();
-  const near = roll.filter(it => it.name.toLowerCase().includes(name.toLowerCase()));
-  const found = roll.find(it => it.name === name) ?? (near.length === 1 ? near[0] : null);
+  const students = named(shown.market), name = typed.trim(), meant = shown.market.spelling.meant('student', name);
+  const near = students.filter(it => it.name.toLowerCase().includes(name.toLowerCase()) || meant.includes(it.name));
+  const found = students.find(it => it.name === name) ?? (near.length === 1 ? near[0] : null);
   if (shown.view !== 'student') show('student');
   if (!found) {
     showNobody();
-    $('student-said').replaceChildren(...near.length && name ? whichOf(near) : ['No student of the roll has this '
-      + 'name.']);
+    $('student-said').replaceChildren(...near.length && name ? whichOf(near) : [nobodyWords(shown.market)]);
     return;
   }
   $('student-said').textContent = focuses ? '' : 'shown below';
@@ -84,6 +111,9 @@ function showStudent(typed, focuses = true) {
   remember(!focuses);
   if (focuses) $('student-answer').querySelector('h2').focus({ preventScroll: false });
 }
+
+/** @param {Market} market */
+const nobodyWords = market => market.isOwn ? 'No lines of a student of this name were given.' : 'No student of the roll has this name.';
 
 /** @param {Student} student */
 function drawStudent({ name, at }) {
@@ -102,7 +132,7 @@ function showNobody() {
 /** @param {Student[]} near */
 const whichOf = near => [
   'Which of them? ',
-  ...near.slice(0, 12).flatMap(it => [button(it.name, () => showStudent(it.name), { class: 'link' }), ' ']),
+  ...near.slice(0, 12).flatMap(it => [button(shown.market.spelling.shown('student', it.name), () => showStudent(it.name), { class: 'link' }), ' ']),
   near.length > 12 ? `and ${near.length - 12} more` : '',
 ];
 

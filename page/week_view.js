@@ -15,7 +15,7 @@ export function weekView(sections, caption, shown) {
   if (!sections.length) return p('No section.');
   const heads = el('tr', {}, el('td', {}), days.map(it => el('th', { scope: 'col' }, it)));
   const lines = rows.map(row => el('tr', {},
-    el('th', { scope: 'row' }, el('span', {}, row.from), el('span', { class: 'quiet' }, `–${row.to}`)),
+    el('th', { scope: 'row' }, el('span', {}, `${row.from}–`), el('span', {}, row.to)),
     row.cells.map(cell => el('td', cell.length ? { class: 'meets' } : {}, cell.map(it => sectionCell(it, shown))))));
   const table = el('table', { class: 'week' }, el('caption', { class: 'aside' }, caption), el('thead', {}, heads),
     el('tbody', {}, lines));
@@ -29,5 +29,8 @@ function sectionCell(section, shown) {
   return el('div', {}, breakable(shown(section.name)), half ? el('span', { class: 'quiet' }, ` ${half}`) : null);
 }
 
-/** A name that may be broken behind a dash, an underscore or a point. @param {string} name */
+/**
+ * A name that may be broken behind a dash, an underscore or a point.
+ * @param {string} name
+ */
 const breakable = name => name.split(/(?<=[-_.])/).flatMap((it, at) => at ? [el('wbr'), it] : [it]);

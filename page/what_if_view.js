@@ -9,7 +9,10 @@ import { answerWords } from './words.js';
 import { work } from './work.js';
 import { ratingOf } from './wish_list.js';
 
-/** The form, and where its answer comes. @param {Market} market @param {number} student */
+/**
+ * The form, and where its answer comes.
+ * @param {Market} market @param {number} student
+ */
 export function whatIfNodes(market, student) {
   const { name } = market.roll[student], wishes = market.wishes.get(name), budget = market.text.budgets[student];
   const rated = new Set([...wishes?.ratings ?? []].filter(([, it]) => it > 0).map(([it]) => it));
@@ -35,7 +38,10 @@ export function whatIfNodes(market, student) {
   ];
 }
 
-/** What is tried; or what is wrong with what was typed, in words. @param {string} section @param {string} points @param {string} budget @returns {Tried | string} */
+/**
+ * What is tried; or what is wrong with what was typed, in words.
+ * @param {string} section @param {string} points @param {string} budget @returns {Tried | string}
+ */
 export function triedOf(section, points, budget) {
   const money = /^\d{1,7}$/.test(budget.trim()) ? Number(budget) : NaN, rating = ratingOf(points);
   if (!(money <= MOST_BASE)) return `A budget is a whole number from 0 to ${grouped(MOST_BASE)}, without signs or commas.`;

@@ -35,7 +35,7 @@ export function missedSections(market, student) {
  * @param {Market} market @param {number} student @param {Stage[]} stages @param {string} name
  * @returns {Promise<Reply[]>}
  */
-async function repliesOf(market, student, stages, name) {
+async function repliesAbout(market, student, stages, name) {
   /** @type {Reply[]} */
   const replies = [];
   /** @type {Map<string, Reply>} */
@@ -58,7 +58,10 @@ async function replyOf(market, student, stage, name) {
   return 'told' in asked ? asked : { failed: answerWords(asked.answer, asked.call).words };
 }
 
-/** The answer of the whole market, where one student alone cannot have the budget. @param {Market} market @param {number} student @param {Stage} stage @param {string} name */
+/**
+ * The answer of the whole market, where one student alone cannot have the budget.
+ * @param {Market} market @param {number} student @param {Stage} stage @param {string} name
+ */
 async function wholeReply(market, student, stage, name) {
   if (market.isOwn || stage.pass) return { failed: unjudgedWords(stage) };
   const call = callOf('explain', market.parts, [market.roll[student].name, name]), answer = await work(`Asking about ${name}`, call);
@@ -93,14 +96,20 @@ function missedWords(name, end, higher) {
     : `${name} rated no other section higher than one that it holds in the end.`;
 }
 
-/** A section is asked about by its line. @typedef {{ node: HTMLElement, ask: () => Promise<void> }} Question */
+/**
+ * A section is asked about by its line.
+ * @typedef {{ node: HTMLElement, ask: () => Promise<void> }} Question
+ */
 
 /** @param {Market} market @param {number} student @param {Stage[]} stages */
 function questionsOf(market, student, stages) {
   const question = (/** @type {string} */ name, isOpen = false) => questionOf(market, student, stages, name, isOpen);
   return {
     question,
-    /** One after another, while they stand on the page. @param {Question[]} of */
+    /**
+     * One after another, while they stand on the page.
+     * @param {Question[]} of
+     */
     all: async of => { await null; for (const it of of) if (it.node.isConnected) await it.ask(); },
   };
 }
@@ -115,7 +124,7 @@ function questionOf(market, student, stages, name, isOpen) {
   const ask = () => asked ??= fill();
   const fill = async () => {
     short.textContent = '..';
-    const replies = await repliesOf(market, student, stages, name);
+    const replies = await repliesAbout(market, student, stages, name);
     short.textContent = shortAnswer(market, student, stages, name, replies);
     answer.replaceChildren(...longAnswer(market, student, stages, name, replies));
     if (replies.some(it => it.failed)) asked = null;
@@ -132,8 +141,7 @@ function shortAnswer(market, student, stages, name, replies) {
   if (second.told && ['held', 'unrated'].includes(second.told.reason)) return `${of(second)}.`;
   if (!turns.length) return `${of(second)}.`;
   if (!later) return `${of(second)}; no seat was free later.`;
-  const same = later.told && second.told && later.told.reason === second.told.reason && later.told.other === second.told.other;
-  return same ? `${of(second)}; free later, with the same answer.` : `${of(second)}; free later: ${of(later)}.`;
+  return of(later) === of(second) ? `${of(second)}; free later, and the same holds.` : `${of(second)}; free later: ${of(later)}.`;
 }
 
 /** @param {Market} market @param {number} student @param {Stage[]} stages @param {string} name @param {Reply[]} replies */
@@ -157,7 +165,10 @@ function replyNodes(market, student, { stage, last, told, failed }, name) {
     .filter(Boolean);
 }
 
-/** How many seats of a section were free when. @param {Market} market @param {number} student @param {Stage[]} stages @param {string} name */
+/**
+ * How many seats of a section were free when.
+ * @param {Market} market @param {number} student @param {Stage[]} stages @param {string} name
+ */
 function freeNodes(market, student, stages, name) {
   const { seats } = market.sectionOf.get(name), who = studentName(market, student), count = (/** @type {number} */ it) => it > 0 ? it : 'none';
   /** @type {{ first: number, last: number, free: number }[]} */
@@ -177,7 +188,10 @@ function freeNodes(market, student, stages, name) {
     + `${market.roll.length}.${after ? ' Others had taken the free seats before it.' : ''}`)].filter(Boolean);
 }
 
-/** Which turn of a pass is a student's, from 1. @param {Market} market @param {number} student */
+/**
+ * Which turn of a pass is a student's, from 1.
+ * @param {Market} market @param {number} student
+ */
 const turnNumber = (market, student) => market.text.budgets.filter((it, at) =>
   it > market.text.budgets[student] || it === market.text.budgets[student] && at <= student).length;
 
@@ -191,5 +205,8 @@ function otherSection(market, student, ask) {
   return el('div', {}, el('p', { class: 'ask' }, el('label', { for: id }, 'Ask about another section: '), choice), to);
 }
 
-/** The tie lines of the first answer. @param {Market} market @param {string[]} names */
+/**
+ * The tie lines of the first answer.
+ * @param {Market} market @param {string[]} names
+ */
 export const tieWords = (market, names) => `With ${sections(market, names)} a bundle was worth as much: a tie.`;

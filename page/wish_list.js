@@ -9,10 +9,13 @@ export const MOST_PAIRS = 200;
 export const MOST_RATING = 100;
 export const MOST_ADJUSTMENT = 200;
 
-const NAME = /^[A-Za-z0-9._-]{1,32}$/;
+const NAME_FORM = /^[A-Za-z0-9._-]{1,32}$/;
 
-/** Whether a text is a name (FORMATS, "Names and numbers"). @param {string} text */
-export const isName = text => NAME.test(text);
+/**
+ * Whether a text is a name (FORMATS, "Names and numbers").
+ * @param {string} text
+ */
+export const isName = text => NAME_FORM.test(text);
 
 /**
  * A rating that was typed: its points, 0 where nothing was, or what is wrong with it, in words.
@@ -21,7 +24,10 @@ export const isName = text => NAME.test(text);
  */
 export const ratingOf = typed => pointsOf(typed, 0, MOST_RATING, 'A rating');
 
-/** An adjustment that was typed, likewise. @param {string} typed @returns {{ points: number } | { fault: string }} */
+/**
+ * An adjustment that was typed, likewise.
+ * @param {string} typed @returns {{ points: number } | { fault: string }}
+ */
 export const adjustmentOf = typed => pointsOf(typed, -MOST_ADJUSTMENT, MOST_ADJUSTMENT, 'An adjustment');
 
 /** @param {string} typed @param {number} least @param {number} most @param {string} what */
@@ -33,10 +39,16 @@ function pointsOf(typed, least, most, what) {
     : { fault: `${what} is a whole number from ${least} to ${most}.` };
 }
 
-/** An empty list. @param {string} name @returns {WishList} */
+/**
+ * An empty list.
+ * @param {string} name @returns {WishList}
+ */
 export const emptyList = name => ({ name, ratings: new Map(), pairs: new Map() });
 
-/** The key of a pair: the section that the catalogue has first stands first. @param {Section} one @param {Section} other */
+/**
+ * The key of a pair: the section that the catalogue has first stands first.
+ * @param {Section} one @param {Section} other
+ */
 export const pairKey = (one, other) => one.at < other.at ? `${one.name} ${other.name}` : `${other.name} ${one.name}`;
 
 /**

@@ -59,5 +59,5 @@ function rest() {
   $('working').hidden = true;
   $('working-said').textContent = '';
   // (what has the focus must not vanish with it: the pressed one of the views has it then)
-  if (had) /** @type {HTMLElement} */ (document.querySelector('nav [aria-pressed=true]'))?.focus();
+  if (had) /** @type {HTMLElement} */ (document.querySelector('[role=tab][aria-selected=true]'))?.focus();
 }

@@ -4,7 +4,7 @@ import assert from 'node:assert/strict';
 import { existsSync } from 'node:fs';
 import { join } from 'node:path';
 import test from 'node:test';
-import { explanationOf } from '../../student.js';
+import { explanationOf } from '../../one_student.js';
 import {
   boundOf, clashOf, closedBy, errorOf, losesTies, menuOf, nodesOf, priceOf, raisedBudget, walkOf, worthOf,
 } from '../../reckoning.js';

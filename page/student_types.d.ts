@@ -92,3 +92,13 @@ interface WishList {
   ratings: Map<string, number>;
   pairs: Map<string, number>;
 }
+
+/**
+ * How a school spells names. Of a kind (`student`, `section`, `course`) and a name, `shown` gives the spelling, or the name
+ * where there is none; `meant` gives the names that may be meant by what somebody typed, exact spellings first.
+ */
+interface Spelling {
+  shown(kind: string, name: string): string;
+  meant(kind: string, typed: string): string[];
+  count: number;
+}
