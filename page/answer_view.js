@@ -87,7 +87,7 @@ async function wrongNodes(market, student, judged, wrong) {
   const better = isTree && !wrong.pass ? await demandedWith(work, market, student, { budget: wrong.budget }) : null;
   const best = better && 'demanded' in better ? better.demanded : null, isBest = best?.names.join() === of.join();
   const title = best && !isBest
-    ? `No: by these lines and prices ${sections(market, best.names)} (worth ${best.worth}) was to be had for ${tokens(wrong.budget)}.`
+    ? `No: by these lines and prices a better bundle was to be had for ${tokens(wrong.budget)}: ${sections(market, best.names)}, worth ${best.worth}.`
     : isBest ? `The bundle is the best that ${tokens(wrong.budget)} buy, but the signs beside it do not prove it.`
       : `No: ${stageName(wrong).toLowerCase()} does not hold by these lines.`;
   return [
@@ -101,7 +101,7 @@ async function wrongNodes(market, student, judged, wrong) {
 
 /** @param {Market} market */
 const possibleCauses = market => market.isOwn
-  ? ['These are not the lines that the desk took last, or not all of them: ask the school for them anew.', ...CAUSES] : CAUSES;
+  ? [`${CAUSES[0]}: ask the school for these lines anew`, ...CAUSES.slice(1)] : CAUSES;
 
 /**
  * A button that asks once more.

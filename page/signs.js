@@ -207,7 +207,7 @@ function faultAt(walk, chosen, text, at, due) {
 
 /** Why a tree may not fit that a school published, in words. */
 export const CAUSES = [
-  'a rating or an adjustment in the lines is not the one that the desk took last (a line is missing, or was changed)',
+  'a rating or an adjustment is not the one that the desk took last (a line is missing, or was changed)',
   'a price in the text was changed',
   'the budget in the text was changed, or the signs belong to another stage: the aftermarket has a raised budget',
   'the bundle or its signs were changed, or belong to another student',
