@@ -21,6 +21,6 @@ pub demand_beside-requires-clause-first : goal.demand_beside-requires-clause-fir
 demand_beside-requires-clause-first c =
     let s : ℕ = c.args.section.0 in
     let all = c.args.offer.now.allowed.now in
-    leads_where_fewer (wishes_of c.args.offer.now.menu.now) (price_in c.args.offer.now.prices.now) c.args.offer.now.budget.0 (set.contains (set.remove all s)) (set.contains all) s
+    leads_where_fewer (wishes_of c.args.menu.now) (price_in c.args.offer.now.prices.now) c.args.offer.now.budget.0 (set.contains (set.remove all s)) (set.contains all) s
     (sections_of c.demand-first.result) (in_both all s) (in_rest all s)
     (rw c.without-fewer.ensures at c.demand-first.ensures)
