@@ -11,6 +11,7 @@ use Rattle.market_units.specs.declared.names.Name.{Name}
 use Rattle.market_units.specs.declared.units.SectionNo.{SectionNo}
 use Rattle.market_units.specs.declared.units.StudentNo.{StudentNo}
 use Rattle.market_units.specs.Members.{has}
+use Rattle.market_units.proofs.Memberships.{has_at}
 use Rattle.dropadd_desk.specs.declared.command.HallCommand.TheVariants.{Add, Drop, Leave, Unreadable}
 use Rattle.dropadd_desk.specs.declared.reply.HallReply.{HallReply}
 use Rattle.dropadd_desk.specs.declared.reply.HallReply.TheVariants as reply
@@ -111,7 +112,7 @@ pub stands : (i p : ℕ) (list : List ℕ) → position (λ other. other == i) l
 stands i p list e =
     let is = place_is (λ other. other == i) list p e in
     let same : get_or list p 0 ≡ i = eqb-true (get_or list p 0) i (found_passes (λ other. other == i) list p is) in
-    subst (λ n. has list n ≡ true) same (has_get list p is.inside)
+    subst (λ n. has list n ≡ true) same (has_at list p 0 is.inside)
 
 pub stands_not : (i : ℕ) (list : List ℕ) → position (λ other. other == i) list ≡ None → has list i ≡ false
 stands_not i list e = nowhere list (no_place_is (λ other. other == i) list e)
