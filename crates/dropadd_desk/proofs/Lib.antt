@@ -7,6 +7,7 @@ pub mod DeskLemmas
 pub mod Fitting
 pub mod Handing
 pub mod FrontRows
+pub mod InOrder
 pub mod InRange
 pub mod Queues
 pub mod RuleLemmas

@@ -117,6 +117,15 @@ refusal_none market state i s e =
     let two = first_none _ _ one.1 in
     (so_none (has (held_by state i) s) reply.Holding one.0, so_none (has (waiting_for state s) i) reply.Waiting two.0)
 
+-- who waits where a student has left
+pub filter-map : (i : ℕ) (tickets : List Ticket)
+    → students_in (filter (λ (ticket : Ticket). not (ticket.student == i)) tickets) ≡ without_section i (students_in tickets)
+filter-map i [] = refl
+filter-map i (ticket ∷ more) = elim (cases_Bool (ticket.student == i)) [
+  | inl same ↦ rw same (filter-map i more)
+  | inr other ↦ rw other (ap (λ l. ticket.student ∷ l) (filter-map i more))
+]
+
 module _ (market : Market) (state : HallState) (is : IsHall market state) where
   seats_at : (s : ℕ) → s < section_count market → slice_index (seats_in market) s ≡ (offered market s).seats
   seats_at s low = get_or-map (λ (section : Section). section.seats) market.catalog.sections s no_section 0 low
@@ -200,14 +209,6 @@ module _ (market : Market) (state : HallState) (is : IsHall market state) where
           then (reply.Added, with_held state i (with_section s (held_by state i))) else (reply.Queued (length (waiting_for state s)), with_waiting state s (waiting_for state s ++ i ∷ []))))
       by_refusal None e = by_seat (has_free_seat market state s) refl e
       by_refusal (Some answer) e = quiet_step i s answer (quiet answer (subst QuietOrNone e (refusal_quiet market state i s)))
-
-  filter-map : (i : ℕ) (tickets : List Ticket)
-      → students_in (filter (λ (ticket : Ticket). not (ticket.student == i)) tickets) ≡ without_section i (students_in tickets)
-  filter-map i [] = refl
-  filter-map i (ticket ∷ more) = elim (cases_Bool (ticket.student == i)) [
-    | inl same ↦ rw same (filter-map i more)
-    | inr other ↦ rw other (ap (λ l. ticket.student ∷ l) (filter-map i more))
-  ]
 
   pub leave_step : (i s : ℕ) → s < section_count market → IsStepped market state i s (leave state i s)
   unfolding leave

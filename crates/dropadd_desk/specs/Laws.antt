@@ -16,6 +16,7 @@ use Rattle.dropadd_desk.specs.Step.{has_free_seat, held_by, waiting_for}
 use Rattle.dropadd_desk.specs.Lines.{HallStep, Ticket, gives_ticket, is_added, is_dropped, is_passed_on, is_refusal, line_of, names_section, replies, tickets_of}
 use Rattle.dropadd_desk.specs.Replies.{NamesInRange}
 use Rattle.dropadd_desk.specs.Shared.{is_sound, state_after, reply_to}
+use Rattle.dropadd_desk.specs.Waits.{KeepsOrderAt}
 
 -- what holds of a section in a state
 pub record IsFair (market : Market) (state : HallState) (s : ℕ) : Type 0 where
@@ -75,6 +76,15 @@ ConservationLaw =
     → IsLawful market opening
     → IsLegal is_sound state_after reply_to market opening history → (s : ℕ)
     → s < section_count market → IsConserved market opening history s
+
+-- The desk's own list of a section keeps the order of those who wait, step by step.
+abbrev pub WaitsInOrderLaw : Type 0
+WaitsInOrderLaw =
+    (market : Market) (opening : HallState) (before : List HallStep) (step : HallStep)
+    → IsHall market opening
+    → IsLegal is_sound state_after reply_to market opening (before ++ step ∷ []) → (s : ℕ)
+    → KeepsOrderAt market (state_after_steps state_after market opening before) step
+    (state_after_steps state_after market opening (before ++ step ∷ [])) s
 
 -- What each student holds is allowed at every time, where it is so at the opening: no two of the
 -- sections clash, and the caps are kept.

@@ -13,3 +13,4 @@ pub mod Replies
 pub mod Sets
 pub mod Shared
 pub mod Step
+pub mod Waits

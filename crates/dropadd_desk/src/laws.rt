@@ -1,5 +1,5 @@
 //! What holds of a shared desk: each call here does nothing, and its contract is a law.
-ghost use Rattle.dropadd_desk.specs.Laws.{AllowedLaw, ConservationLaw, FirstFitLaw, RefusalLaw, RepliesInRangeLaw};
+ghost use Rattle.dropadd_desk.specs.Laws.{AllowedLaw, ConservationLaw, FirstFitLaw, RefusalLaw, RepliesInRangeLaw, WaitsInOrderLaw};
 
 /// A desk opens so that nobody waits, no section is over its seats, and each student's sections
 /// keep timetable and caps. After any requests, each section then has no more holders than seats,
@@ -13,6 +13,15 @@ ghost use Rattle.dropadd_desk.specs.Laws.{AllowedLaw, ConservationLaw, FirstFitL
 /// the section or lapsed first.
 pub fn conservation()
     ensures { ConservationLaw }
+{}
+
+/// The desk's own list of a section keeps the order of those who wait. Whoever is queued waits as
+/// the last one, behind all who wait already, and nobody else comes to wait. Whoever waits no longer
+/// has left, or has lapsed or been given the seat where one was given up. As long as the earlier of
+/// two waits, the later waits behind, unless the later leaves: so the earlier is never given the
+/// seat or taken off after the later.
+pub fn waits_in_order()
+    ensures { WaitsInOrderLaw }
 {}
 
 /// What each student holds is allowed at every time, where it is so at the opening: no two of the
