@@ -25,6 +25,7 @@ MODULES = (
     "audit",
     "again",
     "lists",
+    "rosters",
     "summary",
     "hall",
     "next_term",

@@ -62,6 +62,8 @@ OPTIONS: typing.Mapping[str, typing.Mapping[str, str]] = {
         "courses default": "the cap of a student without one there",
         "carry": "the column of the tokens from the term before; none: nobody brings any",
         "carry default": "what a blank there means",
+        "name": "the column of the student's own name, for lists and mails; the program never sees it",
+        "e-mail": "the column of the student's e-mail address, likewise",
     },
     "survey": {
         **OF_EVERY_EXPORT,
@@ -105,6 +107,18 @@ OPTIONS: typing.Mapping[str, typing.Mapping[str, str]] = {
         "drop words": "for drop",
         "leave words": "for leave",
     },
+    "rosters": {
+        "file": "`registrar rosters` writes this file, as the school's system imports it; its columns stand in [roster columns]",
+        "separator": "what stands between two columns: comma, semicolon, tab or bar",
+        "encoding": "what the file is written in, for instance cp1252",
+        "line end": "crlf or lf",
+        "header": "yes: the first row has the columns' names; no: it has not",
+        "rows by": "section: one section's students after another's; student: the other way round",
+        "may be blank": "the columns that may be blank in a row, with commas between them; in any other a blank is a fault",
+        "enrolled word": "what {action} says in a roster",
+        "add word": "in a difference, of a seat that the system is to give",
+        "drop word": "and of one that it is to take",
+    },
     "numbers": {
         "decimal": "the decimal sign: . or , (the other one may stand between thousands)",
         "credit unit": "how many credits are one unit of the program, which takes whole units: 0.5 for half credits",
@@ -139,6 +153,10 @@ DEFAULTS: typing.Mapping[str, typing.Mapping[str, str]] = {
         "header row": "1", "add words": "add, enrol, enroll", "drop words": "drop, withdraw",
         "leave words": "leave, leave waitlist",
     },
+    "rosters": {
+        "file": "enrolment.csv", "separator": "comma", "encoding": "utf-8", "line end": "crlf", "header": "yes",
+        "rows by": "section", "enrolled word": "enrolled", "add word": "add", "drop word": "drop",
+    },
     "numbers": {"decimal": ".", "credit unit": "1"},
     "times": {"earliest": "7:00", "latest": "22:00", "no meeting": ", ".join(NO_MEETING)},
     "students": {"pad": "0", "any case": "no"},
@@ -147,6 +165,8 @@ DEFAULTS: typing.Mapping[str, typing.Mapping[str, str]] = {
 
 #: Sections whose options are the registrar's own words.
 FREE: typing.Mapping[str, str] = {
+    "roster columns": "the columns of the file of [rosters] in their order, each with what stands there: words, and fields as {student}, "
+    "{section}, {course}, {credits}, {name}, {e-mail}, {action}, {number}, {register COLUMN}, {timetable COLUMN}",
     "parts": "words for the halves of the term, as `Q1 = 1`, `Q2 = 2`, `Full = 12`",
     "days": "words for days and the program's letters (M T W R F S U), as `Di = T`, or `SU = SU` for Saturday and Sunday",
     "same students": "what stands in an export = the student that is meant",
@@ -170,6 +190,10 @@ CHOICES: typing.Mapping[str, tuple[str, ...]] = {
     "decimal": (".", ","),
     "clock": ("24",),
     "reserved seats": ("all", "less"),
+    "separator": ("comma", "semicolon", "tab", "bar"),
+    "line end": ("crlf", "lf"),
+    "header": ("yes", "no"),
+    "rows by": ("section", "student"),
 }
 
 #: Options that are whole numbers, and their ranges.
@@ -219,6 +243,9 @@ class Mapping:
     sections: NameRules = field(default_factory=NameRules)
     courses: NameRules = field(default_factory=NameRules)
     parts: dict[str, str] = field(default_factory=dict)
+    #: The options of [rosters], and the columns of [roster columns] with what stands there.
+    rosters: dict[str, str] = field(default_factory=dict)
+    roster_columns: dict[str, str] = field(default_factory=dict)
 
     def of_kind(self, kind: str) -> list[Source]:
         """The exports of a kind, in the mapping's order."""
@@ -351,6 +378,8 @@ class MappingReader:
         mapping.students = self.name_rules("students")
         mapping.sections = self.name_rules("sections")
         mapping.courses = self.name_rules("courses")
+        mapping.rosters = {option: self.value("rosters", option) for option in OPTIONS["rosters"]}
+        mapping.roster_columns = self.free("roster columns")
 
     def meeting_rules(self) -> MeetingRules:
         """What is stated of meetings."""
@@ -429,7 +458,7 @@ def mapping_text(sections: typing.Mapping[str, typing.Mapping[str, str]], notes:
         "# A line that begins with # is a comment. A column is named as in the export; capitals and blanks there do not count.",
         "# `@3` is the third column; `Subject + Number` joins two columns by `-`. An option that is blank says nothing.",
     ]
-    for title, values in sections.items():
+    for title, values in {**sections, "rosters": sections.get("rosters", {})}.items():
         kind = title.split(" ")[0]
         lines += ["", f"[{title}]"]
         lines += [f"# {note}" for note in notes.get(title, [])]

@@ -30,6 +30,7 @@ SLOTS = [
 LETTERS = "ABCDEFGH"
 GIVEN = "Ana Béla Chen Dana Émile Farid Grace Hugo Inès Jonas Kaja Lena Mira Noor Otto Priya Rosa Sven Tara Uma".split()
 FAMILY = "Abara Baker Costa Dvořák Evans Fischer Gómez Haddad Ivanov Jones Kim Lee Müller Novak Ortiz Park Rossi Silva Tran Weiss".split()
+PROGRAMMES = ("Économie", "Statistics", "History")
 WORDS = {"M": "Mon", "T": "Tue", "W": "Wed", "R": "Thu", "F": "Fri"}
 
 
@@ -159,24 +160,26 @@ def shown_meetings(section: Section, at: int) -> tuple[str, str]:
 
 def catalogue_rows(school: School) -> list[list[str]]:
     """The export of the timetable. The unit of credits is half of one: 1.5 credits are 3 units."""
-    rows = [["SECTION CODE", "Course", "Title", "Max Enrollment", "Credits", "Meeting Times", "Length", "Room"]]
+    rows = [["SECTION CODE", "Course", "Title", "Max Enrollment", "Credits", "Meeting Times", "Length", "Room", "CRN"]]
     for at, section in enumerate(school.sections):
         when, length = shown_meetings(section, at)
         seats = f"{section.seats}.0" if at % 5 == 0 else f"{section.seats:,}"
         credits = f"{section.credits / 2:.1f}"
-        rows.append([section.code, section.course, f"Topics in {section.course}", seats, credits, when, length, f"R{at % 30}"])
+        rows.append([section.code, section.course, f"Topics in {section.course}", seats, credits, when, length, f"R{at % 30}", str(20001 + 7 * at)])
         if section.has_practice:
-            rows.append([section.code, section.course, "Practice", "", "", "Fri 13:00-13:50", "", "R31"])
+            rows.append([section.code, section.course, "Practice", "", "", "Fri 13:00-13:50", "", "R31", ""])
         if at % 10 == 9:
-            rows.append([""] * 8)
+            rows.append([""] * 9)
     return rows
 
 
 def roll_rows(school: School) -> list[list[str]]:
-    """The export of the register. Caps on sections are blank: the mapping states them."""
-    rows = [["Student ID", "Name", "Tokens", "Max Credits", "Max Courses"]]
-    for one in school.students:
-        rows.append([one.number, one.title, f"{one.budget:,}", f"{one.credits / 2:g}", ""])
+    """The export of the register. Caps on sections are blank: the mapping states them. The last year has the greater budget."""
+    rows = [["Student ID", "Name", "Tokens", "Max Credits", "Max Courses", "E-mail", "Programme", "Year"]]
+    for at, one in enumerate(school.students):
+        year = "4" if one.budget == 5000 else str(at % 3 + 1)
+        cells = [one.number, one.title, f"{one.budget:,}", f"{one.credits / 2:g}", ""]
+        rows.append([*cells, f"s{one.number}@school.example", PROGRAMMES[at % 5 % 3], year])
     return rows
 
 

@@ -111,7 +111,7 @@ class Imports(WithSchool):
                 "as row 2 says of ACCT_101_A",
             ),
             ("timetable.csv", "Max Enrollment", "Places", "[catalogue] seats", "a column of the file"),
-            ("timetable.csv", ";R0\r", ";R0;x\r", 'timetable.csv row 2: "x"', "at most 8 cells"),
+            ("timetable.csv", ";R0;20001\r", ";R0;20001;x\r", 'timetable.csv row 2: "x"', "at most 9 cells"),
             ("register.csv", '"5,000"', "4,5OO", 'register.csv row 2, column Max Credits: "5OO"', "credits"),
             ("register.csv", '"5,000"', '"5,00"', 'register.csv row 2, column Tokens: "5,00"', "0 to 900,000"),
             ("register.csv", "000256,", "000113,", 'register.csv row 3, column Student ID: "000113"', "row 2 has it already"),
