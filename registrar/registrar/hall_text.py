@@ -58,7 +58,7 @@ def refuse_other(after: After, found: manifest.Manifest) -> None:
     rows = [(*fields[:2], after.used[fields[0]][1], *fields[3:]) for fields in records]
     with tempfile.TemporaryDirectory() as folder:
         catalogue, requests = os.path.join(folder, "catalogue.csv"), os.path.join(folder, "hall.requests")
-        tables.write_csv(catalogue, [header, *rows])
+        tables.write_whole(catalogue, tables.csv_text([header, *rows]).encode())
         tables.write_whole(requests, "".join(request + "\n" for request, _ in after.entries).encode("utf-8"))
         answer = program.call(["hall", catalogue, found.roll, found.text, requests], tell.Life("asking the hall anew"))
     if answer.status or replies(answer.lines) != replies(after.lines):

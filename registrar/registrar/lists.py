@@ -7,15 +7,21 @@ import concurrent.futures
 import os
 import tempfile
 from dataclasses import dataclass
-from typing import Dict, List, Optional, Sequence
+from typing import Callable, Dict, FrozenSet, List, Optional, Sequence, Tuple
 
-from registrar import alone, explain, manifest, own_names, program, published, reasons, run_market, sheet, streams, tables, tell, work_log
+from registrar import (
+    alone, explain, mails, manifest, own_names, program, published, reasons, register, run_market, sheet, streams, tables, tell,
+    work_log,
+)
 
 NAME = "lists"
 HELP = (
     "write students.csv, rosters.csv, sections.csv and for each student a text and its own lines of the sessions, by the manifest; "
     "the tables have the school's own spelling where names.csv stands beside the catalogue"
 )
+
+# What may be amiss with addresses, and is allowed by word alone.
+ALLOWED = ("no-e-mail", "same-e-mail")
 
 BOOK = "lists.xlsx"
 
@@ -29,6 +35,16 @@ class Ask:
     lines: Dict[str, List[int]]
     said: Dict[str, List[tables.Command]]
     room: Optional[alone.Room]
+    post: Optional[mails.Post]
+    mailed: FrozenSet[str]
+
+
+@dataclass(frozen=True)
+class Told:
+    """What a student is told: its text, and its mail, where it has one."""
+
+    text: str
+    mail: Optional[bytes]
 
 
 def add_arguments(parser: argparse.ArgumentParser) -> None:
@@ -38,6 +54,14 @@ def add_arguments(parser: argparse.ArgumentParser) -> None:
     parser.add_argument("--out", default="lists", metavar="FOLDER", help="where the lists go (default: lists)")
     parser.add_argument("--student", action="append", default=[], metavar="NAME", help="texts for these students alone; may be repeated")
     parser.add_argument("--no-reasons", action="store_true", help="leave the program's reasons out of the texts, which takes less time")
+    register.add_argument(parser)
+    parser.add_argument(
+        "--mail", metavar="TEMPLATE", help="with --mapping: write a mail for each student as a file, mails/NAME.eml; nothing is sent"
+    )
+    parser.add_argument(
+        "--allow", action="append", default=[], choices=ALLOWED, metavar="KIND",
+        help=f"with --mail: no mail for students without an address, or one address for several ({', '.join(ALLOWED)})",
+    )
     run_market.add_workers(parser)
 
 
@@ -48,6 +72,8 @@ def writes(arguments: argparse.Namespace) -> List[str]:
 
 def run(arguments: argparse.Namespace) -> int:
     """Checks the text, and writes the lists."""
+    if arguments.mail and not arguments.mapping:
+        raise tell.Trouble("--mail needs --mapping, which says where names and addresses stand", tell.USAGE)
     found = manifest.read(arguments.manifest)
     answer = program.call(manifest.check_words(found), tell.Life("checking the text"))
     if answer.status:
@@ -56,12 +82,14 @@ def run(arguments: argparse.Namespace) -> int:
         return answer.status
     market = explain.market_of(found)
     names = chosen(arguments.student, market)
-    tables.refuse_over(targets(arguments.out, names), manifest.files_read(found))
+    made = register.read_or_tell(arguments.mapping, found.catalogue, found.roll) if arguments.mapping else None
+    post, mailed = post_of(arguments, made, names)
+    tables.refuse_over(targets(arguments.out, names, mailed), read_by(arguments, found, made))
     tables.make_folder(os.path.join(arguments.out, "students"))
     own = market.own
     books = {
-        "students": student_rows(market, own),
-        "rosters": roster_rows(market, own),
+        "students": register.with_people(made, student_rows(market, own)),
+        "rosters": register.with_people(made, roster_rows(market, own)),
         "sections": section_rows(market, own),
     }
     for name, rows in books.items():
@@ -70,18 +98,46 @@ def run(arguments: argparse.Namespace) -> int:
     with tempfile.TemporaryDirectory() as folder:
         commands = streams.in_order(market.text.order, found.sessions)
         room = None if arguments.no_reasons else alone.room(folder, market, commands)
-        ask = Ask(found, market, own_lines(market.text), streams.by_student(commands), room)
-        write_texts(os.path.join(arguments.out, "students"), ask, names, arguments.workers)
-    warn_of_others(os.path.join(arguments.out, "students"), list(market.students))
+        ask = Ask(found, market, own_lines(market.text), streams.by_student(commands), room, post, frozenset(mailed))
+        write_texts(arguments.out, ask, names, arguments.workers)
+    warn_of_others(arguments.out, list(market.students))
     texts = tell.count(len(names), "text", "texts")
     tell.say(f"{arguments.out}: students.csv, rosters.csv, sections.csv, and {texts} in students/, each with the student's session")
+    if post is not None:
+        none = f"; {len(names) - len(mailed)} without an address have none" if len(mailed) < len(names) else ""
+        tell.say(f"{arguments.out}: {tell.count(len(mailed), 'mail', 'mails')} in mails/, which nobody has sent{none}")
     return 0
 
 
-def targets(folder: str, names: Sequence[str]) -> List[str]:
+def read_by(
+    arguments: argparse.Namespace, found: manifest.Manifest, made: Optional[register.Register]
+) -> List[Tuple[str, str]]:
+    """What each file is that the command reads, and its path."""
+    exports = [("export", source.path) for source in made.mapping.sources] if made else []
+    words = [("mapping", arguments.mapping), ("template", arguments.mail)]
+    return [*manifest.files_read(found), *exports, *((what, path) for what, path in words if path)]
+
+
+def post_of(
+    arguments: argparse.Namespace, made: Optional[register.Register], names: Sequence[str]
+) -> Tuple[Optional[mails.Post], List[str]]:
+    """The template, and who has a mail. Faults of both are told, and end the command."""
+    if made is None or not arguments.mail:
+        return None, []
+    post = mails.read(arguments.mail, made)
+    register.refuse(made.faults, arguments.mapping)
+    if arguments.no_reasons and "reasons" in mails.names_of(post.template):
+        raise tell.Trouble(f"{arguments.mail} has the field {{reasons}}, which --no-reasons leaves out", tell.USAGE)
+    mailed = mails.look_at_students(post, names, arguments.allow)
+    register.refuse(made.faults, arguments.mapping)
+    return post, mailed
+
+
+def targets(folder: str, names: Sequence[str], mailed: Sequence[str]) -> List[str]:
     """The files that are written."""
     texts = [os.path.join("students", name + ending) for name in names for ending in (".txt", ".session")]
-    return [os.path.join(folder, name) for name in ("students.csv", "rosters.csv", "sections.csv", BOOK, *texts)]
+    posted = [os.path.join("mails", name + ".eml") for name in mailed]
+    return [os.path.join(folder, name) for name in ("students.csv", "rosters.csv", "sections.csv", BOOK, *texts, *posted)]
 
 
 def chosen(names: Sequence[str], market: reasons.Market) -> List[str]:
@@ -99,11 +155,15 @@ def student_rows(market: reasons.Market, own: own_names.Own) -> List[Sequence[ob
     rows: List[Sequence[object]] = [("student", "sections", "credits", "spent", "left")]
     for name, final in market.text.finals.items():
         spent = market.text.cost(final.sections)
-        # What the aftermarket's raise paid is not owed.
-        left = max(0, market.text.budgets[name] - spent)
         sections = "; ".join(own_names.spelt(own, "section", one) for one in final.sections)
-        rows.append((own_names.spelt(own, "student", name), sections, credits_cell(market, final.sections), spent, left))
+        credits = credits_cell(market, final.sections)
+        rows.append((own_names.spelt(own, "student", name), sections, credits, spent, left_of(market, name)))
     return rows
+
+
+def left_of(market: reasons.Market, name: str) -> int:
+    """The tokens that a student has left; what the aftermarket's raise paid is not owed."""
+    return max(0, market.text.budgets[name] - market.text.cost(market.text.finals[name].sections))
 
 
 def credits_of(market: reasons.Market, sections: Sequence[str]) -> int:
@@ -154,32 +214,75 @@ def missed(market: reasons.Market, name: str) -> List[str]:
 
 
 def write_texts(folder: str, ask: Ask, names: Sequence[str], workers: int) -> None:
-    """Writes for each student a text and what it said, a few at a time, and says how far it is."""
+    """Writes for each student a text, what it said, and its mail, a few at a time, and says how far it is."""
     life = tell.Life("")
+    if ask.mailed:
+        tables.make_folder(os.path.join(folder, "mails"))
     with concurrent.futures.ThreadPoolExecutor(max_workers=max(1, workers)) as pool:
-        texts = [pool.submit(student_text, ask, name) for name in names]
+        tasks = [pool.submit(told_of, ask, name) for name in names]
         try:
-            for done, (name, text) in enumerate(zip(names, texts), 1):
-                tables.write_whole(os.path.join(folder, name + ".txt"), text.result().encode("utf-8"))
-                tables.write_whole(os.path.join(folder, name + ".session"), own_session(name, ask.said.get(name, [])))
+            for done, (name, task) in enumerate(zip(names, tasks), 1):
+                write_told(folder, name, task.result(), own_session(name, ask.said.get(name, [])))
                 life.what = f"texts: {done} of {len(names)}"
                 life.tick()
         finally:
             # Where a signal or a fault ends this, nobody asks for the others any more.
-            for text in texts:
-                text.cancel()
+            for task in tasks:
+                task.cancel()
     life.end()
 
 
+def write_told(folder: str, name: str, told: Told, session: bytes) -> None:
+    """Writes what a student is told: its text, what it said, and its mail, where it has one."""
+    path = os.path.join(folder, "students", name)
+    tables.write_whole(path + ".txt", told.text.encode("utf-8"))
+    tables.write_whole(path + ".session", session)
+    if told.mail is not None:
+        tables.write_whole(os.path.join(folder, "mails", name + ".eml"), told.mail)
+
+
 def warn_of_others(folder: str, names: Sequence[str]) -> None:
-    """Says which texts of an earlier run are still there: they are of nobody on this roll."""
-    wanted = {name + ".txt" for name in names}
-    others = sorted(one for one in os.listdir(folder) if one.endswith(".txt") and one not in wanted)
-    if others:
-        tell.warn(f"warning: {folder} has {tell.count(len(others), 'text', 'texts')} of nobody on this roll, such as {others[0]}")
+    """Says which texts and mails of an earlier run are still there: they are of nobody on this roll."""
+    for part, ending, one, more in (("students", ".txt", "text", "texts"), ("mails", ".eml", "mail", "mails")):
+        path = os.path.join(folder, part)
+        wanted = {name + ending for name in names}
+        there = sorted(os.listdir(path)) if os.path.isdir(path) else []
+        others = [name for name in there if name.endswith(ending) and name not in wanted]
+        if others:
+            tell.warn(f"warning: {path} has {tell.count(len(others), one, more)} of nobody on this roll, such as {others[0]}")
 
 
-def student_text(ask: Ask, name: str) -> str:
+def told_of(ask: Ask, name: str) -> Told:
+    """A student's text, and its mail, where it has one."""
+    why = reason_lines(ask, ask.room, name) if ask.room is not None else []
+    text = student_text(ask, name, why)
+    if ask.post is None or name not in ask.mailed:
+        return Told(text, None)
+    values = field_values(ask, ask.post.register, name, why)
+    return Told(text, mails.mail(ask.post, name, values, own_session(name, ask.said.get(name, []))))
+
+
+def field_values(
+    ask: Ask, made: register.Register, name: str, why: Sequence[str]
+) -> Dict[str, Callable[[], str]]:
+    """What the fields of a mail say of a student."""
+    market = ask.market
+    final = market.text.finals[name].sections
+    return {
+        "student": lambda: own_names.spelt(made.own, "student", name),
+        "name": lambda: made.said(name, "name"),
+        "e-mail": lambda: made.said(name, "e-mail"),
+        "sections": lambda: "\n".join(section_lines(market, name, final)) if final else "none",
+        "credits": lambda: own_names.credits(market.own, credits_of(market, final)),
+        "budget": lambda: str(market.text.budgets[name]),
+        "spent": lambda: str(market.text.cost(final)),
+        "left": lambda: str(left_of(market, name)),
+        "reasons": lambda: "\n".join(why).strip("\n"),
+        "lines": lambda: "\n".join(f"{number}: {market.text.lines[number - 1]}" for number in ask.lines[name]),
+    }
+
+
+def student_text(ask: Ask, name: str, why: Sequence[str]) -> str:
     """A student's own lines, and why it has no seat in what it would rather have had."""
     text, market = ask.market.text, ask.market
     final = text.finals[name].sections
@@ -192,9 +295,7 @@ def student_text(ask: Ask, name: str) -> str:
     lines += ["", "Your lines of the published text, with their numbers:", ""]
     lines += [f"  {number}: {text.lines[number - 1]}" for number in ask.lines[name]]
     lines += names_of_lines(ask, name)
-    if ask.room is not None:
-        lines += reason_lines(ask, ask.room, name)
-    return "\n".join(lines) + "\n"
+    return "\n".join([*lines, *why]) + "\n"
 
 
 def own_session(name: str, said: Sequence[tables.Command]) -> bytes:
