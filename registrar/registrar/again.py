@@ -24,7 +24,7 @@ def add_arguments(parser: argparse.ArgumentParser) -> None:
 
 def run(arguments: argparse.Namespace) -> int:
     """Runs once more and compares."""
-    found = manifest.read(arguments.manifest, text_too=False)
+    found = manifest.read(arguments.manifest, text_too=False, trial_too=True)
     text = published.read_published(found.text)
     check.tell_changed(found)
     check.tell_error(found)

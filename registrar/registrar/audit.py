@@ -34,7 +34,7 @@ def writes(arguments: argparse.Namespace) -> List[str]:
 
 def run(arguments: argparse.Namespace) -> int:
     """Calls the program, and tells its lines and the sums."""
-    found = manifest.read(arguments.manifest, text_too=False)
+    found = manifest.read(arguments.manifest, text_too=False, trial_too=True)
     if arguments.out:
         tables.refuse_over([arguments.out], manifest.files_read(found))
     answer = program.call(manifest.audit_words(found, str(arguments.workers)), tell.Life("auditing"))

@@ -29,7 +29,7 @@ def add_arguments(parser: argparse.ArgumentParser) -> None:
 
 def run(arguments: argparse.Namespace) -> int:
     """Calls the program, tells its answer, and what is known of a finding."""
-    found = manifest.of_files(arguments.files) if arguments.files else manifest.read(arguments.manifest, text_too=False)
+    found = manifest.of_files(arguments.files) if arguments.files else manifest.read(arguments.manifest, text_too=False, trial_too=True)
     answer = program.call(manifest.check_words(found), tell.Life("checking"))
     tell.say(answer.text.rstrip("\n"))
     if answer.status == 0:

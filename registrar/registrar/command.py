@@ -27,6 +27,7 @@ MODULES = (
     "lists",
     "rosters",
     "summary",
+    "compare",
     "hall",
     "next_term",
     "work_log",

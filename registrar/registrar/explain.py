@@ -25,7 +25,7 @@ def add_arguments(parser: argparse.ArgumentParser) -> None:
 
 def run(arguments: argparse.Namespace) -> int:
     """Calls the program, and tells its answer and what to say to the student."""
-    found = manifest.read(arguments.manifest, text_too=False)
+    found = manifest.read(arguments.manifest, text_too=False, trial_too=True)
     student, section = meant(found, arguments.student, arguments.section)
     answer = program.call(manifest.explain_words(found, student, section), tell.Life("explaining"))
     tell.say(answer.text.rstrip("\n"))

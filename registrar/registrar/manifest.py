@@ -42,6 +42,8 @@ class Manifest:
     #: The sums of the catalogue at the run, and of that without its seats; nothing where the manifest has none.
     catalogue_sum: str = ""
     but_seats_sum: str = ""
+    #: The name of the trial that it is of, or nothing.
+    trial: str = ""
 
     @property
     def folder(self) -> str:
@@ -73,8 +75,8 @@ def write(path: str, words: Sequence[str], text: str, elapsed: float) -> None:
     tables.write_whole(path, content(path, words, text, program.sha256(text), elapsed))
 
 
-def content(path: str, words: Sequence[str], text: str, text_sum: str, elapsed: float) -> bytes:
-    """What the manifest at this path says of such a run, whose text has this sum."""
+def content(path: str, words: Sequence[str], text: str, text_sum: str, elapsed: float, trial: str = "") -> bytes:
+    """What the manifest at this path says of such a run, whose text has this sum. A trial's has its name."""
     folder = os.path.dirname(os.path.abspath(path))
     inputs = [
         {"role": one.role, "file": relative(one.path, folder), "sha256": program.sha256(one.path)}
@@ -91,6 +93,8 @@ def content(path: str, words: Sequence[str], text: str, text_sum: str, elapsed: 
         "elapsed": round(elapsed, 1),
         "made": time.strftime("%Y-%m-%dT%H:%M:%SZ", time.gmtime()),
     }
+    if trial:
+        kept["trial"] = trial
     return (json.dumps(kept, indent=1, ensure_ascii=False) + "\n").encode("utf-8")
 
 
@@ -105,11 +109,14 @@ def relative(path: str, folder: str) -> str:
     return os.path.relpath(os.path.abspath(path), folder).replace(os.sep, "/")
 
 
-def read(path: str = NAME, verify: bool = True, text_too: bool = True, catalogue_too: bool = True) -> Manifest:
+def read(
+    path: str = NAME, verify: bool = True, text_too: bool = True, catalogue_too: bool = True, trial_too: bool = False
+) -> Manifest:
     """Reads a manifest. With `verify`, a file that is gone or has changed since the run is a refusal that names all such files.
 
     `text_too=False` leaves the published text out of that: `check` judges a text that may have been changed. So does
-    `catalogue_too=False` the catalogue, whose seats may be raised after publication.
+    `catalogue_too=False` the catalogue, whose seats may be raised after publication. The text of a trial is refused but with
+    `trial_too`: nothing is to be handed out of it.
     """
     if not os.path.exists(path):
         raise Trouble(f"there is no manifest {path}: `registrar run` writes one beside the published text", NO_FILE)
@@ -119,9 +126,15 @@ def read(path: str = NAME, verify: bool = True, text_too: bool = True, catalogue
         text = (str(kept["text"]["file"]), kept["text"]["sha256"])
         words = tuple(str(word) for word in kept["words"])
         rest = (str(kept["program"]), float(kept["elapsed"]), str(kept["made"]))
+        trial = str(kept.get("trial", ""))
     except (ValueError, KeyError, TypeError, OverflowError, RecursionError) as error:
         raise Trouble(f"{path} is no manifest of `registrar run` ({error})") from error
     folder = os.path.dirname(path)
+    if trial and not trial_too:
+        raise Trouble(
+            f"{path} is of the trial '{trial}', which is no run that anybody is told of: `check`, `explain`, `audit`, `again`, "
+            "`summary` and `compare` take it"
+        )
     if verify:
         asked = [one for one in inputs if catalogue_too or one[0] != "catalogue"]
         refuse_changed(path, folder, asked + [("text", *text)] * text_too)
@@ -130,7 +143,7 @@ def read(path: str = NAME, verify: bool = True, text_too: bool = True, catalogue
         raise Trouble(f"{path} has to name one catalogue, one roll, one settings file and at least one session")
     return Manifest(
         path, by_role["catalogue"][0], by_role["roll"][0], by_role["settings"][0], tuple(by_role["session"]),
-        os.path.join(folder, text[0]), words, *rest, text[1], *catalogue_sums(kept["inputs"]),
+        os.path.join(folder, text[0]), words, *rest, text[1], *catalogue_sums(kept["inputs"]), trial,
     )
 
 

@@ -46,17 +46,22 @@ def bars(axes: Axes, items: Sequence[Tuple[str, float]]) -> str:
     return frame(axes, body, most)
 
 
-def histogram(axes: Axes, values: Sequence[float], bins: int = 20) -> str:
-    """How many of the values are in each of equal spans."""
+def spans(values: Sequence[float], bins: int = 20) -> List[Tuple[str, float]]:
+    """How many of the values are in each of equal spans, by the least value of the span."""
     if not values:
-        return bars(axes, [])
+        return []
     low, high = min(values), max(values)
     step = nice((high - low) / bins) if high > low else 1
     first = math.floor(low / step)
     counts = [0] * (math.floor(high / step) - first + 1)
     for value in values:
         counts[math.floor(value / step) - first] += 1
-    return bars(axes, [(f"{(first + place) * step:g}", found) for place, found in enumerate(counts)])
+    return [(f"{(first + place) * step:g}", float(found)) for place, found in enumerate(counts)]
+
+
+def histogram(axes: Axes, values: Sequence[float], bins: int = 20) -> str:
+    """A bar for each of the spans of these values."""
+    return bars(axes, spans(values, bins))
 
 
 def line(axes: Axes, points: Sequence[Tuple[float, float]]) -> str:

@@ -33,7 +33,7 @@ def writes(arguments: argparse.Namespace) -> List[str]:
 
 def run(arguments: argparse.Namespace) -> int:
     """Writes the page."""
-    found = manifest.read(arguments.manifest)
+    found = manifest.read(arguments.manifest, trial_too=True)
     tables.refuse_over([arguments.out], manifest.files_read(found))
     market = explain.market_of(found)
     envy: Optional[Dict[str, audit.Envy]] = None
