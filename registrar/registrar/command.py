@@ -28,6 +28,7 @@ MODULES = (
     "rosters",
     "summary",
     "compare",
+    "trial",
     "hall",
     "next_term",
     "work_log",
