@@ -9,10 +9,10 @@ import tempfile
 from dataclasses import dataclass
 from typing import Dict, List, Optional, Sequence, Tuple
 
-from registrar import before_run, program, published, run_market, ranges, tables, tell, work_log
+from registrar import before_run, program, published, run_market, ranges, spread, tables, tell, work_log
 
 NAME = "settings"
-HELP = "try values of accept and turns, show what each gives, and write the settings that are chosen"
+HELP = "say how far a rank reaches, try values of accept and turns, show what each gives, and write the settings that are chosen"
 
 # The greatest values of both settings (docs/FORMATS.md, "Settings").
 MOST_TURNS = 10_000
@@ -46,6 +46,9 @@ def add_arguments(parser: argparse.ArgumentParser) -> None:
         "--accept", type=ranges.wholes(0, MOST_ACCEPT), default=[], metavar="N,N,..",
         help="errors to try besides the least that a search sees with accept 0",
     )
+    parser.add_argument(
+        "--spread", type=ranges.whole(0, spread.MOST_SPREAD), metavar="N", help="try, and write, with this spread in place of that of SETTINGS"
+    )
     parser.add_argument("--write", metavar="FILE", help="write the settings of the row of least error, or those of --take, to FILE")
     parser.add_argument(
         "--take", nargs=2, type=ranges.whole(0, MOST_ACCEPT), metavar=("TURNS", "ACCEPT"), help="try nothing: write these two and the rest of SETTINGS"
@@ -60,6 +63,8 @@ def writes(arguments: argparse.Namespace) -> List[str]:
 def run(arguments: argparse.Namespace) -> int:
     """Tries, tells, and writes."""
     settings = tables.read_settings(arguments.settings)
+    if arguments.spread is not None:
+        settings["spread"] = arguments.spread
     if arguments.write:
         tables.refuse_over([arguments.write], read_beside(arguments))
     if arguments.take:
@@ -67,8 +72,10 @@ def run(arguments: argparse.Namespace) -> int:
             raise tell.Trouble("--take needs --write FILE", tell.USAGE)
         if arguments.take[0] > MOST_TURNS:
             raise tell.Trouble(f"--take: {arguments.take[0]} turns are more than {MOST_TURNS}", tell.USAGE)
+        tell_spread(arguments.roll, settings["spread"])
         write(arguments.write, settings, *arguments.take)
         return 0
+    tell_spread(arguments.roll, settings["spread"])
     trials: List[Trial] = []
     for turns in arguments.turns or [settings["turns"]]:
         status = try_turns(arguments, settings, turns, trials)
@@ -79,6 +86,17 @@ def run(arguments: argparse.Namespace) -> int:
     for line in before_run.why_not_again(arguments):
         tell.say(line)
     return choose(arguments, settings, trials)
+
+
+def tell_spread(roll: str, value: object) -> None:
+    """Says what the spread does on this roll, where both can be read; what is wrong with either the program tells."""
+    if isinstance(value, int) and not isinstance(value, bool) and 0 <= value <= spread.MOST_SPREAD:
+        try:
+            students = tables.read_roll(roll)
+        except tell.Trouble:
+            return
+        for line in spread.in_words(students, value):
+            tell.say(line)
 
 
 def read_beside(arguments: argparse.Namespace) -> List[Tuple[str, str]]:

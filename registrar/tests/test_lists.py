@@ -156,7 +156,7 @@ class Settings(InFolder):
         self.scarce()
         told = call("settings", *SCARCE_WORDS, "--turns", "0,20")
         self.assertEqual(told.status, 0)
-        rows = [line.split() for line in told.out.splitlines()[2:5]]
+        rows = [line.split() for line in told.out.splitlines() if line.strip()[:1].isdigit()]
         self.assertEqual(rows[0][:3] + rows[0][5:8], ["1", "0", "0", "no", "prices:", "least"])
         self.assertEqual(rows[1][:3] + rows[1][5:6], ["2", "0", "1", "1"])
         self.assertEqual(rows[2][:3] + rows[2][5:8], ["3", "20", "0", "0", "3", "3"])
