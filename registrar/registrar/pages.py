@@ -19,11 +19,11 @@ STYLE = (
 NUMBER = ' class="n"'
 
 
-def page(title: str, parts: Sequence[str]) -> str:
-    """A whole page."""
+def page(title: str, parts: Sequence[str], style: str = "", language: str = "en") -> str:
+    """A whole page, `style` being added to the style of all pages."""
     return (
-        f'<!DOCTYPE html>\n<html lang="en"><head><meta charset="utf-8"><title>{html.escape(title)}</title>'
-        f"<style>{STYLE}</style></head>\n<body><h1>{html.escape(title)}</h1>\n" + "\n".join(parts) + "\n</body></html>\n"
+        f'<!DOCTYPE html>\n<html lang="{language}"><head><meta charset="utf-8"><title>{html.escape(title)}</title>'
+        f"<style>{STYLE}{style}</style></head>\n<body><h1>{html.escape(title)}</h1>\n" + "\n".join(parts) + "\n</body></html>\n"
     )
 
 

@@ -142,7 +142,8 @@ class Lists(InFolder):
             plot = xml.etree.ElementTree.fromstring("<svg" + one.split("</svg>")[0] + "</svg>")
             self.assertEqual(plot.get("role"), "img")
             self.assertTrue(plot.get("aria-label"))
-        self.assertEqual(page.count("<svg"), 7)
+        self.assertEqual(page.count("<svg"), 9)
+        self.assertEqual(page.count("</svg><table>"), 9)
         self.assertEqual(call("summary", "--no-audit").status, 0)
         self.assertNotIn("envies", self.read("summary.html"))
 
