@@ -18,6 +18,7 @@ from registrar import at_work, ending, tell, whole, work_log
 MODULES = (
     "import_exports",
     "look",
+    "estimate",
     "run_market",
     "try_settings",
     "check",

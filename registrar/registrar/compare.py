@@ -7,9 +7,7 @@ import os
 from dataclasses import dataclass
 from typing import Callable, Dict, List, Optional, Sequence, Tuple
 
-from registrar import (
-    explain, figures, manifest, measures, own_names, pages, plots, ranges, register, run_market, tables, tell,
-)
+from registrar import figures, manifest, measures, own_names, pages, plots, ranges, register, run_market, tables, tell
 
 NAME = "compare"
 HELP = "put two runs beside each other: who gained and who lost by the own ratings, seats, prices, errors, envy, by group"
@@ -78,6 +76,11 @@ def groups_by(arguments: argparse.Namespace, made: Optional[register.Register]) 
     return groups
 
 
+def writes(arguments: argparse.Namespace) -> List[str]:
+    """The folder of --out, where there is one."""
+    return [arguments.out] if arguments.out else []
+
+
 def run(arguments: argparse.Namespace) -> int:
     """Measures both runs, and tells what differs."""
     found = [manifest.read(path, trial_too=True) for path in (arguments.one, arguments.other)]
@@ -101,11 +104,10 @@ def run(arguments: argparse.Namespace) -> int:
 
 def beside(one: measures.Measured, other: measures.Measured, made: Optional[register.Register] = None) -> Both:
     """The two runs beside each other. Students are called as the register or `names.csv` does."""
-    own = own_names.beside(other.found.catalogue)
 
     def called(student: str) -> str:
         name = made.said(student, "name") if made is not None and made.has("name") else ""
-        return own_names.spelt(own, "student", student) + (f" ({name})" if name else "")
+        return other.market.student(student) + (f" ({name})" if name else "")
 
     changes = {name: change(one, other, name) for name in one.students if name in other.market.text.finals}
     gone = tuple(name for name in one.students if name not in changes)
@@ -135,12 +137,13 @@ def differences(both: Both) -> List[str]:
     changed = [name for name in tables.SETTINGS if settings[0][name] != settings[1][name]]
     lines += [f"{name}: {shown(settings[0][name])} in A, {shown(settings[1][name])} in B" for name in changed]
     sections = [each.market.sections for each in (one, other)]
-    lines += [f"{code}: only in {'AB'[at]}" for at in (0, 1) for code in sections[at] if code not in sections[1 - at]]
+    called = both.other.market.section
+    lines += [f"{called(code)}: only in {'AB'[at]}" for at in (0, 1) for code in sections[at] if code not in sections[1 - at]]
     for code in (code for code in sections[0] if code in sections[1]):
         for what in ("seats", "credits", "meetings", "parts", "course"):
             before, after = (getattr(each[code], what) for each in sections)
             if before != after:
-                lines.append(f"{code}: {what} {before or 'none'} in A, {after or 'none'} in B")
+                lines.append(f"{called(code)}: {what} {told_as(both, what, before)} in A, {told_as(both, what, after)} in B")
     rolls = [each.market.students for each in (one, other)]
     changed = [name for name in both.changes if row(rolls[0][name]) != row(rolls[1][name])]
     if changed:
@@ -151,6 +154,13 @@ def differences(both: Both) -> List[str]:
     if wished:
         lines.append(f"{tell.count(wished, 'student has', 'students have')} other wishes in B than in A")
     return lines or ["the inputs say the same"]
+
+
+def told_as(both: Both, what: str, value: object) -> str:
+    """What a catalogue says of a section, in words."""
+    if what == "credits" and isinstance(value, int):
+        return own_names.credits(both.other.market.own, value)
+    return "none" if value == "" else str(value)
 
 
 def shown(value: object) -> str:
@@ -213,7 +223,6 @@ SECTION_HEADER = ("section", "seats A", "seats B", "used A", "used B", "price A"
 def section_rows(both: Both) -> List[Tuple[str, object, object, object, object, object, object]]:
     """A row for each section of either run, in the catalogue's order."""
     texts = [each.market.text for each in (both.one, both.other)]
-    own = own_names.beside(both.other.found.catalogue)
     codes = list(dict.fromkeys([*texts[0].used, *texts[1].used]))
     rows = []
     for code in codes:
@@ -221,7 +230,7 @@ def section_rows(both: Both) -> List[Tuple[str, object, object, object, object, 
         seats = [one.seats if one else "" for one in used]
         taken = [one.used if one else "" for one in used]
         prices = [text.prices.get(code, "") for text in texts]
-        rows.append((own_names.spelt(own, "section", code), *seats, *taken, *prices))
+        rows.append((both.other.market.section(code), *seats, *taken, *prices))
     return rows
 
 
@@ -230,15 +239,12 @@ STUDENT_HEADER = ("student", "change", "worth A", "worth B", "share A", "share B
 
 def student_rows(both: Both) -> List[Tuple[str, str, int, int, str, str, str, str]]:
     """A row for each student of both runs: who lost most first, who gained most last."""
-    own = own_names.beside(both.other.found.catalogue)
     places = {name: place for place, name in enumerate(both.changes)}
     rows = []
     for one in sorted(both.changes.values(), key=lambda one: (one.after - one.before, places[one.student])):
         shares = [pages.percent(each.share(one.student)) for each in (both.one, both.other)]
-        held = [
-            "; ".join(own_names.spelt(own, "section", code) for code in each.held(one.student)) for each in (both.one, both.other)
-        ]
-        rows.append((own_names.spelt(own, "student", one.student), one.what, one.before, one.after, *shares, *held))
+        held = ["; ".join(each.market.section(code) for code in each.held(one.student)) for each in (both.one, both.other)]
+        rows.append((both.other.market.student(one.student), one.what, one.before, one.after, *shares, *held))
     return rows
 
 
@@ -273,10 +279,9 @@ def told(both: Both, groups: Dict[str, str], arguments: argparse.Namespace) -> L
 
 def in_words(both: Both, one: Change) -> str:
     """A student's change in words."""
-    own = own_names.beside(both.other.found.catalogue)
     before, after = (set(each.held(one.student)) for each in (both.one, both.other))
-    lost = ", ".join(own_names.spelt(own, "section", code) for code in both.one.held(one.student) if code not in after)
-    won = ", ".join(own_names.spelt(own, "section", code) for code in both.other.held(one.student) if code not in before)
+    lost = ", ".join(both.one.market.section(code) for code in both.one.held(one.student) if code not in after)
+    won = ", ".join(both.other.market.section(code) for code in both.other.held(one.student) if code not in before)
     return f"{both.names(one.student)} from {one.before} to {one.after}: {lost or 'nothing'} for {won or 'nothing'}"
 
 

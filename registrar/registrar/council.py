@@ -17,9 +17,9 @@ from __future__ import annotations
 
 import re
 from dataclasses import dataclass
-from typing import Callable, Dict, List, Mapping, Optional, Sequence, Tuple
+from typing import Callable, Dict, List, Mapping, Sequence, Tuple
 
-from registrar import fields, measures, pages, plots, register, tables
+from registrar import fields, measures, own_names, pages, plots, register, tables
 from registrar.faults import Faults
 
 #: The columns of the table of groups, and what they are called where the text says nothing.
@@ -130,12 +130,10 @@ def paragraphs(lines: Sequence[str], end: int) -> Tuple[Tuple[int, str], ...]:
     return tuple((number, " ".join(text)) for number, text in found)
 
 
-def page(
-    words: Words, run: measures.Measured, parts: Sequence[measures.Group], made: Optional[register.Register], column: str
-) -> str:
+def page(words: Words, run: measures.Measured, parts: Sequence[measures.Group], column: str) -> str:
     """The page. A field that nobody knows, or of a group that is not there, is told, and ends the command."""
-    values = values_of(run, parts, made)
-    blocks = {"table": lambda: table(words, run, parts, made, column)}
+    values = values_of(run, parts)
+    blocks = {"table": lambda: table(words, run, parts, column)}
     for name in PLOTS:
         blocks[f"plot {name}"] = lambda name=name: plot(words, name, parts, column)  # type: ignore[misc]
     faults = Faults()
@@ -158,16 +156,14 @@ def page(
     return pages.page(words.title, shown, STYLE, words.language)
 
 
-def values_of(
-    run: measures.Measured, parts: Sequence[measures.Group], made: Optional[register.Register]
-) -> Dict[str, str]:
+def values_of(run: measures.Measured, parts: Sequence[measures.Group]) -> Dict[str, str]:
     """What the fields say: of all, of each group, and of the market."""
-    text = run.market.text
+    text, own = run.market.text, run.market.own
     seats = [one for one in text.used.values() if one.seats]
     everybody = parts[-1]
-    found = of_group(everybody, made)
+    found = of_group(everybody, own)
     for one in parts[:-1]:
-        found.update({f"{name} of {one.name}": told for name, told in of_group(one, made).items()})
+        found.update({f"{name} of {one.name}": told for name, told in of_group(one, own).items()})
     total = sum(one.seats for one in seats)
     taken = sum(one.used for one in seats)
     found.update({
@@ -178,9 +174,9 @@ def values_of(
     return found
 
 
-def of_group(one: measures.Group, made: Optional[register.Register]) -> Dict[str, str]:
+def of_group(one: measures.Group, own: own_names.Own) -> Dict[str, str]:
     """What the fields say of a group."""
-    found = {key: str(value(key, one, made)) for key in COLUMNS if key != "envious" or one.envious is not None}
+    found = {key: str(value(key, one, own)) for key in COLUMNS if key != "envious" or one.envious is not None}
     found["first percent"] = f"{percent_of(one.first, one):g} %"
     found["without percent"] = f"{percent_of(one.without, one):g} %"
     found["share median"] = pages.percent(one.median_share)
@@ -189,11 +185,10 @@ def of_group(one: measures.Group, made: Optional[register.Register]) -> Dict[str
     return found
 
 
-def value(key: str, one: measures.Group, made: Optional[register.Register]) -> object:
+def value(key: str, one: measures.Group, own: own_names.Own) -> object:
     """What stands in a column for a group."""
     if key == "credits":
-        unit = float(made.mapping.unit) if made is not None else 1.0
-        return each(one.credits * unit, one)
+        return each(one.credits * float(own_names.unit_of(own)), one)
     found: Dict[str, object] = {
         "students": one.students,
         "without": one.without,
@@ -235,13 +230,12 @@ def shares_by_ten(one: measures.Group) -> List[Tuple[str, float]]:
     return list(zip(names, map(float, counts)))
 
 
-def table(
-    words: Words, run: measures.Measured, parts: Sequence[measures.Group], made: Optional[register.Register], column: str
-) -> str:
+def table(words: Words, run: measures.Measured, parts: Sequence[measures.Group], column: str) -> str:
     """The table of groups in the school's words."""
+    own = run.market.own
     keys = [key for key in words.columns if key != "envious" or run.envy is not None]
     header = [words.group or column or "group", *(words.columns[key] for key in keys)]
-    return pages.table("", header, [[words.called(one.name), *(value(key, one, made) for key in keys)] for one in parts])
+    return pages.table("", header, [[words.called(one.name), *(value(key, one, own) for key in keys)] for one in parts])
 
 
 def plot(words: Words, name: str, parts: Sequence[measures.Group], column: str) -> str:

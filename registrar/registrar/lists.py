@@ -147,7 +147,7 @@ def chosen(names: Sequence[str], market: reasons.Market) -> List[str]:
         if name not in market.students:
             hint = own_names.nearest(market.own, "student", word, market.students)
             raise tell.Trouble(f"no student of the roll has the name '{word}'. Capital letters count{hint or '.'}")
-    return found or list(market.students)
+    return list(dict.fromkeys(found)) or list(market.students)
 
 
 def student_rows(market: reasons.Market, own: own_names.Own) -> List[Sequence[object]]:

@@ -66,11 +66,15 @@ def plain(number: Decimal) -> str:
     return text.rstrip("0").rstrip(".") if "." in text else text
 
 
+def unit_of(own: Own) -> Decimal:
+    """How many of the school's credits one credit of the program is."""
+    return Decimal(own.get(UNIT, {}).get(CREDIT, "1").replace(",", "."))
+
+
 def credits(own: Own, number: int) -> str:
     """So many credits of the program in the school's own units and with its own decimal sign."""
-    unit = own.get(UNIT, {}).get(CREDIT, "1")
-    value = plain(number * Decimal(unit.replace(",", ".")))
-    return value.replace(".", ",") if "," in unit else value
+    value = plain(number * unit_of(own))
+    return value.replace(".", ",") if "," in own.get(UNIT, {}).get(CREDIT, "1") else value
 
 
 def credits_in_words(own: Own, number: int) -> str:

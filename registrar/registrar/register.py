@@ -61,11 +61,7 @@ class Register:
 
     def meant(self, kind: str, word: str) -> str:
         """The program's name of what is in the school's own spelling; any other word is left as it is."""
-        return self.names.get(kind, {}).get(word, word)
-
-    def credits(self, units: int) -> str:
-        """The program's credits in the school's own unit."""
-        return format((units * self.mapping.unit).normalize(), "f")
+        return self.names.get(kind, {}).get(tidy(word), word)
 
     def has(self, option: str) -> bool:
         """Whether the mapping names a column of the register for `name` or `e-mail`."""
@@ -99,7 +95,7 @@ def read(path: str, catalogue: str, roll: str, faults: Faults) -> Register:
     except OSError as error:
         raise tell.Trouble(f"{path} can not be read: {error.strerror}", tell.NO_FILE) from error
     made = Register(mapping, own_names.beside(catalogue), faults)
-    made.names = {kind: {original: name for name, original in names.items()} for kind, names in made.own.items()}
+    made.names = {kind: {tidy(original): name for name, original in names.items()} for kind, names in made.own.items()}
     if faults:
         return made
     made.students = table(made, "roll", "student", [one.name for one in tables.read_roll(roll)], faults)

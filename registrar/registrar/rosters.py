@@ -9,7 +9,7 @@ import os
 from dataclasses import dataclass
 from typing import Callable, Dict, Iterator, List, Optional, Sequence, Set, Tuple
 
-from registrar import fields, hall_text, manifest, own_names, published, register, tables, tell
+from registrar import fields, hall_text, manifest, own_names, published, register, tables, tell, work_log
 from registrar.import_exports import write_all
 from registrar.mapping import split
 
@@ -50,6 +50,11 @@ def add_arguments(parser: argparse.ArgumentParser) -> None:
     )
     parser.add_argument("--into", metavar="FOLDER", help="where the files are written (default: the mapping's folder)")
     parser.add_argument("--replace", action="store_true", help="write over files that stand there and differ")
+
+
+def writes(arguments: argparse.Namespace) -> List[str]:
+    """The folder of the manifest and that of the files."""
+    return work_log.folders(arguments.manifest, arguments.into or os.path.dirname(arguments.mapping) or ".")
 
 
 def run(arguments: argparse.Namespace) -> int:
@@ -194,7 +199,7 @@ class Template:
             "student": lambda row: own_names.spelt(made.own, "student", row.seat[1]),
             "section": lambda row: own_names.spelt(made.own, "section", row.seat[0]),
             "course": lambda row: own_names.spelt(made.own, "course", self.sections[row.seat[0]].course),
-            "credits": lambda row: made.credits(self.sections[row.seat[0]].credits),
+            "credits": lambda row: own_names.credits(made.own, self.sections[row.seat[0]].credits),
             "action": lambda row: row.action,
         }
         return plain.get(name) or (lambda row: made.said(row.seat[1], name))

@@ -78,7 +78,8 @@ def to_file(words: Sequence[str], text: str) -> program.Answer:
         size = size_of(words)
         try:
             with whole.Part(text) as part:
-                answer = run_to(part, words, tell.Life("running the market", tell.times_of(folder, size)))
+                far = tell.far_of(folder, size, turns_of(words[4]))
+                answer = run_to(part, words, tell.Life("running the market", tell.times_of(folder, size), far=far))
         except tell.Trouble as trouble:
             raise tell.Trouble(f"{trouble}\n{kept_in_words(text)}", trouble.status) from trouble
         if answer.status:
@@ -86,6 +87,14 @@ def to_file(words: Sequence[str], text: str) -> program.Answer:
         else:
             tell.keep_time(folder, size, answer.elapsed)
         return answer
+
+
+def turns_of(settings: str) -> object:
+    """The turns of the settings, as far as they can be read."""
+    try:
+        return tables.read_settings(settings)["turns"]
+    except tell.Trouble:
+        return None
 
 
 def run_to(part: whole.Part, words: Sequence[str], life: tell.Life) -> program.Answer:

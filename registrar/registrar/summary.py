@@ -4,7 +4,7 @@ from __future__ import annotations
 
 import argparse
 import statistics
-from typing import Dict, List, Optional, Sequence, Tuple
+from typing import Dict, List, Sequence, Tuple
 
 from registrar import (
     audit, compare, council, figures, manifest, measures, pages, plots, reasons, register, run_market, tables, tell, work_log,
@@ -44,11 +44,11 @@ def run(arguments: argparse.Namespace) -> int:
     measured = measures.measured(found, arguments.workers, not arguments.no_audit)
     parts = measures.groups_of(measured, groups, arguments.least) if groups else [whole(measured)]
     if words is not None:
-        text = council.page(words, measured, parts, made, arguments.by or "")
+        text = council.page(words, measured, parts, arguments.by or "")
     else:
-        text = page(measured, parts, made, arguments.by or "")
+        text = page(measured, parts, arguments.by or "")
     tables.write_whole(arguments.out, text.encode("utf-8"))
-    for line in tell.table(*group_table(measured, parts, made, arguments.by or "")) if groups else []:
+    for line in tell.table(*group_table(measured, parts, arguments.by or "")) if groups else []:
         tell.say(line)
     tell.say(f"{arguments.out}: figures and plots of {compare.title_of(found) if found.trial else found.text}")
     return 0
@@ -59,15 +59,12 @@ def whole(run_of: measures.Measured) -> measures.Group:
     return measures.group(run_of, measures.ALL, run_of.students)
 
 
-def page(
-    run_of: measures.Measured, parts: Sequence[measures.Group], made: Optional[register.Register], column: str
-) -> str:
+def page(run_of: measures.Measured, parts: Sequence[measures.Group], column: str) -> str:
     """The whole page."""
-    market = run_of.market
     shown = [pages.paragraph(f"This is the trial '{run_of.found.trial}', and no run.")] if run_of.found.trial else []
     shown.append(facts(run_of))
     if len(parts) > 1:
-        shown.append(pages.table(f"By {column}", *group_table(run_of, parts, made, column)))
+        shown.append(pages.table(f"By {column}", *group_table(run_of, parts, column)))
         shown.append(pages.paragraph(EXPLAINED))
         shown += group_plots(parts, column)
     shown += market_plots(run_of) + student_plots(run_of)
@@ -112,12 +109,12 @@ def facts(run_of: measures.Measured) -> str:
 
 
 def group_table(
-    run_of: measures.Measured, parts: Sequence[measures.Group], made: Optional[register.Register], column: str
+    run_of: measures.Measured, parts: Sequence[measures.Group], column: str
 ) -> Tuple[Sequence[str], List[Sequence[object]]]:
     """The header and the rows of the table of groups."""
     keys = [key for key in council.COLUMNS if key != "envious" or run_of.envy is not None]
     header = [column or "group", *(council.COLUMNS[key] for key in keys)]
-    return header, [[one.name, *(council.value(key, one, made) for key in keys)] for one in parts]
+    return header, [[one.name, *(council.value(key, one, run_of.market.own) for key in keys)] for one in parts]
 
 
 def group_plots(parts: Sequence[measures.Group], column: str) -> List[str]:

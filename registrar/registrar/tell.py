@@ -7,7 +7,7 @@ import json
 import os
 import sys
 import time
-from typing import Any, Dict, List, Optional, Sequence, TextIO
+from typing import Any, Callable, Dict, List, Optional, Sequence, TextIO
 
 # The tool's own exit statuses (those of sysexits.h), apart from 1 to 9, which are the program's.
 USAGE = 64
@@ -75,9 +75,13 @@ class Life:
     On a terminal the line is written anew each second; elsewhere a line comes each half minute.
     """
 
-    def __init__(self, what: str, before: Sequence[float] = (), stream: Optional[TextIO] = None) -> None:
+    def __init__(
+        self, what: str, before: Sequence[float] = (), stream: Optional[TextIO] = None, far: Optional[Callable[[float], str]] = None
+    ) -> None:
         self.what = what
         self.before = list(before)
+        #: What is said of how far the work is at a time, where an estimate tells it.
+        self.far = far
         self.stream = stream if stream is not None else sys.stderr
         self.begun = time.monotonic()
         self.told = self.begun
@@ -88,7 +92,8 @@ class Life:
         earlier = ""
         if self.before:
             earlier = "; the last runs of this size took " + ", ".join(seconds(one) for one in self.before[-3:])
-        return f"{self.what}: {seconds(elapsed)}{earlier}"
+        far = f"; {self.far(elapsed)}" if self.far else ""
+        return f"{self.what}: {seconds(elapsed)}{far}{earlier}"
 
     def tick(self) -> None:
         """To be called often: tells the line where it is due."""
@@ -138,12 +143,43 @@ def read_times(folder: str) -> List[Dict[str, Any]]:
         return []
 
 
+def far_of(folder: str, size: Size, turns: object) -> Optional[Callable[[float], str]]:
+    """Says how far a run of this size is, by the pace that `estimate` measured last; nothing where it measured none."""
+    paces = [one for one in read_times(folder) if is_like(one.get("estimate"), size) and is_pace(one)]
+    if not paces or not isinstance(turns, int):
+        return None
+    begin, turn = float(paces[-1]["begin"]), float(paces[-1]["turn"])
+
+    def far(elapsed: float) -> str:
+        now = int((elapsed - begin) / turn)
+        if now > turns:
+            return f"by an estimate behind the {turns} turns of the search"
+        return f"by an estimate at turn {max(0, now)} of at most {turns}"
+
+    return far
+
+
+def is_pace(one: Dict[str, Any]) -> bool:
+    """Whether an entry of the file of times has a pace by which turns are told."""
+    return all(isinstance(one.get(name), (int, float)) for name in ("begin", "turn")) and one["turn"] > 0
+
+
+def keep_pace(folder: str, size: Size, begin: float, turn: float) -> None:
+    """Keeps what `estimate` measured, as `keep_time` keeps what a run took."""
+    keep(folder, {"estimate": size, "begin": round(begin, 3), "turn": round(turn, 5), "seconds": round(begin, 1)})
+
+
 def keep_time(folder: str, size: Size, elapsed: float) -> None:
     """Keeps what a run of this size took. A folder that takes no file is no fault of the run."""
+    keep(folder, {"size": size, "seconds": round(elapsed, 1)})
+
+
+def keep(folder: str, entry: Dict[str, Any]) -> None:
+    """Keeps one entry more in the file of times, of which the last hundred stay."""
     # Here and not above, since `whole` needs `Trouble`.
     from registrar import whole
 
-    kept = read_times(folder)[-99:] + [{"size": size, "seconds": round(elapsed, 1)}]
+    kept = read_times(folder)[-99:] + [entry]
     content = json.dumps(kept, indent=1) + "\n"
     with contextlib.suppress(Trouble):
         whole.write_whole(os.path.join(folder, TIMES), content.encode("ascii"))

@@ -8,13 +8,12 @@ from __future__ import annotations
 
 import argparse
 import os
-import tempfile
 from dataclasses import dataclass
 from typing import Callable, Dict, List, Optional, Sequence, Tuple
 
 from registrar import (
-    compare, manifest, measures, own_names, pages, plots, program, published, register, run_market, streams, tables, tell,
-    try_settings, variants, wishes,
+    at_work, compare, manifest, measures, own_names, pages, plots, program, published, register, run_market, streams, tables, tell,
+    try_settings, variants, whole, work_log,
 )
 from registrar.faults import Faults
 from registrar.spelling import spelt
@@ -68,6 +67,11 @@ def add_arguments(parser: argparse.ArgumentParser) -> None:
     run_market.add_workers(parser)
 
 
+def writes(arguments: argparse.Namespace) -> List[str]:
+    """The folder of the manifest, where one is taken, and that of the trials."""
+    return [arguments.into] if arguments.files else work_log.folders(arguments.manifest, arguments.into)
+
+
 def run(arguments: argparse.Namespace) -> int:
     """Runs the variants, and writes the page."""
     base = base_of(arguments)
@@ -110,7 +114,8 @@ def refuse_standing(arguments: argparse.Namespace, base: Base) -> None:
     inside = [(what, path) for what, path in read if os.path.dirname(os.path.abspath(path)) == here]
     if inside:
         raise tell.Trouble(f"--into: {arguments.into} has the {inside[0][0]} {inside[0][1]}: give the trials a folder of their own", tell.USAGE)
-    if not arguments.replace and os.path.isdir(arguments.into) and os.listdir(arguments.into):
+    there = set(os.listdir(arguments.into)) if os.path.isdir(arguments.into) else set()
+    if not arguments.replace and there - {at_work.FILE, work_log.FILE}:
         raise tell.Trouble(f"{arguments.into} has files already: give another --into, or --replace")
 
 
@@ -169,22 +174,22 @@ def put_inputs(base: Base, variant: variants.Variant, folder: str) -> Tuple[str,
 
 
 def run_into(words: Sequence[str], text: str, trial: str, life: tell.Life) -> Tuple[program.Answer, Optional[int]]:
-    """Runs these words to a text, which has a manifest with the mark of a trial before it takes its name. The least error of status 5."""
-    for path in (text, manifest.beside(text)):
-        if os.path.exists(path):
-            os.remove(path)
-    with tempfile.TemporaryDirectory(dir=os.path.dirname(text)) as folder:
-        partial = os.path.join(folder, "text")
-        with open(partial, "wb") as output:
-            answer = program.call(words, life, output)
-        last = run_market.tail(partial)
+    """Runs these words to a text, before which its manifest has its name, with the mark of a trial. The least error of status 5."""
+    path = manifest.beside(text)
+    for old in (text, path):
+        if os.path.exists(old):
+            os.remove(old)
+    with whole.Part(text) as part, whole.Part(path) as kept:
+        answer = program.call(words, life, part.file)
+        part.close_whole()
+        last = run_market.tail(part.path)
         if answer.status == 5:
             return answer, int(last[-1].rsplit(" ", 1)[1])
         if answer.status:
             raise tell.Trouble("\n".join([f"the trial '{trial}':", *program.retell(answer, last)]), answer.status)
-        path = manifest.beside(text)
-        tables.write_whole(path, manifest.content(path, words, text, program.sha256(partial), answer.elapsed, trial))
-        os.replace(partial, text)
+        run_market.refuse_unsound(words, part.path)
+        kept.fill(manifest.content(path, words, text, program.sha256(part.path), answer.elapsed, trial))
+        whole.settle_all([kept, part])
     return answer, None
 
 

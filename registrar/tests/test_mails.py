@@ -8,7 +8,8 @@ import os
 import unittest
 from email.headerregistry import Address
 
-from registrar import mails, tell
+from registrar import mails, register, tell
+from registrar.faults import Faults
 from tests.support import needs_program
 from tests.term import say
 from tests.test_rosters import WithTerm
@@ -122,17 +123,43 @@ class Mails(WithMails):
         self.assertEqual(self.lists("--allow", "same-e-mail")[0], 0)
 
 
-@needs_program
 class Attacks(WithMails):
-    """A name is a name, whatever stands in it."""
+    """A name is a name, whatever stands in it. One case goes through the command, the others through what it calls."""
 
-    def heads(self, name: str) -> list[str]:
-        """The lines of a mail's head, and who it is for."""
-        mail = self.mail(name)
-        self.assertEqual(
-            list(mail.keys()), ["From", "To", "Reply-To", "Subject", "X-Unsent", "MIME-Version", "Content-Type"]
-        )
-        return [one.addr_spec for one in mail["To"].addresses]
+    ADDRESSES = ["n.jones@school.example"]
+    HEAD = ["From", "To", "Reply-To", "Subject", "X-Unsent", "MIME-Version", "Content-Type"]
+
+    def faults(self, row: str) -> list[str]:
+        """What is wrong with n.jones, who has this row in the register."""
+        self.called("n.jones", row)
+        made = register.read("mapping.ini", "catalogue.csv", "roll.csv", Faults())
+        self.post = mails.read("mail.txt", made)
+        mails.look_at_students(self.post, ["n.jones"])
+        return [fault.line() for fault in made.faults.found]
+
+    def written(self, row: str) -> bytes:
+        """The mail of n.jones, who has this row in the register."""
+        self.assertEqual(self.faults(row), [])
+        values = {name: (lambda name=name: f"({name})") for name in mails.FIELDS}
+        values["name"] = lambda: self.post.register.said("n.jones", "name")
+        return mails.mail(self.post, "n.jones", values, b"rate n.jones X 1\n")
+
+    def assert_one_head(self, written: bytes) -> None:
+        """The head has its own lines alone, none of them long, and one address."""
+        read = email.message_from_bytes(written, policy=email.policy.default)
+        self.assertEqual(list(read.keys()), self.HEAD)
+        self.assertEqual([one.addr_spec for one in read["To"].addresses], self.ADDRESSES)
+        head = written.split(b"\r\n\r\n")[0]
+        self.assertLessEqual(max(len(line) for line in head.split(b"\r\n")), 78)
+        self.assertNotIn(b"evil", head)
+
+    @needs_program
+    def test_a_name_with_a_line_end(self) -> None:
+        self.called("n.jones", 'n.jones;"N Jones\r\nBcc: all@evil.example";n.jones@school.example;Law')
+        status, told = self.lists("--student", "n.jones")
+        self.assertEqual(status, 0, told)
+        with open("lists/mails/n.jones.eml", "rb") as file:
+            self.assert_one_head(file.read())
 
     def test_names_that_would_be_lines_of_the_head(self) -> None:
         for called in (
@@ -150,23 +177,19 @@ class Attacks(WithMails):
             "N\\",
         ):
             with self.subTest(called):
-                self.called("n.jones", f"n.jones;{called};n.jones@school.example;Law")
-                status, told = self.lists()
-                self.assertEqual(status, 0, told)
-                self.assertEqual(self.heads("n.jones"), ["n.jones@school.example"])
-                with open("lists/mails/n.jones.eml", "rb") as file:
-                    head = file.read().split(b"\r\n\r\n")[0]
-                self.assertLessEqual(max(len(line) for line in head.split(b"\r\n")), 78)
-                self.assertNotIn(b"evil", head.replace(b'"', b""))
+                self.assert_one_head(self.written(f"n.jones;{called};n.jones@school.example;Law"))
+
+    def test_a_name_s_braces_are_no_field(self) -> None:
+        written = self.written("n.jones;{budget};n.jones@school.example;Law")
+        text = email.message_from_bytes(written, policy=email.policy.default).get_body().get_content()
+        self.assertIn("Dear {budget} ((student), Law)", text)
 
     def test_control_signs_are_refused(self) -> None:
         for called in ("N\x07Jones", "N\x1bJones", "N\u202eJones"):
             with self.subTest(called):
-                self.called("n.jones", f"n.jones;{called};n.jones@school.example;Law")
-                status, told = self.lists()
-                self.assertEqual(status, tell.FAULTS, told)
-                self.assertIn("the name of n.jones", told)
-                self.assertFalse(os.path.exists("lists"))
+                told = self.faults(f"n.jones;{called};n.jones@school.example;Law")
+                self.assertEqual(len(told), 1)
+                self.assertIn("the name of n.jones without control signs", told[0])
 
     def test_addresses_that_are_none(self) -> None:
         for address in (
@@ -174,11 +197,9 @@ class Attacks(WithMails):
             "N <n@school.example>", '"n@school.example\nBcc: x@y.example"', "n@school", "ñ@school.example", "n@" + "x." * 130 + "de",
         ):  # fmt: skip
             with self.subTest(address):
-                self.called("n.jones", f"n.jones;N Jones;{address};Law")
-                status, told = self.lists()
-                self.assertEqual(status, tell.FAULTS, told)
-                self.assertIn("the e-mail address of n.jones, as name@school.edu", told)
-                self.assertFalse(os.path.exists("lists"))
+                told = self.faults(f"n.jones;N Jones;{address};Law")
+                self.assertEqual(len(told), 1)
+                self.assertIn("the e-mail address of n.jones, as name@school.edu", told[0])
 
 
 @needs_program

@@ -76,7 +76,7 @@ class ByGroup(WithGroups):
         self.assertNotIn("envy somebody", told.out)
 
     def test_credits_in_the_school_s_unit(self) -> None:
-        self.put("mapping.ini", self.read("mapping.ini") + "[numbers]\ncredit unit = 0.5\n")
+        self.put("names.csv", "kind,original,name\nunit,0.5,credit\n")
         told = self.summary()
         self.assertEqual(told.status, 0, told.err)
         rows = {row[0]: row for row in cells(self.read("summary.html")) if len(row) == 10}
