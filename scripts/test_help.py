@@ -66,7 +66,8 @@ class Proofs(WithoutRt):
         for name in ("scripts", "page"):
             shutil.copytree(TOP / name, top / name, ignore=shutil.ignore_patterns("out", "__pycache__"))
         (top / "crates/market_program").mkdir(parents=True)
-        shutil.copy(TOP / "crates.txt", top)
+        for name in ("crates.txt", "VERSION"):
+            shutil.copy(TOP / name, top)
         for words in (["init", "-q"], ["add", "-A"], ["-c", "user.name=a", "-c", "user.email=a@b", "commit", "-qm", "all"]):
             subprocess.run(["git", *words], cwd=top, check=True)
         return top / "scripts"
