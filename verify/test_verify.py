@@ -2,6 +2,7 @@
 
 What needs the worked examples (shared/vectors, beside the repository) or the built program is skipped where that is not
 there, and says so."""
+import os
 import pathlib
 import re
 import subprocess
@@ -18,7 +19,7 @@ TERM = TOP / "examples" / "term"
 TABLES = [str(TERM / name) for name in ("catalogue.csv", "roll.csv", "settings.json")]
 SESSIONS = [str(TERM / name) for name in ("desk.session", "web.session")]
 EXAMPLES = TOP.parent / "shared" / "vectors" / "check"
-PROGRAM = TOP / "crates" / "market_program" / "out" / "market_program"
+PROGRAM = pathlib.Path(os.environ.get("COURSE_MATCH_PROGRAM") or TOP / "crates" / "market_program" / "out" / "market_program").resolve()
 
 
 class Examples(unittest.TestCase):
