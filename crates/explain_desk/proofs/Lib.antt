@@ -8,3 +8,4 @@ pub mod Printing
 pub mod Reasoning
 pub mod Students
 pub mod Telling
+pub mod OnlyTrees

@@ -30,7 +30,7 @@ one_text offer required champion one other (tree, is, written) (alike, so, spelt
     written ∙ ap spelled ((one_tree offer required (places_of offer.menu champion) 0 []).tree tree alike is so) ∙ sym spelt
 
 -- there is one best bundle with the section, with one tree
-one_proved : (offer : OfferData) (section : ℕ) (a b : Proved) → IsProvedWith offer section a → IsProvedWith offer section b → a ≡ b
+pub one_proved : (offer : OfferData) (section : ℕ) (a b : Proved) → IsProvedWith offer section a → IsProvedWith offer section b → a ≡ b
 one_proved offer section a b one other =
     let bundle : a.bundle ≡ b.bundle =
     (best_with_a_section offer.menu offer.price offer.budget offer.allowed section).only a.bundle b.bundle one.best other.best in

@@ -5,4 +5,5 @@ pub mod Limits
 pub mod Reasons
 pub mod Texts
 pub mod Told
+pub mod ToldTrees
 pub mod Views
