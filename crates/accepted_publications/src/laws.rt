@@ -1,5 +1,7 @@
 //! What holds of published texts: each call here does nothing, and its contract is a law.
-ghost use Rattle.accepted_publications.specs.Laws.{CertificateOfPublished, PublishedIsAccepted};
+ghost use Rattle.accepted_publications.specs.Laws.{AcceptedOrFound, CertificateOfPublished, PublishedIsAccepted};
+
+use market_menus::laws::each_has_a_menu;
 
 /// The certificate holds of whatever a market publishes, for whatever order its sessions' commands
 /// are taken in.
@@ -14,3 +16,13 @@ pub fn certificate_of_published()
 pub fn published_is_accepted()
     ensures { PublishedIsAccepted }
 {}
+
+/// Every text is accepted or has a first finding, where the catalogue and the roll are in their
+/// ranges: it cannot be neither, whatever memory there is. So it has no finding exactly where it is
+/// accepted, and otherwise one alone (`no_finding_in_accepted` and `one_first_finding` of
+/// `certificate_checker`).
+pub fn accepted_or_found()
+    ensures { AcceptedOrFound }
+{
+    each_has_a_menu();
+}

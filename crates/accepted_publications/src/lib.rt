@@ -1,5 +1,5 @@
-//! What is published is accepted: the law that joins how a market is held with how its text is
-//! checked. Definitions and a law alone.
+//! What is published is accepted, and every text is accepted or has a first finding: laws alone, on
+//! how a market is held and how its text is checked.
 #![tactic(auto)]
 
 pub mod laws;
