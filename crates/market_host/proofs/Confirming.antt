@@ -32,7 +32,7 @@ use Rattle.market_host.specs.Troubles.{HasSurplus, HasTrouble, IsFaulty, IsPastL
 use Rattle.market_host.proofs.Completions.{no_excess, not_faulty, same_text}
 
 -- inputs that are told were read as they are told
-same_texts : (held : Option Holding) (names told texts : List (List ℕ)) → AreTold held names told → AllZip (IsTextOf held) names texts → told ≡ texts
+pub same_texts : (held : Option Holding) (names told texts : List (List ℕ)) → AreTold held names told → AllZip (IsTextOf held) names texts → told ≡ texts
 same_texts held [] [] [] are each = refl
 same_texts held [] [] (x ∷ texts) are each = absurd each
 same_texts held [] (t ∷ told) texts are each = absurd are
@@ -56,7 +56,7 @@ one_list (s ∷ sessions) (x ∷ one) (y ∷ other) are also =
     cc
 
 -- what is so of the market and the streams that texts stand for is so of those that they also stand for
-moved_market : (catalog roll settings : List ℕ) (sessions : List (List ℕ)) (one other : Market) (streams also : List (List Command))
+pub moved_market : (catalog roll settings : List ℕ) (sessions : List (List ℕ)) (one other : Market) (streams also : List (List Command))
     (P : Market → List (List Command) → Type 0)
     → IsMarketOf catalog roll settings sessions one streams
     → IsMarketOf catalog roll settings sessions other also → P one streams → P other also

@@ -10,10 +10,12 @@ pub mod InputTroubles
 pub mod LineTexts
 pub mod ListedSections
 pub mod MarketFacts
+pub mod OneTexts
 pub mod PreferFacts
 pub mod QuoteFacts
 pub mod QuoteWords
 pub mod ReadOut
+pub mod ReadTables
 pub mod RunFacts
 pub mod SessionTraces
 pub mod SessionsRead

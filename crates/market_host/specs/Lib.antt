@@ -14,6 +14,7 @@ pub mod Lines
 pub mod Makes
 pub mod Markets
 pub mod Marks
+pub mod OneTexts
 pub mod Outcomes
 pub mod Preferences
 pub mod Programs
