@@ -1,23 +1,42 @@
 -- Two calls that are given the same inputs write one text.
 use Rattle.std.proofs.Common.{ℕ, ◌≡◌, ◌∙◌, List, [], ◌∷◌, ◌++◌, drop, ap, sym, subst, arith}
+use Rattle.course_catalog.specs.Sections.{section_names}
+use Rattle.student_roll.specs.Students.{names_of}
+use Rattle.bundle_rules.specs.Menus.{IsMenu}
+use Rattle.demand_api.specs.Crowds.{CrowdData}
 use Rattle.market_certificate.specs.Publications.{IsPublication, Publication}
 use Rattle.market_certificate.specs.Lines.{joined}
 use Rattle.market_certificate.specs.Tables.{AreTables}
 use Rattle.market_certificate.specs.Texts.{head_line, lines_of, order_line, text_of}
+use Rattle.market_certificate.proofs.Bundles.{different}
 use Rattle.market_certificate.proofs.Cuts.{cut_once}
 use Rattle.market_certificate.proofs.OneText.{lines_lack, one_publication}
+use Rattle.market_units.specs.declared.names.Name.{Name}
+use Rattle.market_units.specs.Name.{name_bytes}
 use Rattle.market_words.specs.declared.words.Form.{Form}
-use Rattle.market_words.specs.declared.words.Form.TheVariants.{Run}
+use Rattle.market_words.specs.declared.words.Form.TheVariants.{Audit, Explain, Run}
 use Rattle.market_words.specs.Forms.{HasForm, inputs_of}
 use Rattle.market_words.proofs.OneForm.{one_form}
 use Rattle.published_market.specs.Laws.{OnePublishedText}
 use Rattle.published_market.specs.Publishing.{IsPublishedText}
 use Rattle.published_parts.specs.Markets.{Market, tables_in}
+use Rattle.published_parts.specs.Offers.{student_in}
+use Rattle.published_parts.proofs.OneCrowds.{one_crowd_after}
+use Rattle.certificate_checker.specs.Certificates.{HoldsBy, IsTextOf}
+use Rattle.certificate_checker.specs.Students.{offer_in, proved_in}
+use Rattle.certificate_checker.proofs.Refusing.{menu_sound}
+use Rattle.explain_desk.specs.Explanations.{ExplainedData, IsExplained}
+use Rattle.explain_desk.specs.Texts.{explained_text}
+use Rattle.explain_desk.proofs.Telling.{one_explanation}
+use Rattle.fairness_audit.specs.Audits.{IsAuditOf, final_in, settled_in}
+use Rattle.fairness_audit.specs.Rows.{rows}
+use Rattle.fairness_audit.specs.Texts.{audit_text}
 use Rattle.utility_language.specs.declared.commands.Command.{Command}
 use Rattle.market_host.specs.declared.status.Status.TheVariants.{Done}
+use Rattle.market_host.specs.Explains.{IsReasonOf}
 use Rattle.market_host.specs.Inputs.{AreRead, AreTold}
 use Rattle.market_host.specs.Markets.{IsMarketOf}
-use Rattle.market_host.specs.OneTexts.{HasOrderLine, OneTextAnOrder}
+use Rattle.market_host.specs.OneTexts.{HasOrderLine, OneAuditTold, OneReasonTold, OneTextAnOrder}
 use Rattle.market_host.specs.Outcomes.{IsOutcome, Prints}
 use Rattle.market_host.specs.Sights.{Sight}
 use Rattle.market_host.proofs.Confirming.{moved_market, same_texts}
@@ -110,3 +129,110 @@ pub one_text_an_order : OnePublishedText → OneTextAnOrder
 one_text_an_order law one other at_one at_other workers also line text alike same first second has have =
     runs_alike law workers also same.texts line text alike (printed (Run workers) one at_one same.texts text same.is_one same.told_to_one first)
     (printed (Run also) other at_other same.texts alike same.is_other same.told_to_other second) has have
+
+-- two readings of one accepted text
+module _ (market : Market) (streams : List (List Command)) (published : List ℕ) (are : AreTables (tables_in market)) where
+  -- are of one publication
+  one_read : (p q : Publication) → IsTextOf market p published → IsTextOf market q published → p ≡ q
+  one_read p q is so = one_publication (tables_in market) are p q is.is_publication so.is_publication (sym is.written ∙ so.written)
+
+  -- and by one crowd
+  one_crowd_read : (p q : Publication) (crowd also : CrowdData) → p ≡ q → HoldsBy market streams p crowd → HoldsBy market streams q also → crowd ≡ also
+  one_crowd_read p q crowd also same holds hold =
+      one_crowd_after market streams q.order crowd also (subst (λ (r : Publication). HoldsBy market streams r crowd) same holds).is_crowd hold.is_crowd
+
+  -- one reason is told
+  one_reason_of : (student section text alike : List ℕ) → IsReasonOf market streams published student section text
+      → IsReasonOf market streams published student section alike → text ≡ alike
+  one_reason_of student section text alike is so =
+      let p : is.publication ≡ so.publication = one_read is.publication so.publication is.is_text so.is_text in
+      let crowd : is.crowd ≡ so.crowd = one_crowd_read is.publication so.publication is.crowd so.crowd p is.holds so.holds in
+      let number : is.number ≡ so.number =
+      different (names_of market.roll.students) is.number so.number are.students.distinct is.student_of.0 so.student_of.0
+      (is.student_of.1 ∙ sym so.student_of.1) in
+      let place : is.place ≡ so.place =
+      different (section_names market.catalog.sections) is.place so.place are.sections.distinct is.section_of.0 so.section_of.0
+      (is.section_of.1 ∙ sym so.section_of.1) in
+      let menu : IsMenu (student_in so.crowd so.number).menu = menu_sound market streams so.publication.order so.crowd so.number so.holds.is_crowd in
+      let explained : is.explained ≡ so.explained =
+      one_explanation (offer_in so.crowd so.publication so.number) (proved_in so.publication so.number).bundle so.place is.explained so.explained menu
+      (subst (λ (s : ℕ). IsExplained (offer_in so.crowd so.publication so.number) (proved_in so.publication so.number).bundle s is.explained) place
+      (subst (λ (n : ℕ). IsExplained (offer_in so.crowd so.publication n) (proved_in so.publication n).bundle is.place is.explained) number
+      (subst (λ (c : CrowdData). IsExplained (offer_in c so.publication is.number) (proved_in so.publication is.number).bundle is.place is.explained) crowd
+      (subst (λ (r : Publication). IsExplained (offer_in is.crowd r is.number) (proved_in r is.number).bundle is.place is.explained) p is.is_explained))))
+      so.is_explained in
+      is.told
+      ∙ ap
+      (λ (r : Publication). explained_text (section_names market.catalog.sections) (student_in is.crowd is.number).menu student is.place
+      (proved_in r is.number).bundle is.explained)
+      p
+      ∙ ap
+      (λ (c : CrowdData). explained_text (section_names market.catalog.sections) (student_in c is.number).menu student is.place
+      (proved_in so.publication is.number).bundle is.explained)
+      crowd
+      ∙ ap
+      (λ (n : ℕ). explained_text (section_names market.catalog.sections) (student_in so.crowd n).menu student is.place
+      (proved_in so.publication n).bundle is.explained)
+      number
+      ∙ ap
+      (λ (s : ℕ). explained_text (section_names market.catalog.sections) (student_in so.crowd so.number).menu student s
+      (proved_in so.publication so.number).bundle is.explained)
+      place
+      ∙ ap
+      (λ (e : ExplainedData). explained_text (section_names market.catalog.sections) (student_in so.crowd so.number).menu student so.place
+      (proved_in so.publication so.number).bundle e)
+      explained
+      ∙ sym so.told
+
+  -- one audit is told
+  one_audit_of : (text alike : List ℕ) → IsAuditOf market streams published text → IsAuditOf market streams published alike → text ≡ alike
+  one_audit_of text alike is so =
+      let p : is.publication ≡ so.publication = one_read is.publication so.publication is.is_text so.is_text in
+      let crowd : is.crowd ≡ so.crowd = one_crowd_read is.publication so.publication is.crowd so.crowd p is.holds so.holds in
+      is.is_audited
+      ∙ ap
+      (λ (r : Publication). audit_text (names_of market.roll.students) (section_names market.catalog.sections) (rows (settled_in is.crowd r))
+      (rows (final_in is.crowd r)))
+      p
+      ∙ ap
+      (λ (c : CrowdData). audit_text (names_of market.roll.students) (section_names market.catalog.sections) (rows (settled_in c so.publication))
+      (rows (final_in c so.publication)))
+      crowd
+      ∙ sym so.is_audited
+
+-- what `explain` prints for texts is one text
+reasons_alike : (student section : Name) (texts : List (List ℕ)) (text alike : List ℕ) → Prints (Explain student section) texts text
+    → Prints (Explain student section) texts alike → text ≡ alike
+reasons_alike student section (catalog ∷ roll ∷ settings ∷ published ∷ sessions) text alike (market, streams, read, is) so =
+    let moved : IsReasonOf so.0 so.1 published (name_bytes student) (name_bytes section) text =
+    moved_market catalog roll settings sessions market so.0 streams so.1
+    (λ m s. IsReasonOf m s published (name_bytes student) (name_bytes section) text) read so.2 is in
+    one_reason_of so.0 so.1 published (tables_read catalog roll settings sessions so.0 so.1 so.2) (name_bytes student) (name_bytes section) text alike moved
+    so.3
+reasons_alike student section (catalog ∷ roll ∷ settings ∷ []) text alike is so = absurd is
+reasons_alike student section (catalog ∷ roll ∷ []) text alike is so = absurd is
+reasons_alike student section (catalog ∷ []) text alike is so = absurd is
+reasons_alike student section [] text alike is so = absurd is
+
+pub one_reason_told : OneReasonTold
+one_reason_told one other at_one at_other student section text alike same first second =
+    reasons_alike student section same.texts text alike
+    (printed (Explain student section) one at_one same.texts text same.is_one same.told_to_one first)
+    (printed (Explain student section) other at_other same.texts alike same.is_other same.told_to_other second)
+
+-- what `audit` prints for texts is one text
+audits_alike : (workers also : ℕ) (texts : List (List ℕ)) (text alike : List ℕ) → Prints (Audit workers) texts text → Prints (Audit also) texts alike
+    → text ≡ alike
+audits_alike workers also (catalog ∷ roll ∷ settings ∷ published ∷ sessions) text alike (market, streams, read, is) so =
+    let moved : IsAuditOf so.0 so.1 published text =
+    moved_market catalog roll settings sessions market so.0 streams so.1 (λ m s. IsAuditOf m s published text) read so.2 is in
+    one_audit_of so.0 so.1 published (tables_read catalog roll settings sessions so.0 so.1 so.2) text alike moved so.3
+audits_alike workers also (catalog ∷ roll ∷ settings ∷ []) text alike is so = absurd is
+audits_alike workers also (catalog ∷ roll ∷ []) text alike is so = absurd is
+audits_alike workers also (catalog ∷ []) text alike is so = absurd is
+audits_alike workers also [] text alike is so = absurd is
+
+pub one_audit_told : OneAuditTold
+one_audit_told one other at_one at_other workers also text alike same first second =
+    audits_alike workers also same.texts text alike (printed (Audit workers) one at_one same.texts text same.is_one same.told_to_one first)
+    (printed (Audit also) other at_other same.texts alike same.is_other same.told_to_other second)

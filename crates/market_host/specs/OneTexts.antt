@@ -1,8 +1,9 @@
 -- Two calls that are given the same inputs write one text.
 use Rattle.std.specs.Prelude.{ℕ, ◌≡◌, List, ◌∷◌, ◌++◌}
 use Rattle.market_certificate.specs.Lines.{Lacks}
+use Rattle.market_units.specs.declared.names.Name.{Name}
 use Rattle.market_words.specs.declared.words.Form.{Form}
-use Rattle.market_words.specs.declared.words.Form.TheVariants.{Run}
+use Rattle.market_words.specs.declared.words.Form.TheVariants.{Audit, Explain, Run}
 use Rattle.market_words.specs.Forms.{HasForm, inputs_of}
 use Rattle.market_host.specs.declared.status.Status.TheVariants.{Done}
 use Rattle.market_host.specs.Inputs.{AreTold}
@@ -36,3 +37,19 @@ OneTextAnOrder =
     → HaveSameInputs (Run workers) (Run also) one other at_one at_other
     → IsOutcome one at_one Done text → IsOutcome other at_other Done alike
     → HasOrderLine line text → HasOrderLine line alike → text ≡ alike
+
+-- what is told of an accepted text by two calls of `explain` for one student and one section is one
+-- text
+abbrev pub OneReasonTold : Type 0
+OneReasonTold =
+    (one other : List (List ℕ)) (at_one at_other : Sight) (student section : Name)
+    (text alike : List ℕ)
+    → HaveSameInputs (Explain student section) (Explain student section) one other at_one at_other
+    → IsOutcome one at_one Done text → IsOutcome other at_other Done alike → text ≡ alike
+
+-- what is told of it by two calls of `audit`, with any numbers of workers, is one text
+abbrev pub OneAuditTold : Type 0
+OneAuditTold =
+    (one other : List (List ℕ)) (at_one at_other : Sight) (workers also : ℕ) (text alike : List ℕ)
+    → HaveSameInputs (Audit workers) (Audit also) one other at_one at_other
+    → IsOutcome one at_one Done text → IsOutcome other at_other Done alike → text ≡ alike

@@ -1,7 +1,7 @@
 //! What holds of calls that follow one another: each call here does nothing, and its contract is a
 //! law.
 ghost use Rattle.market_host.specs.Confirmations.{RunIsConfirmed};
-ghost use Rattle.market_host.specs.OneTexts.{OneTextAnOrder};
+ghost use Rattle.market_host.specs.OneTexts.{OneAuditTold, OneReasonTold, OneTextAnOrder};
 
 use published_market::laws::one_published_text;
 
@@ -20,3 +20,15 @@ pub fn one_text_an_order()
 {
     one_published_text();
 }
+
+/// Two calls of `explain` that answer 0 for the same inputs, student and section have written the
+/// same bytes.
+pub fn one_reason_told()
+    ensures { OneReasonTold }
+{}
+
+/// Two calls of `audit` that answer 0 for the same inputs have written the same bytes, whatever the
+/// number of workers of each.
+pub fn one_audit_told()
+    ensures { OneAuditTold }
+{}
