@@ -92,7 +92,8 @@ def leave(made: Room, name: str) -> None:
 
 def explain(made: Room, name: str, section: str) -> program.Answer:
     """What the program answers for this student, who has entered, and this section, which one of its commands names."""
-    return program.call([
+    words = [
         "explain", made.path(name + ".catalogue"), made.path(name + ".roll"), made.path("settings.json"),
         made.path(name + ".text"), name, section, made.path(name + ".session"),
-    ])  # fmt: skip
+    ]  # fmt: skip
+    return program.call(words, is_brief=True)

@@ -21,6 +21,9 @@ TOP = os.path.dirname(os.path.dirname(os.path.dirname(os.path.abspath(__file__))
 # Where the program stands in the repository, and in a release; `$COURSE_MATCH_PROGRAM` comes before both.
 PLACES = ("crates/market_program/out/market_program", "bin/market_program")
 
+# So many seconds a call is waited for until it is looked whether a signal came.
+LOOKED_AFTER = 0.5
+
 # The inputs of each form, in the order of its words; the last one may come several times. A capital word is no input.
 FORMS: Dict[str, Tuple[str, ...]] = {
     "run": ("WORKERS", "catalogue", "roll", "settings", "session"),
@@ -87,11 +90,13 @@ def sha256(path: str) -> str:
     return hashlib.sha256(tables.read_bytes(path)).hexdigest()
 
 
-def call(words: Sequence[str], life: Optional[Life] = None, output: Optional[BinaryIO] = None) -> Answer:
+def call(
+    words: Sequence[str], life: Optional[Life] = None, output: Optional[BinaryIO] = None, is_brief: bool = False
+) -> Answer:
     """Calls the program with these words. What it prints goes to the file `output`, or into the answer.
 
     The status is the program's own. A program that was killed has none, and that is a refusal of ours. It ends when this
-    process ends.
+    process ends; a brief call, which is over in a moment, is not bound to that, since binding it takes longer than the call.
     """
     program = find_program()
     refuse_many(words)
@@ -100,11 +105,11 @@ def call(words: Sequence[str], life: Optional[Life] = None, output: Optional[Bin
         target = output if output is not None else kept
         try:
             process = subprocess.Popen(
-                [program, *words], stdin=subprocess.DEVNULL, stdout=target, preexec_fn=ending.tied()
+                [program, *words], stdin=subprocess.DEVNULL, stdout=target, preexec_fn=None if is_brief else ending.tied()
             )
         except OSError as error:
             raise Trouble(f"{program} can not be called: {error.strerror}", NO_PROGRAM) from error
-        status = wait(process, life)
+        status = wait(process, life, None if is_brief else LOOKED_AFTER)
         kept.seek(0)
         found = kept.read()
     elapsed = time.monotonic() - begun
@@ -122,13 +127,13 @@ def refuse_many(words: Sequence[str]) -> None:
         raise Trouble(f"{sessions} sessions are given; the program takes at most {tables.MAX_SESSIONS}", USAGE)
 
 
-def wait(process: subprocess.Popen[bytes], life: Optional[Life]) -> int:
-    """Waits for the program, and tells the line of life meanwhile."""
+def wait(process: subprocess.Popen[bytes], life: Optional[Life], seconds: Optional[float]) -> int:
+    """Waits for the program. Each time so many seconds have gone it tells the line of life, and heeds a signal that came."""
     try:
         while True:
             ending.heed()
             try:
-                return process.wait(timeout=0.5)
+                return process.wait(timeout=seconds)
             except subprocess.TimeoutExpired:
                 if life:
                     life.tick()
