@@ -299,6 +299,33 @@ class FullDisk(InFolder):
         self.assertEqual(told[1], f"status {tell.FAULTS}")
         self.assertNotIn("made", told)
 
+    def test_each_other_command(self) -> None:
+        """Behind a good run the disk is full to its last byte: each names the file, and nothing is left or lost."""
+        self.scarce()
+        self.put("b.requests", "add u X\n")
+        self.sources([*SCARCE_WORDS, "b.requests"], ".")
+        commands = (
+            "lists --no-reasons", "summary", "next", "hall b.requests", "audit --out envy.txt",
+            f"settings {' '.join(SCARCE_WORDS)} --take 20 1 --write new.json", f"run {' '.join(SCARCE_WORDS)}",
+        )  # fmt: skip
+        called = "; ".join(f'"$0" -m registrar {words}; echo "status $?"' for words in commands)
+        script = (
+            f'"$0" -m registrar run {" ".join(SCARCE_WORDS)} && sha256sum * > /tmp/sums && cat /dev/zero > ballast; '
+            f'{called}; find . -type f | sort; grep -v course-match.log /tmp/sums | sha256sum -c --quiet && echo whole'
+        )
+        folder = os.path.join(self.folder, "disk")
+        os.makedirs(folder)
+        script = f'cp "{self.folder}"/sources/* . && {script.replace("/tmp/sums", self.folder + "/sums")}'
+        told = on_small_disk(folder, "sh", "-c", script, sys.executable).stdout
+        for name in ("lists/students.csv", "summary.html", "roll.next.csv", "hall.requests", "envy.txt", "new.json"):
+            self.assertRegex(told, rf"(?m)^(\./)?{name} can not be written: No space left on device$")
+        self.assertIn("published.txt can not be written: The output was not taken whole: the disk is full", told)
+        self.assertEqual(told.count(f"status {tell.FAULTS}\n"), 6)
+        files = [line[2:] for line in told.splitlines() if line.startswith("./") and " " not in line]
+        kept = [*SCARCE_WORDS, "b.requests", "ballast", "course-match.log", "manifest.json", "published.txt", tell.TIMES]
+        self.assertEqual(files, sorted(kept))
+        self.assertTrue(told.endswith("whole\n"), told)
+
 
 if __name__ == "__main__":
     unittest.main()
