@@ -6,7 +6,7 @@ import os
 from dataclasses import dataclass
 from typing import Iterator, Sequence
 
-from registrar import manifest, tables, tell
+from registrar import manifest, own_names, tables, tell
 from registrar.exported import Export, Row
 from registrar.faults import Faults
 from registrar.mapping import Mapping, Source, read_mapping, split
@@ -52,7 +52,8 @@ class Gatherer:
             self.mapping: Mapping = read_mapping(path, faults)
         except OSError as error:
             raise tell.Trouble(f"{path} can not be read: {error.strerror}", tell.NO_FILE) from error
-        self.students = known("student", self.mapping.students, [one.name for one in tables.read_roll(found.roll)])
+        rules = own_names.with_drawn(self.mapping.students, own_names.beside(found.catalogue))
+        self.students = known("student", rules, [one.name for one in tables.read_roll(found.roll)])
         self.sections = known("section", self.mapping.sections, [one.code for one in tables.read_catalogue(found.catalogue)])
 
     def requests(self) -> list[Request]:

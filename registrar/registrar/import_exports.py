@@ -9,7 +9,7 @@ import sys
 from dataclasses import dataclass, field
 from typing import Container
 
-from registrar import at_work, guess, own_names, tables, tell
+from registrar import at_work, guess, own_names, pseudonyms, tables, tell
 from registrar.amounts import AmountFault, in_units, seats, whole
 from registrar.exported import Export, Row
 from registrar.faults import Faults
@@ -48,6 +48,10 @@ def add_arguments(parser: argparse.ArgumentParser) -> None:
     )
     parser.add_argument("--into", metavar="FOLDER", help="where the files are written (default: the mapping's folder)")
     parser.add_argument("--replace", action="store_true", help="write over files that stand there and differ")
+    parser.add_argument(
+        "--pseudonyms", action="store_true",
+        help=f"draw a name for each student; {pseudonyms.FILE}, beside the register, keeps whose each is, and is not to be published",
+    )
     parser.add_argument("--faults", metavar="FILE", help="write the faults as a table too")
     parser.add_argument(
         "--allow", action="append", default=[], choices=[NOT_ON_ROLL], metavar="KIND",
@@ -72,17 +76,41 @@ def run(arguments: argparse.Namespace) -> int:
             tell.NO_FILE,
         )
     faults = Faults()
-    made = Importer(arguments.mapping, faults, set(arguments.allow)).made()
+    importer = Importer(arguments.mapping, faults, set(arguments.allow))
+    if not arguments.pseudonyms:
+        return import_all(arguments, importer, "")
+    place = importer.place_of_key()
+    if place:
+        pseudonyms.refuse_among(place, folder_of(arguments))
+        with at_work.in_folder(os.path.realpath(os.path.dirname(place) or "."), NAME):
+            return import_all(arguments, importer, place)
+    return import_all(arguments, importer, "")
+
+
+def folder_of(arguments: argparse.Namespace) -> str:
+    """The folder into which files are written."""
+    return arguments.into or os.path.dirname(arguments.mapping) or "."
+
+
+def import_all(arguments: argparse.Namespace, importer: Importer, place: str) -> int:
+    """Imports, with drawn names where there is a place for their key."""
+    folder, faults = folder_of(arguments), importer.faults
+    refuse_own_among_drawn(folder, arguments.pseudonyms)
+    key = importer.known_by(pseudonyms.read(place)) if place else None
+    made = importer.made()
     made.limits(faults)
     if arguments.faults:
         exports = [("export", source.path) for source in made.mapping.sources]
         tables.refuse_over([arguments.faults], [("mapping", arguments.mapping), *exports])
     if faults:
         return tell_faults(faults, arguments.faults, arguments.mapping)
-    folder = arguments.into or os.path.dirname(arguments.mapping) or "."
+    if key:
+        made.draw(key, folder)
     files = made.files()
     refuse_exports(folder, files, made.mapping)
-    write_all(folder, files, arguments.replace)
+    write_all(folder, files, arguments.replace, key.changes() if key else {})
+    if key:
+        key.hide()
     for line in [*made.lines(), *strange_sessions(folder, files)]:
         tell.say(line)
     return 0
@@ -95,6 +123,13 @@ def tell_faults(faults: Faults, table: str | None, mapping: str) -> int:
         tables.write_whole(table, tables.sheet_bytes(faults.rows()))
     tell.say(f"nothing is written; correct the exports, or {mapping}, and run again")
     return faults.status
+
+
+def refuse_own_among_drawn(folder: str, draws: bool) -> None:
+    """Refuses own names in a folder whose students have drawn ones: they would be published beside them."""
+    path = os.path.join(folder, own_names.FILE)
+    if not draws and os.path.exists(path) and own_names.are_drawn(own_names.read(path)):
+        raise tell.Trouble(f"the students in {folder} have drawn names: say `--pseudonyms`, or `--into` another folder")
 
 
 def refuse_exports(folder: str, files: dict[str, bytes], mapping: Mapping) -> None:
@@ -140,6 +175,17 @@ class Importer:
         self.sections = Names("section", self.mapping.sections)
         self.courses = Names("course", self.mapping.courses)
         self.result = Made(self.mapping)
+
+    def place_of_key(self) -> str:
+        """Where the key of drawn names is: beside the register; nothing where the mapping has none, which is a fault of its own."""
+        registers = self.mapping.of_kind("roll")
+        return pseudonyms.beside(registers[0].path) if registers else ""
+
+    def known_by(self, key: pseudonyms.Key) -> pseudonyms.Key:
+        """The key, by whose drawn names exports may name students too: what they saved by the page has them."""
+        for row in key.rows.values():
+            self.mapping.students.same.setdefault(row.drawn, row.own)
+        return key
 
     def made(self) -> Made:
         """The files' content. Where there are faults it is not to be used."""
@@ -337,16 +383,17 @@ class Importer:
             self.result.roll.append(cells)
 
 
-def write_all(folder: str, files: dict[str, bytes], replace: bool) -> None:
+def write_all(folder: str, files: dict[str, bytes], replace: bool, besides: dict[str, bytes] | None = None) -> None:
     """Writes all files, or none where one can not be written or stands there with another content.
 
-    Each is written under another name first; they take their names when all are whole.
+    Each is written under another name first; they take their names when all are whole. `besides` has paths of files elsewhere
+    that are written with them, and first, over what stands there.
     """
     paths = {os.path.normpath(os.path.join(folder, name)): content for name, content in files.items()}
     if not replace:
         refuse_standing(paths)
     with at_work.made(folder):
-        write_files(paths)
+        write_files({**(besides or {}), **paths})
 
 
 def refuse_standing(paths: dict[str, bytes]) -> None:

@@ -3,13 +3,13 @@
 from __future__ import annotations
 
 import os
-from dataclasses import dataclass, field
+from dataclasses import dataclass, field, replace
 
-from registrar import own_names, tables, tell
+from registrar import own_names, pseudonyms, tables, tell
 from registrar.amounts import grouped
 from registrar.faults import Faults, spans
 from registrar.mapping import OF_WISHES, Mapping
-from registrar.surveys import Survey
+from registrar.surveys import Survey, Wish
 from registrar.tally import Tally
 
 #: The limits of the program.
@@ -39,22 +39,45 @@ class Made:
     #: The rows of `names.csv` that have no names: each section's meetings as the timetable writes them.
     written: list[list[str]] = field(default_factory=list)
     notes: list[str] = field(default_factory=list)
+    #: The key, where students have drawn names, and the row of `names.csv` that says where it is.
+    key: pseudonyms.Key | None = None
+    place: list[str] = field(default_factory=list)
+
+    def draw(self, key: pseudonyms.Key, folder: str) -> None:
+        """Gives each student a drawn name in what is written into this folder."""
+        key.draw({name: original for kind, original, name in self.names if kind == "student"})
+        self.key, self.place = key, pseudonyms.row_of_names(key.path, folder)
 
     def files(self) -> dict[str, bytes]:
-        """The files by name."""
+        """The files by name. With a key students have drawn names, and stand in their order, which tells nothing of the register's."""
         files = {
             "catalogue.csv": tables.csv_text(self.catalogue).encode(),
-            "roll.csv": tables.csv_text(self.roll).encode(),
+            "roll.csv": tables.csv_text(self.drawn_roll()).encode(),
             own_names.FILE: tables.sheet_bytes(self.own_rows()),
         }
         for survey in self.surveys:
-            files[f"{survey.name}.session"] = session_text(survey).encode()
+            files[f"{survey.name}.session"] = session_text(survey.name, self.drawn_wishes(survey)).encode()
         return files
 
+    def drawn_roll(self) -> list[list[str]]:
+        """The roll, with drawn names where there is a key."""
+        if self.key is None:
+            return self.roll
+        key = self.key
+        return [*self.roll[:1], *sorted([key.drawn(row[0]), *row[1:]] for row in self.roll[1:])]
+
+    def drawn_wishes(self, survey: Survey) -> list[Wish]:
+        """The wishes of a survey, with drawn names where there is a key."""
+        if self.key is None:
+            return survey.wishes
+        wishes = [replace(wish, student=self.key.drawn(wish.student)) for wish in survey.wishes]
+        return sorted(wishes, key=lambda wish: wish.student)
+
     def own_rows(self) -> list[list[str]]:
-        """The rows of `names.csv`: the names, the meetings, and the unit of credits."""
+        """The rows of `names.csv`: the names, the meetings, and the unit of credits; of drawn names where their key is."""
         unit = own_names.rows_of_units(self.mapping.unit, self.mapping.decimal)
-        return [["kind", "original", "name"], *self.names, *self.written, *unit]
+        names = [row for row in self.names if self.key is None or row[0] != "student"]
+        return [["kind", "original", "name"], *names, *self.written, *unit, *([self.place] if self.place else [])]
 
     def limits(self, faults: Faults) -> None:
         """Adds what passes the limits of the program."""
@@ -86,8 +109,12 @@ class Made:
             wishes = tell.count(len(survey.wishes), "wish", "wishes")
             lines.append(f"{survey.name}.session: {wishes} of {tell.count(len(named), 'student', 'students')}")
             lines += of_survey(survey)
-        spelt = sum(original != name for _, original, name in self.names)
-        lines.append(f"{own_names.FILE}: {tell.count(len(self.names), 'name', 'names')}, {spelt} of them spelt anew")
+        names = [row for row in self.names if self.key is None or row[0] != "student"]
+        spelt = sum(original != name for _, original, name in names)
+        lines.append(f"{own_names.FILE}: {tell.count(len(names), 'name', 'names')}, {spelt} of them spelt anew")
+        if self.key is not None:
+            count = tell.count(len(self.key.rows), "drawn name", "drawn names")
+            lines.append(f"{self.key.path}: {count}, {self.key.new} of them new; keep it, and keep it apart from what is published")
         lines += self.notes
         for tally in [*self.tallies, *(survey.tally for survey in self.surveys)]:
             lines += tally.lines()
@@ -142,7 +169,7 @@ def some(words: list[str], most: int = NAMED) -> str:
     return ", ".join(words[:most]) + more
 
 
-def session_text(survey: Survey) -> str:
+def session_text(name: str, wishes: list[Wish]) -> str:
     """A survey as a session."""
-    lines = [f"# The survey {survey.name}, written by `registrar import`."]
-    return "\n".join(lines + [wish.command() for wish in survey.wishes]) + "\n"
+    lines = [f"# The survey {name}, written by `registrar import`."]
+    return "\n".join(lines + [wish.command() for wish in wishes]) + "\n"

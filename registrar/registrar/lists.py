@@ -7,7 +7,7 @@ import concurrent.futures
 import os
 import tempfile
 from dataclasses import dataclass
-from typing import Callable, Dict, FrozenSet, List, Optional, Sequence, Tuple
+from typing import Callable, Dict, FrozenSet, Iterable, List, Optional, Sequence, Tuple
 
 from registrar import (
     alone, explain, mails, manifest, own_names, program, published, reasons, register, run_market, sheet, streams, tables, tell,
@@ -84,7 +84,7 @@ def run(arguments: argparse.Namespace) -> int:
     names = chosen(arguments.student, market)
     made = register.read_or_tell(arguments.mapping, found.catalogue, found.roll) if arguments.mapping else None
     post, mailed = post_of(arguments, made, names)
-    tables.refuse_over(targets(arguments.out, names, mailed), read_by(arguments, found, made))
+    tables.refuse_over(targets(arguments.out, stems_of(market, names), stems_of(market, mailed)), read_by(arguments, found, made))
     tables.make_folder(os.path.join(arguments.out, "students"))
     own = market.own
     books = {
@@ -100,7 +100,7 @@ def run(arguments: argparse.Namespace) -> int:
         room = None if arguments.no_reasons else alone.room(folder, market, commands)
         ask = Ask(found, market, own_lines(market.text), streams.by_student(commands), room, post, frozenset(mailed))
         write_texts(arguments.out, ask, names, arguments.workers)
-    warn_of_others(arguments.out, list(market.students))
+    warn_of_others(arguments.out, stems_of(market, market.students))
     texts = tell.count(len(names), "text", "texts")
     tell.say(f"{arguments.out}: students.csv, rosters.csv, sections.csv, and {texts} in students/, each with the student's session")
     if post is not None:
@@ -133,9 +133,14 @@ def post_of(
     return post, mailed
 
 
-def targets(folder: str, names: Sequence[str], mailed: Sequence[str]) -> List[str]:
-    """The files that are written."""
-    texts = [os.path.join("students", name + ending) for name in names for ending in (".txt", ".session")]
+def stems_of(market: reasons.Market, names: Iterable[str]) -> List[str]:
+    """What the files of these students are called by: never by a drawn name, where its own is known."""
+    return [own_names.file_of(market.own, name) for name in names]
+
+
+def targets(folder: str, stems: Sequence[str], mailed: Sequence[str]) -> List[str]:
+    """The files that are written: the texts of these students, and the mails of those."""
+    texts = [os.path.join("students", name + ending) for name in stems for ending in (".txt", ".session")]
     posted = [os.path.join("mails", name + ".eml") for name in mailed]
     return [os.path.join(folder, name) for name in ("students.csv", "rosters.csv", "sections.csv", BOOK, *texts, *posted)]
 
@@ -222,7 +227,8 @@ def write_texts(folder: str, ask: Ask, names: Sequence[str], workers: int) -> No
         tasks = [pool.submit(told_of, ask, name) for name in names]
         try:
             for done, (name, task) in enumerate(zip(names, tasks), 1):
-                write_told(folder, name, task.result(), own_session(name, ask.said.get(name, [])))
+                stem = own_names.file_of(ask.market.own, name)
+                write_told(folder, stem, task.result(), own_session(name, ask.said.get(name, [])))
                 life.what = f"texts: {done} of {len(names)}"
                 life.tick()
         finally:
@@ -232,13 +238,13 @@ def write_texts(folder: str, ask: Ask, names: Sequence[str], workers: int) -> No
     life.end()
 
 
-def write_told(folder: str, name: str, told: Told, session: bytes) -> None:
-    """Writes what a student is told: its text, what it said, and its mail, where it has one."""
-    path = os.path.join(folder, "students", name)
+def write_told(folder: str, stem: str, told: Told, session: bytes) -> None:
+    """Writes what a student is told under the name of its files: its text, what it said, and its mail, where it has one."""
+    path = os.path.join(folder, "students", stem)
     tables.write_whole(path + ".txt", told.text.encode("utf-8"))
     tables.write_whole(path + ".session", session)
     if told.mail is not None:
-        tables.write_whole(os.path.join(folder, "mails", name + ".eml"), told.mail)
+        tables.write_whole(os.path.join(folder, "mails", stem + ".eml"), told.mail)
 
 
 def warn_of_others(folder: str, names: Sequence[str]) -> None:

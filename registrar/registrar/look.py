@@ -13,7 +13,7 @@ from collections import Counter
 from dataclasses import dataclass, field
 from typing import Iterable, Sequence
 
-from registrar import program, table_faults, tables, tell
+from registrar import own_names, program, table_faults, tables, tell
 from registrar.faults import Faults, shown
 from registrar.spelling import Meant
 
@@ -152,9 +152,11 @@ def findings(seen: Seen) -> list[Finding]:
         found += of_session(seen, number, path)
     found += given_twice(seen.paths)
     found += in_two_sessions(seen)
+    own = own_names.beside(seen.sections[0].file) if seen.sections else {}
     for student in seen.students:
         if not seen.ratings.get(student.name):
-            found.append(Finding("no-wishes", f"{student.file}:{student.line}: no-wishes: {student.name}"))
+            shown = own_names.shown(own, "student", student.name)
+            found.append(Finding("no-wishes", f"{student.file}:{student.line}: no-wishes: {shown}"))
     silent = sum(not seen.ratings.get(student.name) for student in seen.students)
     if seen.students and silent * 2 >= len(seen.students):
         found.append(Finding("few-wishes", f"few-wishes: {silent} of {len(seen.students)} students have no wishes"))

@@ -5,12 +5,13 @@ from __future__ import annotations
 import csv
 import io
 import os
+from dataclasses import replace
 from decimal import Decimal, InvalidOperation
-from typing import Dict, Iterable, List
+from typing import Dict, Iterable, List, Optional
 
-from registrar import tables
-from registrar.spelling import Meant, letters_of, tidy
-from registrar.tell import Trouble
+from registrar import pseudonyms, tables
+from registrar.spelling import Meant, NameRules, letters_of, tidy
+from registrar.tell import Trouble, warn
 
 FILE = "names.csv"
 
@@ -19,6 +20,9 @@ FILE = "names.csv"
 Own = Dict[str, Dict[str, str]]
 
 UNIT, CREDIT, MEETINGS = "unit", "credit", "meetings"
+
+# By what names the files of students with drawn names are called: those that they would have without.
+OWN_FILES = "own files"
 
 # Of more names that begin with the same letters none is named.
 MOST_MEANT = 5
@@ -43,7 +47,42 @@ def read(path: str) -> Own:
     unit = own.get(UNIT, {}).get(CREDIT, "1")
     if not is_unit(unit):
         raise Trouble(f"{path}: the unit of credits is '{unit}', which is no number above 0")
+    for place in own.get(pseudonyms.KIND, {}).values():
+        key = os.path.join(os.path.dirname(path), place)
+        if os.path.exists(key):
+            own["student"] = pseudonyms.own_numbers(key)
+            own[OWN_FILES] = pseudonyms.own_files(key)
+        else:
+            warn(f"warning: the key {key} is not there: students stand under the names that were drawn for them")
     return own
+
+
+def are_drawn(own: Own) -> bool:
+    """Whether the students' names are drawn."""
+    return pseudonyms.KIND in own
+
+
+def file_of(own: Own, student: str) -> str:
+    """What a student's own files are called by: never by a drawn name, where its own is known."""
+    return own.get(OWN_FILES, {}).get(student, student)
+
+
+def with_drawn(rules: NameRules, own: Own) -> NameRules:
+    """The rules by which a school's export names students, where these have drawn names in the program's tables."""
+    if not are_drawn(own):
+        return rules
+    drawn = {original: name for name, original in own.get("student", {}).items()}
+    if rules.any_case:
+        drawn.update({original.casefold(): name for original, name in list(drawn.items())})
+    return replace(rules, spell=(AnyCase if rules.any_case else dict)({**rules.spell, **drawn}))
+
+
+class AnyCase(Dict[str, str]):
+    """A table by codes of which capital and small letters are the same; it has each in small letters too."""
+
+    def get(self, key: str, default: Optional[str] = None) -> Optional[str]:  # type: ignore[override]
+        """What stands under a code, as it is written or else in small letters."""
+        return super().get(key) or super().get(key.casefold(), default)
 
 
 def is_unit(text: str) -> bool:
