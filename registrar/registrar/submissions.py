@@ -14,7 +14,7 @@ from typing import Iterable, Sequence
 from registrar.exported import Export, Row
 
 MONTHS = "jan feb mar apr may jun jul aug sep oct nov dec".split()
-NUMBERS = re.compile(r"(\d{1,4})[-./](\d{1,2})[-./](\d{1,4})(?:\s*[T,]?\s*(.*))?", re.DOTALL)
+NUMBERS = re.compile(r"(\d{1,4})[-./](\d{1,2})[-./](\d{1,4})(?:[\sT,-]+(.*))?", re.DOTALL)
 DAY_AND_WORD = re.compile(r"(\d{1,2})\.?[\s-]+([A-Za-z]{3})[a-z]*\.?[\s,-]+(\d{2,4})(?:\s*,?\s*(.*))?", re.DOTALL)
 WORD_AND_DAY = re.compile(r"([A-Za-z]{3})[a-z]*\.?\s+(\d{1,2}),?\s+(\d{2,4})(?:\s*,?\s*(.*))?", re.DOTALL)
 HOURS = re.compile(

@@ -128,6 +128,19 @@ class SurveyReader:
         """Keeps the fault that the mapping does not say what the numbers mean, with examples."""
         self.export.missing("says", "", "; ".join(what_numbers_may_mean(list(self.given.values()), self.source)))
 
+    def refuse_blank(self, counted: set[int]) -> None:
+        """Refuses a submission without an answer that would replace one with answers: it may be an accident, or a withdrawal."""
+        answers = {row: cells[0] for row, cells in self.survey.tally.cells.items()}
+        for student in self.survey.replaced:
+            rows = [row.number for row in self.rows_of[student]]
+            kept = [row for row in rows if row in counted]
+            lost = [row for row in rows if row not in counted and answers.get(row)]
+            if lost and all(answers.get(row) == 0 for row in kept):
+                column = self.export.column("student")
+                title = column.title if column else ""
+                expected = f"an answer: this later row of {student} is blank, and row {lost[0]} has answers. Take out one of the two"
+                self.faults.add(self.export.file, kept[0], title, student, expected)
+
     def name(self, names: Names, row: Row, column: str, text: str) -> str:
         """The name that a cell means, or nothing, with a fault, where it is nobody's."""
         try:
@@ -175,6 +188,7 @@ class SurveyReader:
                 if row.number not in counted:
                     self.survey.tally.leave(row.number, REPLACED)
         self.survey.replaced = chooser.replaced
+        self.refuse_blank(counted)
         return [wish for wish in wishes if wish.row in counted]
 
     def points(self, row: Row, column: str, text: str) -> tuple[int, int] | None:

@@ -188,6 +188,19 @@ class Submissions(Asked):
                 self.assertEqual(status, tell.FAULTS)
                 self.assertIn(wanted, told)
 
+    def test_a_blank_answer_replaces_nothing_unasked(self) -> None:
+        """Where the last row of a student is blank and an earlier one is not, either may be meant."""
+        options = "shape = students\nsays = rating\ntime = t\nextra = t\nagain = last\n"
+        status, told = self.survey(options, "id,t,A-1,B-1\na,2026-11-02,,\na,2026-11-01,5,4\nb,2026-11-02,,\nb,2026-11-01,,\n")
+        self.assertEqual(status, tell.FAULTS)
+        self.assertIn('w.csv row 2, column id: "a" where this was expected: an answer: this later row of a is blank, and row 3 has answers', told)
+        self.assertNotIn("row of b is blank", told)
+
+    def test_a_day_and_a_time_in_two_columns(self) -> None:
+        options = "shape = students\nsays = rating\ntime = Day + At\nextra = Day | At\nagain = last\n"
+        status, told = self.survey(options, "id,Day,At,A-1\na,2026-11-02,9:15,7\na,2026-11-02,10:05,8\n")
+        self.assertEqual((status, self.commands()), (0, ["rate a A-1 8"]), told)
+
     def test_rows_that_were_sent_together_by_a_number(self) -> None:
         text = "id,s,v,u\na,A-1,5,7\na,B-1,4,7\na,A-1,9,8\n"
         for again, wanted in (("last row", ["rate a A-1 9"]), ("first row", ["rate a A-1 5", "rate a B-1 4"])):
@@ -206,7 +219,7 @@ class Times(unittest.TestCase):
             ("11/10/2026 3:05:00 PM", "month first", 1794323100), ("11/10/2026 15:05", "day first", 1791731100),
             ("10.11.2026 15:05", "day first", 1794323100), ("10 Nov 2026 15:05", "", 1794323100), ("Nov 10, 2026, 3:05 PM", "", 1794323100),
             ("2026-11-10 12:30 am", "", 1794270600), ("11/10/26", "month first", 1794268800), ("46336.5", "", 46336.5),
-            ("2026-11-10 10:05:12.5-05:30", "", 1794324912.5),
+            ("2026-11-10 10:05:12.5-05:30", "", 1794324912.5), ("2026-11-10-10:05:12", "", 1794305112),
         ]  # fmt: skip
         for text, order, wanted in cases:
             with self.subTest(text):
