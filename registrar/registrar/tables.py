@@ -25,6 +25,9 @@ POINTS = re.compile(r"(?!-0\Z)-?(0|[1-9][0-9]{0,5})\Z")
 # What a spreadsheet takes for the beginning of a formula, also behind apostrophes that guard a text already.
 FORMULA = re.compile(r"'*[=+\-@\t\r]")
 
+# A number with its sign, which is no formula.
+SIGNED = re.compile(r"[-+][0-9]+([.,][0-9]+)?%?\Z")
+
 CATALOGUE_HEADERS = ("section,course,seats,credits,meetings", "section,course,seats,credits,meetings,parts")
 ROLL_HEADERS = ("student,budget,credits,courses", "student,budget,credits,courses,carry")
 SETTINGS = ("seed", "spread", "accept", "turns", "tabu", "patience", "steps", "raise")
@@ -297,11 +300,12 @@ def csv_text(rows: Iterable[Sequence[object]]) -> str:
 
 
 def guarded(cell: object) -> object:
-    """A text that a spreadsheet would take for a formula, with an apostrophe before it; any other cell as it is.
+    """A text that a spreadsheet would take for a formula, with an apostrophe before it; any other cell, as a number, as it is.
 
     A text that begins with apostrophes and then so gets one more, so that `unguarded` leads back.
     """
-    return f"'{cell}" if isinstance(cell, str) and FORMULA.match(cell) else cell
+    is_formula = isinstance(cell, str) and FORMULA.match(cell) and not SIGNED.match(cell)
+    return f"'{cell}" if is_formula else cell
 
 
 def unguarded(cell: str) -> str:

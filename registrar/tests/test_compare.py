@@ -9,7 +9,7 @@ import unittest
 import xml.etree.ElementTree
 
 from registrar import manifest, measures, program, tell
-from tests.support import SCARCE, SCARCE_WORDS, InFolder, call, needs_program
+from tests.support import IN_SPITE, SCARCE, SCARCE_WORDS, InFolder, call, needs_program
 
 MAPPING = (
     "[catalogue]\nfile = timetable.csv\nsection = code\n"
@@ -105,7 +105,7 @@ class Compare(TwoRuns):
     def test_other_wishes_and_other_students(self) -> None:
         self.put("b.session", "rate v X 70\nrate v Y 40\n")
         self.put("roll.csv", "student,budget,credits,courses\nv,100,4,2\nw,100,4,2\n")
-        self.assertEqual(call("run", *MORE, "--text", "more/published.txt").status, 0)
+        self.assertEqual(call("run", *MORE, "--text", "more/published.txt", *IN_SPITE).status, 0)
         self.put("roll.csv", SCARCE["roll.csv"])
         self.put("b.session", SCARCE["b.session"])
         told = call("compare", "manifest.json", "more/manifest.json")
@@ -132,7 +132,7 @@ class Compare(TwoRuns):
         self.put(f"{folder}/roll.csv", "student,budget,credits,courses\nv,100,4,2\n" + second)
         self.put(f"{folder}/b.session", wish)
         words = [os.path.join(folder, name) for name in SCARCE_WORDS]
-        self.assertEqual(call("run", *words, "--text", f"{folder}/published.txt").status, 0)
+        self.assertEqual(call("run", *words, "--text", f"{folder}/published.txt", *IN_SPITE).status, 0)
         return f"{folder}/manifest.json"
 
     def test_words_that_go_together(self) -> None:
@@ -169,7 +169,7 @@ class Wishes(TwoRuns):
 
     def test_somebody_who_wants_nothing_has_no_share(self) -> None:
         self.put("b.session", "rate v X 80\nclear v\n")
-        self.assertEqual(call("run", *MORE, "--text", "more/published.txt").status, 0)
+        self.assertEqual(call("run", *MORE, "--text", "more/published.txt", *IN_SPITE).status, 0)
         run = measures.measured(manifest.read("more/manifest.json"), 1)
         self.assertIsNone(run.share("v"))
         self.assertEqual(measures.group(run, "all", run.students).shares, (100.0,))

@@ -14,8 +14,8 @@ class Guarded(unittest.TestCase):
 
     def test_no_text_is_a_formula(self) -> None:
         """What begins as a formula has an apostrophe before it, and comes back as it was; numbers stay numbers."""
-        texts = ("=cmd()", "+1", "-1-", "@x", "\tx", "'=x", "''-y", "plain", "'tis", "", "a=b")
-        wanted = ("'=cmd()", "'+1", "'-1-", "'@x", "'\tx", "''=x", "'\''-y", "plain", "'tis", "", "a=b")
+        texts = ("=cmd()", "+1+1", "-5", "'-5", "+2.5%", "-1-", "@x", "\tx", "'=x", "''-y", "plain", "'tis", "", "a=b")
+        wanted = ("'=cmd()", "'+1+1", "-5", "''-5", "+2.5%", "'-1-", "'@x", "'\tx", "''=x", "'\''-y", "plain", "'tis", "", "a=b")
         for text, there in zip(texts, wanted):
             with self.subTest(text):
                 self.assertEqual(tables.guarded(text), there)
