@@ -21,6 +21,9 @@ HOURS = re.compile(
     r"(\d{1,2})[:.](\d{2})(?:[:.](\d{2})(?:[.,](\d{1,6}))?)?\s*([ap]\.?m\.?)?\s*(?:(Z|UTC|GMT)?([+-]\d{1,2}(?::?\d{2})?)?)", re.IGNORECASE
 )
 
+#: So many seconds apart two times may be those of one answer.
+AT_ONCE = 60
+
 #: How a date of three numbers is read that does not begin with the year.
 ORDERS = ("day first", "month first")
 
@@ -117,11 +120,11 @@ class Chooser:
 
     def counted(self, rows_of: dict[str, list[Row]]) -> set[int]:
         """The numbers of the rows that count."""
-        if not self.can_be_told():
-            return {row.number for rows in rows_of.values() for row in rows}
         sent = {student: self.submissions(rows) for student, rows in rows_of.items()}
         several = {student: found for student, found in sent.items() if len(found) > 1}
         last = {student: found[-1] for student, found in sent.items()}
+        if not self.can_be_told():
+            several = {}
         if several and self.again == "refuse":
             self.refuse(several)
         elif self.again == "first row":
@@ -188,11 +191,24 @@ class Chooser:
             if len(timed) < len(sent):
                 continue
             timed.sort(key=lambda pair: pair[0])
+            self.refuse_at_once(student, timed)
             if timed[-1][0] == timed[-2][0]:
                 rows = " and ".join(str(one.rows[0].number) for _, one in timed[-2:])
                 self.export.fault(timed[-1][1].rows[0], "time", timed[-1][1].time, f"a time of its own: rows {rows} of {student} have the same")
             found[student] = timed[-1][1]
         return found
+
+    def refuse_at_once(self, student: str, timed: Sequence[tuple[float, Submission]]) -> None:
+        """Refuses two times of a long sheet that may be those of one answer: close together, and of different sections."""
+        for (before, first), (time, second) in zip(timed, timed[1:]) if self.is_long and not self.together else []:
+            if 0 < time - before < AT_ONCE and not self.sections_of(first) & self.sections_of(second):
+                rows = f"rows {first.rows[0].number} and {second.rows[0].number} of {student}"
+                expected = f"one time in all rows that were sent together: {rows} are less than a minute apart, and of different sections; "
+                self.export.fault(second.rows[0], "time", second.time, expected + "`submission` names a column that tells which are one answer")
+
+    def sections_of(self, sent: Submission) -> set[str]:
+        """The sections that a submission of a long sheet is about, as they stand there."""
+        return {self.export.cell(row, "section") for row in sent.rows}
 
     def is_timed_by_row(self, several: dict[str, list[Submission]]) -> bool:
         """Whether no two rows of any student have one time, though some have three or more."""

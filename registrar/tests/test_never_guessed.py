@@ -179,6 +179,7 @@ class Submissions(Asked):
             (self.LONG.replace("time = t\n", "again = last row\n"), self.TWICE, "[survey w] submission: blank"),
             (self.LONG + "again = last\n", "id,s,v,t\na,A-1,5,3/4/2026\na,B-1,4,4/3/2026\na,A-2,4,4/3/2026\n", 'dates: blank where this was expected: day first or month first: "3/4/2026" does not tell'),
             (self.LONG + "again = last\n", "id,s,v,t\na,A-1,5,2026-11-01 8:00\na,B-1,4,2026-11-01 8:01\na,A-2,4,2026-11-01 8:02\n", "the time differs in each row of a student"),
+            (self.LONG + "again = last\n", "id,s,v,t\na,A-1,5,2026-11-01 8:00:01\na,B-1,4,2026-11-01 8:00:01\na,A-2,4,2026-11-01 8:00:02\n", "rows 2 and 4 of a are less than a minute apart, and of different sections"),
             (self.LONG + "again = last\n", "id,s,v,t\na,A-1,5,yesterday\na,B-1,4,2026-11-01\na,A-2,4,2026-11-01\n", '"yesterday" where this was expected: a time, as'),
             (self.LONG + "again = last\nsubmission = u\n", "id,s,v,t,u\na,A-1,5,2026-11-01,1\na,B-1,4,2026-11-01,2\n", "a time of its own: rows 2 and 3 of a have the same"),
         ]  # fmt: skip
