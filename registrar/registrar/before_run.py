@@ -1,4 +1,4 @@
-"""What stops `run` before it runs: what looks like an oversight, or makes the end depend on which session is heard first.
+"""What stops `run` before it runs: what looks like an oversight, or makes the end depend on the order of the sessions.
 
 The findings are those of `look`. Each kind can be allowed.
 """
@@ -25,13 +25,15 @@ def add_argument(parser: argparse.ArgumentParser) -> None:
     """The option that lets a kind pass."""
     kinds = "; ".join(f"{kind}: {look.KINDS[kind]}" for kind in STOPPING)
     parser.add_argument(
-        "--allow", action="append", default=[], choices=STOPPING, metavar="KIND", help=f"run in spite of this; may come again. {kinds}"
+        "--allow", action="append", default=[], choices=STOPPING, metavar="KIND",
+        help=f"run in spite of this; may come again. {kinds}",
     )
 
 
 def found_in(arguments: argparse.Namespace) -> List[look.Finding]:
     """What stops a run of these files; nothing where the program refuses them, since it says itself why."""
-    answer = program.call(["prefer", arguments.catalogue, arguments.roll, *arguments.sessions], tell.Life("looking at the commands"))
+    words = ["prefer", arguments.catalogue, arguments.roll, *arguments.sessions]
+    answer = program.call(words, tell.Life("looking at the commands"))
     if answer.status:
         return []
     is_one = len(arguments.sessions) == 1
@@ -40,7 +42,7 @@ def found_in(arguments: argparse.Namespace) -> List[look.Finding]:
 
 
 def stop(arguments: argparse.Namespace) -> int:
-    """The status with which `run` ends before it runs, all that stops it being told; 0 where nothing does that is not allowed."""
+    """The status with which `run` ends before it runs, all that stops it being told; 0 where nothing stops it."""
     found = found_in(arguments)
     stopping = [one for one in found if one.kind not in arguments.allow]
     counts = Counter(one.kind for one in found)
@@ -52,7 +54,8 @@ def stop(arguments: argparse.Namespace) -> int:
     for kind in STOPPING:
         if counts[kind]:
             allowed = " (allowed)" if kind in arguments.allow else ""
-            more = f"; {counts[kind] - SHOWN} more than these: `registrar look` tells them" if told[kind] > SHOWN else ""
+            left = counts[kind] - SHOWN
+            more = f"; {left} more than these: `registrar look` tells them" if told[kind] > SHOWN else ""
             tell.warn(f"{counts[kind]} {kind}{allowed}: {look.KINDS[kind]}{more}")
     if not stopping:
         return 0

@@ -21,7 +21,7 @@ def hours_of_24(texts: Iterable[str]) -> str:
 
 
 def two_ways(rows: Iterable[Sequence[str]]) -> str:
-    """What is wrong with the first row of meetings (in one cell, or days, start and end) that reads in two ways; or nothing."""
+    """What is wrong with the first row that reads in two ways; or nothing. Rows have one cell, or days, start and end."""
     for cells in rows:
         try:
             if len(cells) == 1:

@@ -49,7 +49,10 @@ class Made:
         self.key, self.place = key, pseudonyms.row_of_names(key.path, folder)
 
     def files(self) -> dict[str, bytes]:
-        """The files by name. With a key students have drawn names, and stand in their order, which tells nothing of the register's."""
+        """The files by name.
+
+        With a key students have drawn names, and stand in the order of these, which tells nothing of the register's.
+        """
         files = {
             "catalogue.csv": tables.csv_text(self.catalogue).encode(),
             "roll.csv": tables.csv_text(self.drawn_roll()).encode(),
@@ -74,7 +77,7 @@ class Made:
         return sorted(wishes, key=lambda wish: wish.student)
 
     def own_rows(self) -> list[list[str]]:
-        """The rows of `names.csv`: the names, the meetings, and the unit of credits; of drawn names where their key is."""
+        """The rows of `names.csv`: the names, the meetings, the unit of credits, and where the key of drawn names is."""
         unit = own_names.rows_of_units(self.mapping.unit, self.mapping.decimal)
         names = [row for row in self.names if self.key is None or row[0] != "student"]
         return [["kind", "original", "name"], *names, *self.written, *unit, *([self.place] if self.place else [])]
@@ -90,7 +93,8 @@ class Made:
         )
         for what, count, most in counts:
             if count > most:
-                faults.add(source, None, what, grouped(count), f"at most {grouped(most)} {what}, the limit of the program")
+                expected = f"at most {grouped(most)} {what}, the limit of the program"
+                faults.add(source, None, what, grouped(count), expected)
         if self.mapping.is_read and not self.mapping.kinds & set(OF_WISHES):
             faults.add(source, None, "", "", "there is no section [survey NAME] or [sessions NAME]")
         for name, content in self.files().items():
@@ -114,16 +118,16 @@ class Made:
         lines.append(f"{own_names.FILE}: {tell.count(len(names), 'name', 'names')}, {spelt} of them spelt anew")
         if self.key is not None:
             count = tell.count(len(self.key.rows), "drawn name", "drawn names")
-            lines.append(f"{self.key.path}: {count}, {self.key.new} of them new; keep it, and keep it apart from what is published")
+            advice = "keep it, and keep it apart from what is published"
+            lines.append(f"{self.key.path}: {count}, {self.key.new} of them new; {advice}")
         lines += self.notes
         for tally in [*self.tallies, *(survey.tally for survey in self.surveys)]:
             lines += tally.lines()
         lines += self.in_several()
         lines += self.without_file(spoke)
         if students > len(spoke):
-            lines.append(
-                f"{tell.count(students - len(spoke), 'student has', 'students have')} no wishes; `registrar look` names them"
-            )
+            silent = tell.count(students - len(spoke), "student has", "students have")
+            lines.append(f"{silent} no wishes; `registrar look` names them")
         return lines
 
 
@@ -138,7 +142,7 @@ class Made:
         return lines
 
     def in_several(self) -> list[str]:
-        """That students are in several surveys, where some are: what they want may depend on which session is heard first."""
+        """That some students are in several surveys: what they want may depend on which session is heard first."""
         surveys: dict[str, list[str]] = {}
         for survey in self.surveys:
             for student in dict.fromkeys(wish.student for wish in survey.wishes):
@@ -146,7 +150,8 @@ class Made:
         several = [f"{student} ({', '.join(found)})" for student, found in surveys.items() if len(found) > 1]
         if not several:
             return []
-        return [f"{tell.count(len(several), 'student is', 'students are')} in several surveys, so that `run` will stop: {some(several)}"]
+        who = tell.count(len(several), "student is", "students are")
+        return [f"{who} in several surveys, so that `run` will stop: {some(several)}"]
 
 
 def of_survey(survey: Survey) -> list[str]:

@@ -15,11 +15,17 @@ ROWS = 3
 VALUES = 6
 
 #: The words of the option `says`, each with what it means.
-WORDS = "rating (the greatest number is the best), rank (1 is the best, and a student gives each rank once) or grade (1 is the best, and may come again)"
+WORDS = (
+    "rating (the greatest number is the best), rank (1 is the best, and a student gives each rank once) "
+    "or grade (1 is the best, and may come again)"
+)
 
 
 def what_numbers_may_mean(rows: Sequence[tuple[str, Sequence[str]]], source: Source) -> list[str]:
-    """What the option `says` has to be, and then examples before and after. Each row has its place, and the values of one answer."""
+    """What the option `says` has to be, and then examples before and after.
+
+    Each of `rows` has its place in the export, and the values of one answer.
+    """
     shown = [(place, [value for value in values if is_number(value)][:VALUES]) for place, values in rows]
     shown = [(place, values) for place, values in shown if values][:ROWS]
     parts = [WORDS, *(example(place, values, source) for place, values in shown)]

@@ -1,7 +1,7 @@
 """A folder of session files, one of each student, as the page's form saves them: what the students want, as one survey.
 
-Each file is its student's own: it is named after the student, and each of its lines speaks of that student alone. Whose file is
-doubled, or speaks of another, is a fault; whose is missing is told.
+Each file is its student's own: it is named after the student, and each of its lines speaks of that student alone. Whose file
+is doubled, or speaks of another, is a fault; whose is missing is told.
 """
 
 from __future__ import annotations
@@ -31,6 +31,11 @@ MOST_POINTS = 100
 EXPECTED = "a line as the form saves it: `rate NAME SECTION POINTS`, `pair NAME SECTION SECTION POINTS` or `clear NAME`"
 
 
+def place_of(name: str) -> tuple[bool, str]:
+    """By what files are sorted: those that a browser saved again come behind the others."""
+    return bool(AGAIN.fullmatch(os.path.splitext(name)[0])), name
+
+
 class FolderReader:
     """Reads one folder."""
 
@@ -47,10 +52,11 @@ class FolderReader:
         """The wishes of all files; each fault is added to the faults."""
         self.survey.has_file = set()
         try:
-            names = sorted(os.listdir(self.folder), key=lambda name: (bool(AGAIN.fullmatch(os.path.splitext(name)[0])), name))
+            names = sorted(os.listdir(self.folder), key=place_of)
         except OSError as error:
             self.faults.lacks_file = True
-            self.faults.add(self.source.get("folder"), None, "", "", f"{self.folder} can not be read ({error.strerror})")
+            expected = f"{self.folder} can not be read ({error.strerror})"
+            self.faults.add(self.source.get("folder"), None, "", "", expected)
             return self.survey
         self.survey.tally.rows = len(names)
         for number, name in enumerate(names):
@@ -78,7 +84,10 @@ class FolderReader:
                 self.take_lines(number, name, student)
 
     def student(self, number: int, name: str, text: str) -> str:
-        """The student after whom a file is named; nothing, with a fault, where that is nobody, unless such files are left out."""
+        """The student after whom a file is named; nothing, with a fault, where that is nobody.
+
+        Where such files are left out there is no fault.
+        """
         again = AGAIN.fullmatch(text)
         for code in [text, *([again.group(1)] if again else [])]:
             try:
@@ -93,22 +102,24 @@ class FolderReader:
         return ""
 
     def is_first(self, number: int, name: str, student: str) -> bool:
-        """Whether no file of this student was taken before. A copy of that one is left out; another content is a fault."""
+        """Whether no file of this student was taken before. A copy is left out; another content is a fault."""
         before = self.files.setdefault(student, name)
         if before == name:
             return True
         if tables.read_bytes(os.path.join(self.folder, before)) == tables.read_bytes(os.path.join(self.folder, name)):
             self.survey.tally.leave(number, COPY)
         else:
-            self.fault(name, None, student, f"one file of each student; {before} is one of {student} too, and says something else")
+            expected = f"one file of each student; {before} is one of {student} too, and says something else"
+            self.fault(name, None, student, expected)
         return False
 
     def take_lines(self, number: int, name: str, student: str) -> None:
-        """Takes the lines of a student's file: in the end each section and pair has what its last line says, as at the desk."""
+        """Takes the lines of a student's file. As at the desk, each section and pair has what its last line says."""
         commands = tables.read_session(os.path.join(self.folder, name))
         unread = [one for one in commands if one.kind == "unreadable"]
         if len(unread) * 2 > len(commands):
-            self.fault(name, unread[0].line, unread[0].text, f"a session; {len(unread)} of its {len(commands)} lines are none of its lines")
+            expected = f"a session; {len(unread)} of its {len(commands)} lines are none of its lines"
+            self.fault(name, unread[0].line, unread[0].text, expected)
             return
         kept: dict[tuple[str, ...], Wish] = {}
         for command in commands:
@@ -137,7 +148,8 @@ class FolderReader:
         except NameFault:
             spoken_of = ""
         if spoken_of != student:
-            self.fault(name, command.line, command.words[1], f"lines of {student} alone, whose file this is by its name")
+            expected = f"lines of {student} alone, whose file this is by its name"
+            self.fault(name, command.line, command.words[1], expected)
         return spoken_of == student
 
     def wish(self, name: str, command: tables.Command, student: str) -> Iterator[Wish]:
@@ -157,4 +169,5 @@ class FolderReader:
             self.fault(name, command.line, command.text, "two different sections")
         else:
             second = sections[1] if len(sections) > 1 else ""
-            yield Wish(student, sections[0], second, points, command.line, os.path.join(self.source.get("folder"), name), command.text)
+            file = os.path.join(self.source.get("folder"), name)
+            yield Wish(student, sections[0], second, points, command.line, file, command.text)

@@ -1,7 +1,8 @@
 """Drawn names of students, so that what is published names nobody; and the key, which has whose each name is.
 
-The key is the table `pseudonyms.csv` beside the register, apart from what is published. A student keeps its drawn name as long as
-the key is there. `names.csv`, beside the catalogue, says where the key is; with it every list has the student's own name.
+The key is the table `pseudonyms.csv` beside the register, apart from what is published. A student keeps its drawn name as
+long as the key is there. `names.csv`, beside the catalogue, says where the key is; with it every list has the student's own
+name.
 """
 
 from __future__ import annotations
@@ -33,7 +34,7 @@ LETTERS = SIGNS.rstrip("23456789")
 
 @dataclass(frozen=True)
 class Row:
-    """A student: its own number as the register has it, the name that this would be to the program, and the drawn name."""
+    """A student: its own number as the register has it, what that would be to the program, and the drawn name."""
 
     own: str
     name: str
@@ -89,7 +90,10 @@ def beside(register: str) -> str:
 
 
 def read(path: str) -> Key:
-    """Reads a key; where there is none it is empty. Raises `Trouble` where the file is no key, so that no name is drawn anew by mistake."""
+    """Reads a key; where there is none it is empty.
+
+    Raises `Trouble` where the file is no key, so that no name is drawn anew by mistake.
+    """
     key = Key(path)
     if not os.path.lexists(path):
         return key
@@ -111,7 +115,8 @@ def read(path: str) -> Key:
 
 def no_key(path: str, why: str) -> Trouble:
     """A refusal of a file that is no key."""
-    return Trouble(f"{path} is no key of drawn names ({why}): put back the one that was written, or take it away to draw all names anew", FAULTS)
+    advice = "put back the one that was written, or take it away to draw all names anew"
+    return Trouble(f"{path} is no key of drawn names ({why}): {advice}", FAULTS)
 
 
 def own_numbers(path: str) -> Dict[str, str]:
@@ -120,7 +125,7 @@ def own_numbers(path: str) -> Dict[str, str]:
 
 
 def own_files(path: str) -> Dict[str, str]:
-    """The name of each drawn name of a key that the program would have without it: what a student's own files are called by."""
+    """What each student of a key would be to the program without it, by drawn names: so its own files are called."""
     return {row.drawn: row.name for row in read(path).rows.values()}
 
 
@@ -128,9 +133,13 @@ def refuse_among(path: str, folder: str) -> None:
     """Refuses a key that would stand in the folder of what is published, or below it."""
     inner, outer = os.path.realpath(path), os.path.realpath(folder or ".")
     if os.path.commonpath([inner, outer]) == outer:
-        raise Trouble(f"the key {path} would stand in {folder or '.'}, among what is published: `--into` names a folder apart from the register's")
+        raise Trouble(
+            f"the key {path} would stand in {folder or '.'}, among what is published: "
+            "`--into` names a folder apart from the register's"
+        )
 
 
 def row_of_names(path: str, folder: str) -> List[str]:
     """The row of a `names.csv` in this folder that says where the key is."""
-    return [KIND, os.path.relpath(os.path.realpath(path), os.path.realpath(folder or ".")).replace(os.sep, "/"), "student"]
+    place = os.path.relpath(os.path.realpath(path), os.path.realpath(folder or "."))
+    return [KIND, place.replace(os.sep, "/"), "student"]

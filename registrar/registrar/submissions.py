@@ -1,7 +1,7 @@
 """Which submission of a student counts, where there are several: by a column of time, or by the order of the rows.
 
-A submission is a row, or in a long sheet all rows of a student that were sent together. A later one replaces the whole earlier
-one. What the mapping does not say is a fault: nothing tells a form that was sent twice from a mistyped number.
+A submission is a row, or in a long sheet all rows of a student that were sent together. A later one replaces the whole
+earlier one. What the mapping does not say is a fault: nothing tells a form that was sent twice from a mistyped number.
 """
 
 from __future__ import annotations
@@ -18,8 +18,15 @@ NUMBERS = re.compile(r"(\d{1,4})[-./](\d{1,2})[-./](\d{1,4})(?:[\sT,-]+(.*))?", 
 DAY_AND_WORD = re.compile(r"(\d{1,2})\.?[\s-]+([A-Za-z]{3})[a-z]*\.?[\s,-]+(\d{2,4})(?:\s*,?\s*(.*))?", re.DOTALL)
 WORD_AND_DAY = re.compile(r"([A-Za-z]{3})[a-z]*\.?\s+(\d{1,2}),?\s+(\d{2,4})(?:\s*,?\s*(.*))?", re.DOTALL)
 HOURS = re.compile(
-    r"(\d{1,2})[:.](\d{2})(?:[:.](\d{2})(?:[.,](\d{1,6}))?)?\s*([ap]\.?m\.?)?\s*(?:(Z|UTC|GMT)?([+-]\d{1,2}(?::?\d{2})?)?)", re.IGNORECASE
+    r"(\d{1,2})[:.](\d{2})(?:[:.](\d{2})(?:[.,](\d{1,6}))?)?\s*([ap]\.?m\.?)?\s*"
+    r"(?:(Z|UTC|GMT)?([+-]\d{1,2}(?::?\d{2})?)?)",
+    re.IGNORECASE,
 )
+
+#: What faults say was expected.
+NO_TIME = "the column of the time; where there is none, `again = last row` or `first row` says which submission is the last"
+TOGETHER = "the column that has the same in all rows that were sent together"
+ADVICE = "`again = last` takes the last by the column `time`, `last row` and `first row` by the order of the rows"
 
 #: So many seconds apart two times may be those of one answer.
 AT_ONCE = 60
@@ -41,9 +48,10 @@ class Submission:
 
 
 def time_of(text: str, order: str) -> float:
-    """A time as a number, later ones being greater, by this order of day and month. A plain number is itself. Raises `TimeFault`.
+    """A time as a number, later ones being greater, by this order of day and month. Raises `TimeFault`.
 
-    Read are `2026-11-10 10:05:12`, `2026/11/10 10:05:12 AM GMT+1`, `11/10/2026 3:05 PM`, `10.11.2026 15:05`, `10 Nov 2026`.
+    Read are `2026-11-10 10:05:12`, `2026/11/10 10:05:12 AM GMT+1`, `11/10/2026 3:05 PM`, `10.11.2026 15:05`,
+    `10 Nov 2026`, and a plain number, which is itself.
     """
     text = text.strip()
     if re.fullmatch(r"\d+([.,]\d+)?", text):
@@ -140,12 +148,11 @@ class Chooser:
         source = self.export.source
         if self.again == "last" and not self.time:
             if not source.get("time"):
-                expected = "the column of the time; where there is none, `again = last row` or `first row` says which submission is the last"
-                self.export.missing("time", "", expected)
+                self.export.missing("time", "", NO_TIME)
             return False
         if self.is_long and self.again in ("last row", "first row") and not self.together:
             if not source.get("submission"):
-                self.export.missing("submission", "", "the column that has the same in all rows that were sent together")
+                self.export.missing("submission", "", TOGETHER)
             return False
         return True
 
@@ -167,23 +174,18 @@ class Chooser:
 
     def refuse(self, several: dict[str, list[Submission]]) -> None:
         """Each further submission is a fault."""
-        advice = "`again = last` takes the last by the column `time`, `last row` and `first row` by the order of the rows"
-        if self.is_long:
-            advice += "; where rows add to one another, leave `time` and `submission` blank"
+        advice = ADVICE + ("; where rows add to one another, leave `time` and `submission` blank" if self.is_long else "")
         for student, found in several.items():
             for one in found[1:]:
                 first = found[0].rows[0].number
-                self.export.fault(
-                    one.rows[0], "student", student, f"one submission of each student; row {first} is one of {student} too ({advice})"
-                )
+                expected = f"one submission of each student; row {first} is one of {student} too ({advice})"
+                self.export.fault(one.rows[0], "student", student, expected)
 
     def latest(self, several: dict[str, list[Submission]]) -> dict[str, Submission]:
         """The latest submission of each student by time."""
         found: dict[str, Submission] = {}
         if self.is_long and not self.together and self.is_timed_by_row(several):
-            self.export.missing(
-                "submission", "", "the column that has the same in all rows that were sent together: the time differs in each row of a student"
-            )
+            self.export.missing("submission", "", f"{TOGETHER}: the time differs in each row of a student")
             return found
         order = self.order(one for sent in several.values() for one in sent)
         for student, sent in several.items():
@@ -194,17 +196,21 @@ class Chooser:
             self.refuse_at_once(student, timed)
             if timed[-1][0] == timed[-2][0]:
                 rows = " and ".join(str(one.rows[0].number) for _, one in timed[-2:])
-                self.export.fault(timed[-1][1].rows[0], "time", timed[-1][1].time, f"a time of its own: rows {rows} of {student} have the same")
+                expected = f"a time of its own: rows {rows} of {student} have the same"
+                self.export.fault(timed[-1][1].rows[0], "time", timed[-1][1].time, expected)
             found[student] = timed[-1][1]
         return found
 
     def refuse_at_once(self, student: str, timed: Sequence[tuple[float, Submission]]) -> None:
-        """Refuses two times of a long sheet that may be those of one answer: close together, and of different sections."""
+        """Refuses two times of a long sheet that may be of one answer: close together, and of different sections."""
         for (before, first), (time, second) in zip(timed, timed[1:]) if self.is_long and not self.together else []:
             if 0 < time - before < AT_ONCE and not self.sections_of(first) & self.sections_of(second):
                 rows = f"rows {first.rows[0].number} and {second.rows[0].number} of {student}"
-                expected = f"one time in all rows that were sent together: {rows} are less than a minute apart, and of different sections; "
-                self.export.fault(second.rows[0], "time", second.time, expected + "`submission` names a column that tells which are one answer")
+                expected = (
+                    f"one time in all rows that were sent together: {rows} are less than a minute apart, "
+                    "and of different sections; `submission` names a column that tells which are one answer"
+                )
+                self.export.fault(second.rows[0], "time", second.time, expected)
 
     def sections_of(self, sent: Submission) -> set[str]:
         """The sections that a submission of a long sheet is about, as they stand there."""
@@ -212,7 +218,8 @@ class Chooser:
 
     def is_timed_by_row(self, several: dict[str, list[Submission]]) -> bool:
         """Whether no two rows of any student have one time, though some have three or more."""
-        return all(len(one.rows) == 1 for sent in several.values() for one in sent) and any(len(sent) > 2 for sent in several.values())
+        is_single = all(len(one.rows) == 1 for sent in several.values() for one in sent)
+        return is_single and any(len(sent) > 2 for sent in several.values())
 
     def order(self, sent: Iterable[Submission]) -> str:
         """The order of day and month: that of the mapping, or the one in which all times of the column can be read.
@@ -228,7 +235,7 @@ class Chooser:
         fitting = [order for order in ORDERS if all(is_time(text, order) for text in readable)]
         if len(fitting) == 1:
             return fitting[0]
-        differing = next((text for text in readable if not fitting or time_of(text, ORDERS[0]) != time_of(text, ORDERS[1])), "")
+        differing = next((text for text in readable if not fitting or len({time_of(text, one) for one in ORDERS}) > 1), "")
         if differing:
             self.export.missing("dates", "", f'day first or month first: "{differing}" does not tell')
         return ORDERS[0]

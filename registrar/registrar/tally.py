@@ -1,4 +1,7 @@
-"""What became of the rows of an export: how many were taken, and how many were not and why. The two make the rows there are."""
+"""What became of the rows of an export: how many were taken, and how many were not and why.
+
+The two make the rows there are.
+"""
 
 from __future__ import annotations
 
@@ -25,8 +28,8 @@ class Tally:
 
     `left` has the numbers of the rows that were not taken, each with its reason.
 
-    `filled` counts, for each column of merged cells, the cells that were filled down; `cells` has for each row of a survey how
-    many of its cells have an answer and how many are blank.
+    `filled` counts, for each column of merged cells, the cells that were filled down; `cells` has for each row of a survey
+    how many of its cells have an answer and how many are blank.
     """
 
     file: str
@@ -50,12 +53,14 @@ class Tally:
         line = f"{self.file}: {counted(self.rows, *self.what)}, {grouped(self.taken)} taken"
         reasons = Counter(self.left.values())
         if reasons:
-            line += f", {grouped(len(self.left))} not: " + ", ".join(f"{grouped(count)} {reason}" for reason, count in reasons.items())
+            told = ", ".join(f"{grouped(count)} {reason}" for reason, count in reasons.items())
+            line += f", {grouped(len(self.left))} not: {told}"
         found = [line]
         if self.cells:
             taken = [cells for row, cells in self.cells.items() if row not in self.left]
             answers, blanks = (sum(cells[at] for cells in taken) for at in (0, 1))
-            found.append(f"  in those taken {counted(answers, 'answer', 'answers')}, {counted(blanks, 'cell', 'cells')} blank")
+            blank = counted(blanks, "cell", "cells")
+            found.append(f"  in those taken {counted(answers, 'answer', 'answers')}, {blank} blank")
         found += [f"  {counted(count, 'cell', 'cells')} of {title} filled down" for title, count in self.filled.items()]
         return found
 
