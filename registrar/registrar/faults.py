@@ -67,6 +67,11 @@ def shown(value: str) -> str:
     return f'"{plain}"' + (f" (with a blank {' and '.join(places)} it)" if places else "")
 
 
+def plain(value: str) -> str:
+    """A value as it stands where it is short and all of it can be seen; else as `shown` shows it."""
+    return value if value.isprintable() and len(value) <= SHOWN else shown(value)
+
+
 def name_of(sign: str) -> str:
     """The name of a sign that no screen shows."""
     return {"\n": "line end", "\r": "line end", "\t": "tab"}.get(sign) or unicodedata.name(sign, f"U+{ord(sign):04X}").lower()

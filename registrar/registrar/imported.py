@@ -7,7 +7,7 @@ from dataclasses import dataclass, field, replace
 
 from registrar import own_names, pseudonyms, tables, tell
 from registrar.amounts import grouped
-from registrar.faults import Faults, spans
+from registrar.faults import Faults, plain, spans
 from registrar.mapping import OF_WISHES, Mapping
 from registrar.surveys import Survey, Wish
 from registrar.tally import Tally
@@ -164,7 +164,7 @@ def of_survey(survey: Survey) -> list[str]:
         lines.append(f"  {count} replaced whole by a later one, of {some(list(survey.replaced))}")
     for code, (rows, hint) in survey.strangers.items():
         place = f" (row{'s' * (len(rows) > 1)} {spans(rows)}{hint})" if rows else hint
-        lines.append(f"  not on the roll, left out: {code}{place}")
+        lines.append(f"  not on the roll, left out: {plain(code)}{place}")
     return lines
 
 

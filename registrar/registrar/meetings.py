@@ -110,12 +110,11 @@ def days_of_word(word: str, text: str, rules: MeetingRules) -> str:
         return words[folded]
     if not (word.isupper() or word.islower()) and "".join(parts) == folded and all(part in words for part in parts):
         return "".join(words[part] for part in parts)
-    found = list(readings(folded, words))
-    once = {"".join(sorted(letters)): letters for letters in found if len(set(letters)) == len(letters)}
-    if not found:
-        raise MeetingFault(f'{EXPECTED}: "{text.strip()}" are no days; write them one by one, or name them under [days]')
-    if not once:
+    once = {"".join(sorted(letters)): letters for letters in readings(folded, words)}
+    if not once and are_days(folded, words):
         raise MeetingFault(f'{EXPECTED}: a day stands twice in "{text.strip()}"')
+    if not once:
+        raise MeetingFault(f'{EXPECTED}: "{text.strip()}" are no days; write them one by one, or name them under [days]')
     if len(once) > 1:
         shown = ", or ".join(" and ".join(DAY_NAMES[letter] for letter in letters) for letters in once.values())
         said = " or ".join(f"`{word} = {letters}`" for letters in once.values())
@@ -123,13 +122,26 @@ def days_of_word(word: str, text: str, rules: MeetingRules) -> str:
     return next(iter(once.values()))
 
 
-def readings(text: str, words: Mapping[str, str]) -> Iterator[str]:
-    """The letters of each way to read a text in small letters as words for days that stand side by side."""
+def readings(text: str, words: Mapping[str, str], before: str = "") -> Iterator[str]:
+    """The letters of each way to read a text in small letters as words for days that stand side by side, no day twice.
+
+    `before` are the letters of what was read already: a day that comes again ends a way, so that there are few of them.
+    """
     if not text:
-        yield ""
+        yield before
     for size in range(1, min(len(text), LONGEST) + 1):
-        if text[:size] in words:
-            yield from (words[text[:size]] + rest for rest in readings(text[size:], words))
+        letters = words.get(text[:size], "")
+        if letters and not set(letters) & set(before):
+            yield from readings(text[size:], words, before + letters)
+
+
+def are_days(text: str, words: Mapping[str, str]) -> bool:
+    """Whether a text in small letters can be cut into words for days, be it with a day twice."""
+    cuts = {0}
+    for end in range(1, len(text) + 1):
+        if any(start in cuts and text[start:end] in words for start in range(max(0, end - LONGEST), end)):
+            cuts.add(end)
+    return len(text) in cuts
 
 
 def clock(text: str) -> Clock:

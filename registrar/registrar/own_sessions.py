@@ -11,7 +11,7 @@ import re
 from typing import Iterator
 
 from registrar import tables
-from registrar.faults import Faults
+from registrar.faults import Faults, plain
 from registrar.mapping import Source
 from registrar.spelling import NameFault, UnknownName
 from registrar.surveys import Known, Survey, Wish, over_limits
@@ -67,7 +67,7 @@ class FolderReader:
 
     def fault(self, name: str, line: int | None, value: str, expected: str) -> None:
         """Keeps a fault of a file."""
-        self.faults.add(os.path.join(self.source.get("folder"), name), line, "", value, expected)
+        self.faults.add(os.path.join(self.source.get("folder"), plain(name)), line, "", value, expected)
 
     def take(self, number: int, name: str) -> None:
         """Takes one file of the folder."""

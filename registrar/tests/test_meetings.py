@@ -65,6 +65,8 @@ class Meetings(unittest.TestCase):
             ("F 13:30pm-14:00", "a time"),
             ("F 9:60-10:15", "a time"),
             ("MM 9:00-10:00", "twice"),
+            ("TU" * 40 + " 9:00-10:00", "twice"),
+            ("TU" * 40 + "X 9:00-10:00", "are no days"),
             ("F 22:00-24:00", "a time"),
             ("SU 9:00-12:00", '"SU" may be Saturday and Sunday, or Sunday; write the days apart, or say `SU = SU` or `SU = U` under [days]'),
             ("TUTH 9:00-10:15", '"TUTH" may be Tuesday and Sunday and Thursday, or Tuesday and Thursday'),

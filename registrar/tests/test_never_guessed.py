@@ -152,6 +152,8 @@ class Counted(Asked):
         status, told = self.survey(options, text, "--allow", "not-on-roll")
         self.assertEqual((status, self.commands()), (0, ["rate a A-1 5"]), told)
         self.assert_told(told, ("zz (rows 3-4)", "elsewhere.edu (row 5)", "w.csv: 4 rows, 1 taken, 3 not: 3 of nobody on the roll"))
+        status, told = self.survey(options, "id,s,v\n\x1b[2Jzz,A-1,5\n", "--allow", "not-on-roll")
+        self.assertIn('left out: "[u+001b][2Jzz" (row 2)', told)
         for code in ("D01", "d-01", "", "a\ufffd"):
             with self.subTest(code):
                 status, told = self.survey(options, f"id,s,v\n{code},A-1,5\n", "--allow", "not-on-roll")

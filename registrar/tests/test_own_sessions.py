@@ -77,6 +77,13 @@ class Folder(InFolder):
                 self.assertEqual((status, os.path.exists("out")), (tell.FAULTS, False), told)
                 self.assertIn(wanted, told)
 
+    def test_a_name_that_no_screen_shows(self) -> None:
+        with open(b"forms/\xff\x1b.session", "wb") as file:
+            file.write(b"rate b B-1 5\n")
+        status, told = self.imported()
+        self.assertEqual(status, tell.FAULTS)
+        self.assertIn('forms/"[u+dcff][u+001b].session"', told)
+
     def test_a_copy_and_a_stranger(self) -> None:
         self.write("forms/b (1).session", self.read("forms/b.session"))
         self.write("forms/zz.session", "rate zz B-1 5\n")
