@@ -17,6 +17,7 @@ use Rattle.dropadd_desk.specs.Lines.{HallStep}
 use Rattle.dropadd_desk.proofs.Conserved.{conserved}
 use Rattle.dropadd_desk.proofs.Fitting.{held_is_allowed}
 use Rattle.dropadd_desk.proofs.Handing.{first_whom_it_fits, refusals_change_nothing}
+use Rattle.dropadd_desk.proofs.InOrder.{waits_in_order}
 use Rattle.dropadd_desk.proofs.StateLemmas.{nobody_waits, opening_hall}
 use Rattle.dropadd_hall.specs.Faults.{IsFaultless}
 use Rattle.held_seats.specs.Floors.{AreBelow}
@@ -25,7 +26,7 @@ use Rattle.market_certificate.specs.Tables.{AreTables}
 use Rattle.market_certificate.proofs.NamesOf.{tables_are}
 use Rattle.market_certificate.proofs.OneText.{one_publication}
 use Rattle.student_roll.specs.Students.{IsRoll, Student}
-use Rattle.dropadd_hall.specs.Laws.{ToldHallIsAllowed, ToldHallIsConserved, ToldHallServesTheFirst, ToldRefusalsChangeNothing}
+use Rattle.dropadd_hall.specs.Laws.{ToldHallIsAllowed, ToldHallIsConserved, ToldHallServesTheFirst, ToldHallWaitsInOrder, ToldRefusalsChangeNothing}
 use Rattle.dropadd_hall.specs.Openings.{CanOpen, IsTextOf, opened, tables_in}
 use Rattle.dropadd_hall.specs.Told.{IsToldHall}
 
@@ -89,6 +90,11 @@ pub told_first : ToldHallServesTheFirst
 told_first market streams text told hall before after step s lapsed next split names is =
     first_whom_it_fits market (opened market hall.publication) before step s lapsed next (told_opening market streams text told hall)
     (front_legal market streams text told hall (before ++ step ∷ []) after (split ∙ one_longer before after step)) names is
+
+pub told_in_order : ToldHallWaitsInOrder
+told_in_order market streams text told hall before after step split s =
+    waits_in_order market (opened market hall.publication) before step (told_opening market streams text told hall)
+    (front_legal market streams text told hall (before ++ step ∷ []) after (split ∙ one_longer before after step)) s
 
 pub told_refusals : ToldRefusalsChangeNothing
 told_refusals market streams text told hall before after step split refused =

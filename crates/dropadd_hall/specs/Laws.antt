@@ -12,6 +12,7 @@ use Rattle.dropadd_desk.specs.Market.{Market, section_count, student_count}
 use Rattle.dropadd_desk.specs.Openings.{IsAllowed}
 use Rattle.dropadd_desk.specs.Shared.{state_after}
 use Rattle.dropadd_desk.specs.Step.{held_by}
+use Rattle.dropadd_desk.specs.Waits.{KeepsOrderAt}
 use Rattle.dropadd_hall.specs.Openings.{opened}
 use Rattle.dropadd_hall.specs.Told.{IsToldHall}
 
@@ -27,6 +28,16 @@ ToldHallIsConserved =
     (hall : IsToldHall market streams text told)
     → (before after : List HallStep) → hall.history ≡ before ++ after → (s : ℕ)
     → s < section_count market → IsConserved market (opened market hall.publication) before s
+
+-- the waiting list of each section keeps the order of those who wait, at each step of the history
+abbrev pub ToldHallWaitsInOrder : Type 0
+ToldHallWaitsInOrder =
+    (market : Market) (streams : List (List HallCommand)) (text told : List ℕ)
+    (hall : IsToldHall market streams text told)
+    → (before after : List HallStep) (step : HallStep) → hall.history ≡ before ++ step ∷ after
+    → (s : ℕ)
+    → KeepsOrderAt market (state_behind market hall.publication before) step
+    (state_behind market hall.publication (before ++ step ∷ [])) s
 
 -- what each student holds is allowed after each beginning of the history: no two of the sections
 -- clash, and the caps are kept

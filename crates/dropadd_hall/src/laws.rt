@@ -1,6 +1,6 @@
 //! What holds of the halls of published texts: each call here does nothing, and its contract is a
 //! law.
-ghost use Rattle.dropadd_hall.specs.Laws.{ToldHallIsAllowed, ToldHallIsConserved, ToldHallServesTheFirst, ToldRefusalsChangeNothing};
+ghost use Rattle.dropadd_hall.specs.Laws.{ToldHallIsAllowed, ToldHallIsConserved, ToldHallServesTheFirst, ToldHallWaitsInOrder, ToldRefusalsChangeNothing};
 
 /// A printed hall is what `hall` prints for a published text. After each request of a printed hall
 /// it is so of each section. It has no more holders than seats, no free seat where somebody waits
@@ -13,6 +13,15 @@ ghost use Rattle.dropadd_hall.specs.Laws.{ToldHallIsAllowed, ToldHallIsConserved
 /// the one who was queued first was given the section or lapsed first.
 pub fn told_hall_is_conserved()
     ensures { ToldHallIsConserved }
+{}
+
+/// In a printed hall the waiting list of a section keeps the order of those who wait. Whoever is
+/// queued waits as the last one, behind all who wait already, and nobody else comes to wait. Whoever
+/// waits no longer has left, or has lapsed or been given the seat where one was given up. As long as
+/// the earlier of two waits, the later waits behind, unless the later leaves: so the earlier is
+/// never given the seat or taken off after the later.
+pub fn told_hall_waits_in_order()
+    ensures { ToldHallWaitsInOrder }
 {}
 
 /// After each request of a printed hall what each student holds is allowed: no two of the sections
