@@ -102,7 +102,7 @@ told_refusals market streams text told hall before after step split refused =
     (front_legal market streams text told hall (before ++ step ∷ []) after (split ∙ one_longer before after step)) refused
 
 -- the tables of a market as they can be read
-tables_in_limits : (market : Market) → IsCatalog market.catalog → IsRoll market.roll → AreTables (tables_in market)
+pub tables_in_limits : (market : Market) → IsCatalog market.catalog → IsRoll market.roll → AreTables (tables_in market)
 tables_in_limits market catalog roll =
     tables_are _ _ _ market.roll market.catalog (let one = catalog.known_version in let two = roll.known_version in omega arith) refl refl roll catalog
 

@@ -38,7 +38,7 @@ pub faultless_at : (one market : Market) (now state : HallState) → one ≡ mar
 faultless_at one market now state of same is = subst (λ (x : HallState). IsFaultless market x) same (subst (λ (m : Market). IsFaultless m now) of is)
 
 -- a fault of the final bundles is the first finding on the text
-fault_first : (market : Market) (text : List ℕ) (p : Publication) (finding : Finding) → IsTextOf market p text → TellsFault market (opened market p) finding
+pub fault_first : (market : Market) (text : List ℕ) (p : Publication) (finding : Finding) → IsTextOf market p text → TellsFault market (opened market p) finding
     → IsOpeningFinding market text finding
 fault_first market text p (Infeasible student) of is = (p, of, is)
 fault_first market text p (Seats section used seats) of is = (p, of, is)
@@ -53,7 +53,7 @@ fault_first market text p (Allocation student) of is = absurd is
 fault_first market text p (Used section) of is = absurd is
 
 -- where there is one, the bundles may not be held
-fault_stands : (market : Market) (state : HallState) (finding : Finding) → TellsFault market state finding → ¬ IsFaultless market state
+pub fault_stands : (market : Market) (state : HallState) (finding : Finding) → TellsFault market state finding → ¬ IsFaultless market state
 fault_stands market state (Infeasible student) is none = is.forbidden (none.students student.0 is.within)
 fault_stands market state (Seats section used seats) is none =
     let few = none.seats section.0 is.within in

@@ -1,3 +1,4 @@
+pub mod Exactly
 pub mod Finals
 pub mod Findings
 pub mod LineJoins

@@ -1,4 +1,5 @@
 pub mod Desks
+pub mod Exactly
 pub mod Faults
 pub mod Laws
 pub mod Openings

@@ -1,5 +1,6 @@
 //! What holds of the halls of published texts: each call here does nothing, and its contract is a
 //! law.
+ghost use Rattle.dropadd_hall.specs.Exactly.{FoundWhereNotOpened, NoFindingWhereOpened, OneOpeningFinding, OpensOrIsFound};
 ghost use Rattle.dropadd_hall.specs.Laws.{ToldHallIsAllowed, ToldHallIsConserved, ToldHallServesTheFirst, ToldHallWaitsInOrder, ToldRefusalsChangeNothing};
 
 /// A printed hall is what `hall` prints for a published text. After each request of a printed hall
@@ -40,4 +41,25 @@ pub fn told_hall_serves_the_first()
 /// In a printed hall a request that is refused changes nothing.
 pub fn told_refusals_change_nothing()
     ensures { ToldRefusalsChangeNothing }
+{}
+
+/// Where the catalogue and the roll are in their ranges, a text has at most one opening finding.
+pub fn one_opening_finding()
+    ensures { OneOpeningFinding }
+{}
+
+/// Where the catalogue and the roll are in their ranges, a text with which a desk opens has no
+/// opening finding.
+pub fn no_finding_where_opened()
+    ensures { NoFindingWhereOpened }
+{}
+
+/// A desk opens with the text of a publication, or there is an opening finding on it.
+pub fn opens_or_is_found()
+    ensures { OpensOrIsFound }
+{}
+
+/// No text, of a publication or not, is without an opening finding where no desk opens with it.
+pub fn found_where_not_opened()
+    ensures { FoundWhereNotOpened }
 {}
