@@ -2,7 +2,9 @@
 
 from __future__ import annotations
 
+import csv
 import importlib.util
+import io
 import os
 import shutil
 import sys
@@ -123,6 +125,43 @@ class College(InFolder):
         holders = [row.rsplit(",", 1)[0] for row in self.read("out/lists/rosters.csv").splitlines()[1:]]
         for section in self.college.sections:
             self.assertLessEqual(holders.count(section.code), section.seats)
+        self.assert_own_credits(rows)
+        self.after_publication({one[0]: one[1].split("; ") for one in csv.reader(rows[1:])})
+
+    def assert_own_credits(self, rows: list[str]) -> None:
+        """The credits of each student are the sum of what the college says, with its decimal comma."""
+        halves = {one.code: one.half_credits for one in self.college.sections}
+        for _, sections, told, *_ in csv.reader(rows[1:]):
+            total = sum(halves[one] for one in sections.split("; ") if one)
+            self.assertEqual(told, f"{total // 2},5" if total % 2 else str(total // 2))
+
+    def after_publication(self, before: dict[str, list[str]]) -> None:
+        """Drop and add, and the next roll: nobody loses a seat by a swap, and what is carried over is of what is held then."""
+        status, told = say("hall", "--manifest", "out/manifest.json", "--into", "out")
+        self.assertEqual(status, 0, told)
+        with open("out/hall-students.csv", encoding="utf-8-sig", newline="") as file:
+            held = {row["student"]: row["sections"].split("; ") for row in csv.DictReader(file)}
+        with open("changes.csv", encoding="cp1252", newline="") as file:
+            swaps = [row for row in csv.reader(file) if row[1] in before and row[2] and row[3]]
+        self.assertGreater(len(swaps), 5)
+        for _, student, drop, add in swaps:
+            if drop in before[student]:
+                self.assertTrue({drop, add} & set(held[student]), (student, drop, add))
+                self.assertEqual(f"{student} keeps {drop}; left out: {add} can not be had (" in told, drop in held[student])
+        status, told = say("next", "--manifest", "out/manifest.json", "--into", "out/next.csv")
+        self.assertEqual(status, 0, told)
+        self.assertIn("after out/hall.requests: ", told)
+        self.assert_carried(held)
+
+    def assert_carried(self, held: dict[str, list[str]]) -> None:
+        """Budget less prices of what is held, by the lines of the published text, and 0 where these come to more."""
+        names = {row["original"]: row["name"] for row in csv.DictReader(io.StringIO(self.read("out/names.csv"))) if row["kind"] == "section"}
+        lines = [line.split(" ") for line in self.read("out/published.txt").splitlines()]
+        budgets = {one[1]: int(one[2]) for one in lines if one[0] == "budget"}
+        prices = {one[1]: int(one[2]) for one in lines if one[0] == "price"}
+        for row in csv.DictReader(io.StringIO(self.read("out/next.csv"))):
+            cost = sum(prices[names[section]] for section in held[row["student"]] if section)
+            self.assertEqual(int(row["carry"]), max(0, budgets[row["student"]] - cost), row)
 
 
 if __name__ == "__main__":
