@@ -12,18 +12,20 @@ REQUESTS, PRINTED = "hall.requests", "hall.txt"
 
 
 def requests_of(found: manifest.Manifest) -> Optional[str]:
-    """The requests of the last hall, by the log beside the manifest, else those that stand beside it; nothing where there was none.
+    """The requests of the last hall, by the log beside the manifest, else those that stand beside it; nothing without.
 
     Raises `Trouble` where the log tells of a hall whose requests are gone.
     """
     log = os.path.join(found.folder, work_log.FILE)
     entries = work_log.read(log)[0] if os.path.isfile(log) else []
-    names = [one["file"] for entry in entries if entry["command"] == "hall" for one in entry["files"] if "file" in one]
-    written = [os.path.normpath(os.path.join(found.folder, name)) for name in names if os.path.basename(name) == REQUESTS]
+    names = [one.get("file", "") for entry in entries if entry["command"] == "hall" for one in entry["files"]]
+    names = [name for name in names if os.path.basename(name) == REQUESTS]
+    written = [os.path.normpath(os.path.join(found.folder, name)) for name in names]
     beside = os.path.normpath(os.path.join(found.folder, REQUESTS))
     if written and not os.path.isfile(written[-1]):
         raise tell.Trouble(
-            f"`registrar hall` wrote {written[-1]}, which is not there: `--hall FILE` names the requests, `--no-hall` leaves them out",
+            f"`registrar hall` wrote {written[-1]}, which is not there: `--hall FILE` names the requests, "
+            "`--no-hall` leaves them out",
             tell.NO_FILE,
         )
     return written[-1] if written else beside if os.path.isfile(beside) else None
@@ -32,7 +34,8 @@ def requests_of(found: manifest.Manifest) -> Optional[str]:
 def held(found: manifest.Manifest, requests: str) -> Dict[str, Tuple[str, ...]]:
     """What each student holds after these requests, as the program answers.
 
-    Raises `Trouble` where no desk opens, or where `hall.txt` beside the requests tells otherwise: then they were changed since.
+    Raises `Trouble` where no desk opens, or where `hall.txt` beside the requests tells otherwise: then they were
+    changed since.
     """
     answer = program.call(manifest.hall_words(found, [requests]), tell.Life("taking requests"))
     if answer.status:
@@ -40,8 +43,8 @@ def held(found: manifest.Manifest, requests: str) -> Dict[str, Tuple[str, ...]]:
     printed = os.path.join(os.path.dirname(requests), PRINTED)
     if os.path.isfile(printed) and tables.read_bytes(printed) != answer.output:
         raise tell.Trouble(
-            f"{printed} is not what the program answers to {requests} now: one of them, or the catalogue, was changed since. "
-            "Run `registrar hall` again"
+            f"{printed} is not what the program answers to {requests} now: one of them, or the catalogue, was changed "
+            "since. Run `registrar hall` again"
         )
     return finals(answer.lines)
 

@@ -1,7 +1,7 @@
 """Who works in a folder: one command at a time writes there, and whoever comes second is told who it is.
 
-The lock is the system's lock on the file `course-match.lock`, which says who holds it. The system opens it when its holder ends,
-however that is, so that no lock is ever left behind: a file that is left says nothing.
+The lock is the system's lock on the file `course-match.lock`, which says who holds it. The system opens it when its
+holder ends, however that is, so that no lock is ever left behind: a file that is left says nothing.
 """
 
 from __future__ import annotations
@@ -30,7 +30,7 @@ _held: Dict[str, int] = {}
 
 
 def user() -> str:
-    """The name of whoever runs this process, by the system and not by its environment; a number where it has no name."""
+    """Whoever runs this process, by the system and not by the environment; a number where it has no name."""
     return name_of(os.getuid())
 
 
@@ -44,7 +44,9 @@ def name_of(number: int) -> str:
 
 @contextlib.contextmanager
 def in_folders(folders: Sequence[str], command: str, make: bool = False) -> Iterator[None]:
-    """Holds these folders for a command. With `make`, those that are not there are made, and go again where they stay empty.
+    """Holds these folders for a command.
+
+    With `make`, those that are not there are made, and go again where they stay empty.
 
     Raises `Trouble` with the status `BUSY` where another process holds one of them, which says whose it is.
     """
@@ -95,7 +97,10 @@ def in_folder(folder: str, command: str) -> Iterator[None]:
 
 
 def taken(folder: str, command: str) -> int:
-    """The descriptor of the lock of a folder, which is held from now on. Raises `Trouble` where somebody else holds it."""
+    """The descriptor of the lock of a folder, which is held from now on.
+
+    Raises `Trouble` where somebody else holds it.
+    """
     if not os.path.isdir(folder):
         raise Trouble(f"there is no folder {shown(folder)}", NO_FILE)
     path = os.path.join(folder, FILE)
@@ -155,7 +160,7 @@ def says(descriptor: int, path: str, command: str) -> bool:
 
 
 def read(descriptor: int) -> Optional[Dict[str, str]]:
-    """What a lock says of its holder, or nothing in the moment before it does; the owner of the file is known even then."""
+    """What a lock says of its holder, or nothing in the moment before it does."""
     try:
         kept = json.loads(os.pread(descriptor, MOST_BYTES, 0))
         return {name: str(kept[name]) for name in ("user", "command", "since", "process", "machine")}

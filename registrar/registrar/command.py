@@ -45,8 +45,8 @@ STATUSES = (
 class Parser(argparse.ArgumentParser):
     """A parser whose refusals have a status of their own, since 2 is a status of the program.
 
-    A word that begins with a dash and is no option of the command is a file where one has that name, and a name where the command
-    takes names of students or sections (`set_defaults(takes_names=True)`): `import` makes such names.
+    A word that begins with a dash and is no option of the command is a file where one has that name, and a name where
+    the command takes names of students or sections (`set_defaults(takes_names=True)`): `import` makes such names.
     """
 
     def _parse_optional(self, arg_string: str) -> Any:
@@ -56,7 +56,8 @@ class Parser(argparse.ArgumentParser):
     def is_word(self, text: str) -> bool:
         """Whether a word that may look like an option is a name or a file."""
         begin = text.split("=", 1)[0]
-        is_option = any(one == begin or begin.startswith("--") and one.startswith(begin) for one in self._option_string_actions)
+        is_long = begin.startswith("--")
+        is_option = any(one == begin or is_long and one.startswith(begin) for one in self._option_string_actions)
         if is_option or not text.startswith("-") or text in ("-", "--"):
             return False
         return bool(self.get_default("takes_names")) or os.path.lexists(text)
@@ -95,7 +96,8 @@ def worked(arguments: argparse.Namespace, words: Sequence[str]) -> int:
         return int(arguments.run(arguments))
     with at_work.in_folders(folders, arguments.command, make=True):
         for path in [path for folder in dict.fromkeys(folders) for path in whole.left_parts(folder)]:
-            tell.warn(f"{path} is a part of a file, left by a command that was ended; nothing reads it, and it may be removed")
+            left = "left by a command that was ended; nothing reads it, and it may be removed"
+            tell.warn(f"{path} is a part of a file, {left}")
         with work_log.kept(folders[0], arguments.command, words) as ended:
             ended["status"] = int(arguments.run(arguments))
             return ended["status"]

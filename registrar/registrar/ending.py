@@ -10,7 +10,8 @@ import sys
 import threading
 from typing import Callable, Iterator, Optional
 
-#: The signals that end a process and that it can heed. What can not be heeded ends the program by `tied`, and leaves a part file.
+#: The signals that end a process and that it can heed. What can not be heeded ends the program by `tied`, and leaves a
+#: part file.
 HEEDED = (
     signal.SIGINT, signal.SIGTERM, signal.SIGHUP, signal.SIGQUIT, signal.SIGALRM, signal.SIGUSR1, signal.SIGUSR2,
     signal.SIGXCPU, signal.SIGVTALRM, signal.SIGPROF,
@@ -33,7 +34,10 @@ _came: Optional[int] = None
 
 
 def heed() -> None:
-    """Raises `Ended` where a signal came: Python passes over what a handler raises in some places, as while it starts a process."""
+    """Raises `Ended` where a signal came.
+
+    Python passes over what a handler raises in some places, as while it starts a process.
+    """
     if _came is not None:
         raise Ended(_came)
 
@@ -84,7 +88,7 @@ LIBRARY = _library()
 
 
 def tied() -> Optional[Callable[[], None]]:
-    """What a process that is started does first, so that it ends when this one ends, by whatever signal; nothing off Linux."""
+    """What a process that is started does first, so that it ends when this one ends; nothing off Linux."""
     if LIBRARY is None:
         return None
     parent = os.getpid()

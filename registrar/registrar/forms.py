@@ -54,7 +54,8 @@ class Gatherer:
             raise tell.Trouble(f"{path} can not be read: {error.strerror}", tell.NO_FILE) from error
         rules = own_names.with_drawn(self.mapping.students, own_names.beside(found.catalogue))
         self.students = known("student", rules, [one.name for one in tables.read_roll(found.roll)])
-        self.sections = known("section", self.mapping.sections, [one.code for one in tables.read_catalogue(found.catalogue)])
+        codes = [one.code for one in tables.read_catalogue(found.catalogue)]
+        self.sections = known("section", self.mapping.sections, codes)
 
     def requests(self) -> list[Request]:
         """The requests of all exports, in the mapping's order."""
@@ -95,9 +96,8 @@ class Gatherer:
         filled = [word for word in REQUESTS if export.cell(row, word)]
         order = [tidy(word) for word in split(export.source.get("both"))]
         if len(filled) > 1 and not set(filled) <= set(order):
-            export.fault(
-                row, filled[0], " and ".join(filled), "one request; `both = drop, add` states an order for rows with several"
-            )
+            expected = "one request; `both = drop, add` states an order for rows with several"
+            export.fault(row, filled[0], " and ".join(filled), expected)
             return []
         if not filled:
             self.faults.add(export.file, row.number, "", "", "this row asks for nothing")

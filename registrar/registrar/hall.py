@@ -34,8 +34,9 @@ def add_arguments(parser: argparse.ArgumentParser) -> None:
     """The options of `hall`."""
     parser.description = (
         f"{HELP}. "
-        "The requests of all [requests NAME] of the mapping make one stream, in the order of the mapping and of the rows, so that "
-        "the replies are the same each time. Written are hall.requests, hall.txt (what the program printed), and as tables "
+        "The requests of all [requests NAME] of the mapping make one stream, in the order of the mapping and of the rows, "
+        "so that the replies are the same each time. Written are hall.requests, hall.txt (what the program printed), and "
+        "as tables "
         "hall-replies.csv, hall-rosters.csv, hall-students.csv and hall-waiting.csv. The kinds of --allow: "
         + "; ".join(f"{kind}: {what}" for kind, what in KINDS.items()) + "."
     )
@@ -47,7 +48,8 @@ def add_arguments(parser: argparse.ArgumentParser) -> None:
     parser.add_argument("--into", metavar="FOLDER", help="where the files are written (default: the mapping's folder)")
     parser.add_argument("--replace", action="store_true", help="write over files that stand there and differ")
     parser.add_argument(
-        "--allow", action="append", default=[], choices=list(KINDS), metavar="KIND", help="a kind that is taken all the same; may come again"
+        "--allow", action="append", default=[], choices=list(KINDS), metavar="KIND",
+        help="a kind that is taken all the same; may come again",
     )
 
 
@@ -109,7 +111,9 @@ def tell_refusal(found: manifest.Manifest, answer: program.Answer) -> int:
     return answer.status
 
 
-def tell_lost(found: manifest.Manifest, asked: Sequence[forms.Request], replies: Sequence[str], allowed: Sequence[str]) -> int:
+def tell_lost(
+    found: manifest.Manifest, asked: Sequence[forms.Request], replies: Sequence[str], allowed: Sequence[str]
+) -> int:
     """Lists the requests that are none, or name nobody and nothing, and answers how many of these are not allowed."""
     names = {
         "no-student": Meant(one.name for one in tables.read_roll(found.roll)),
@@ -135,7 +139,8 @@ def written(arguments: argparse.Namespace, found: manifest.Manifest, settled: sw
     own = own_names.beside(found.catalogue)
     left_out = [swaps.in_words(swap, own, True) for swap in settled.left_out]
     if left_out:
-        tell.say(f"{tell.count(len(left_out), 'swap', 'swaps')} would lose a seat and get none (`--allow lost-seat` takes such swaps too):")
+        number = tell.count(len(left_out), "swap", "swaps")
+        tell.say(f"{number} would lose a seat and get none (`--allow lost-seat` takes such swaps too):")
         for line in left_out:
             tell.say("  " + line)
     comments = "".join(f"# {one.line}, of a swap that is left out\n" for one in left_requests(settled))
@@ -152,7 +157,7 @@ def written(arguments: argparse.Namespace, found: manifest.Manifest, settled: sw
 
 
 def tables_of(settled: swaps.Settled, own: own_names.Own) -> dict[str, bytes]:
-    """The tables after the hall: replies, rosters, each student's sections, and who waits; in the school's own spelling."""
+    """The tables after the hall, in the school's own spelling: replies, rosters, what each student holds, who waits."""
     section, student = (functools.partial(own_names.spelt, own, kind) for kind in ("section", "student"))
     rosters, holds, waits = [["section", "student"]], [["student", "sections"]], [["section", "place", "student"]]
     held: dict[str, list[str]] = {}

@@ -1,4 +1,4 @@
-"""The desk of drop and add, as the program keeps it: its replies to requests, and the catalogue with which it may open."""
+"""The desk of drop and add, as the program keeps it: its replies, and the catalogue with which it may open."""
 
 from __future__ import annotations
 
@@ -69,8 +69,9 @@ def refuse_more_than_seats(found: manifest.Manifest, allowed: bool) -> None:
     """
     if manifest.sum_but_seats(found.catalogue) == found.but_seats_sum or allowed:
         return
-    why = "in more than its seats" if found.but_seats_sum else f"and {found.path} does not say whether in its seats alone"
+    unknown = f"and {found.path} does not say whether in its seats alone"
+    why = "in more than its seats" if found.but_seats_sum else unknown
     raise tell.Trouble(
-        f"{found.catalogue} has changed since the run {why}. Put the catalogue of that run back, with other seats where there are any; "
-        "`--allow catalogue` takes it as it is, and the desk goes by its times, courses and credits"
+        f"{found.catalogue} has changed since the run {why}. Put the catalogue of that run back, with other seats "
+        "where there are any; `--allow catalogue` takes it as it is, and the desk goes by its times, courses and credits"
     )

@@ -1,7 +1,7 @@
 """`next`: the roll of the next term, with the tokens that are carried over.
 
-The rule is that of the guide ("What is carried over"): the student's budget less the prices of what it holds in the end, and 0
-where these come to more. What it holds in the end is what it holds after `hall`, where there was one.
+The rule is that of the guide ("What is carried over"): the student's budget less the prices of what it holds in the
+end, and 0 where these come to more. What it holds in the end is what it holds after `hall`, where there was one.
 """
 
 from __future__ import annotations
@@ -26,8 +26,8 @@ def add_arguments(parser: argparse.ArgumentParser) -> None:
     """The options of `next`."""
     parser.description = (
         f"{HELP}. "
-        "The rule: what is carried over is the student's budget less the prices of what it holds in the end, after `registrar hall` "
-        "where there was one, and 0 where these come to more. The text is not judged: `registrar check` does that."
+        "The rule: what is carried over is the student's budget less the prices of what it holds in the end, after "
+        "`registrar hall` where there was one, and 0 where these come to more. The text is not judged: `registrar check` does that."
     )
     manifest.add_argument(parser)
     parser.add_argument(
@@ -40,12 +40,15 @@ def add_arguments(parser: argparse.ArgumentParser) -> None:
         help="who is there in the next term, with new bases and caps (default: the roll of the text)",
     )
     parser.add_argument(
-        "--most", type=ranges.whole(0, MOST_TOKENS), default=MOST_TOKENS, metavar="N", help="nobody carries over more than so many tokens"
+        "--most", type=ranges.whole(0, MOST_TOKENS), default=MOST_TOKENS, metavar="N",
+        help="nobody carries over more than so many tokens",
     )
     parser.add_argument(
         "--into", default="roll.next.csv", metavar="FILE", help="the roll that is written (default: roll.next.csv)"
     )
-    parser.add_argument("--hall", metavar="FILE", help="the hall.requests of the hall (default: those of the last `registrar hall`)")
+    parser.add_argument(
+        "--hall", metavar="FILE", help="the hall.requests of the hall (default: those of the last `registrar hall`)"
+    )
     parser.add_argument("--no-hall", action="store_true", help="what the published text says, though there was a hall")
     parser.add_argument("--replace", action="store_true", help="write over a file that stands there and differs")
 
@@ -112,14 +115,15 @@ def run(arguments: argparse.Namespace) -> int:
         )
     own = own_names.beside(arguments.text)
     for student in carried.gone:
-        tell.say(f"not on the new roll: {own_names.spelt(own, 'student', student)}, with {term.left_over(student)} tokens left")
+        name = own_names.spelt(own, "student", student)
+        tell.say(f"not on the new roll: {name}, with {term.left_over(student)} tokens left")
     return 0
 
 
 def read_by(arguments: argparse.Namespace) -> list[tuple[str, str]]:
     """What each file is that the words name, and its path."""
-    given = [("roll", arguments.roll), ("published text", arguments.text), ("roll of the next term", arguments.students)]
-    return [*given, ("file of requests", arguments.hall)]
+    given = [("roll", arguments.roll), ("published text", arguments.text), ("file of requests", arguments.hall)]
+    return [*given, ("roll of the next term", arguments.students)]
 
 
 def term_of(text: published.Published, arguments: argparse.Namespace, found: manifest.Manifest | None) -> Term:
@@ -127,7 +131,8 @@ def term_of(text: published.Published, arguments: argparse.Namespace, found: man
     finals = {name: final.sections for name, final in text.finals.items()}
     if found is None or arguments.no_hall:
         if arguments.hall:
-            raise tell.Trouble("--hall needs a manifest, which names the catalogue, and goes not with --no-hall", tell.USAGE)
+            words = "--hall needs a manifest, which names the catalogue, and goes not with --no-hall"
+            raise tell.Trouble(words, tell.USAGE)
         return Term(text, finals, [])
     requests = arguments.hall or after_hall.requests_of(found)
     if requests is None:

@@ -15,8 +15,9 @@ from registrar.tell import Trouble, warn
 
 FILE = "names.csv"
 
-# For each kind (`section`, `course`, `student`) the school's own spelling of each name that was spelt anew. The kind `meetings` has
-# the timetable's own words for the meetings of a section, and `unit` how many of the school's credits one `credit` of the program is.
+# For each kind (`section`, `course`, `student`) the school's own spelling of each name that was spelt anew. The kind
+# `meetings` has the timetable's own words for the meetings of a section, and `unit` how many of the school's credits
+# one `credit` of the program is.
 Own = Dict[str, Dict[str, str]]
 
 UNIT, CREDIT, MEETINGS = "unit", "credit", "meetings"
@@ -136,7 +137,7 @@ def meant(own: Own, kind: str, word: str) -> str:
 
 
 def nearest(own: Own, kind: str, word: str, names: Iterable[str]) -> str:
-    """`; nearest: ÖKON 101`: whom or what a word that is nobody's name was likely to mean, in the school's own spelling.
+    """`; nearest: ÖKON 101`: whom or what a word that is nobody's name may mean, in the school's own spelling.
 
     Where it is the beginning of a few names, these. Nothing where none is near.
     """

@@ -95,8 +95,8 @@ def call(
 ) -> Answer:
     """Calls the program with these words. What it prints goes to the file `output`, or into the answer.
 
-    The status is the program's own. A program that was killed has none, and that is a refusal of ours. It ends when this
-    process ends; a brief call, which is over in a moment, is not bound to that, since binding it takes longer than the call.
+    The status is the program's own. A program that was killed has none, and that is a refusal of ours. It ends when
+    this process ends; a brief call, which is over in a moment, is not bound to that: binding takes longer than the call.
     """
     program = find_program()
     refuse_many(words)
@@ -105,8 +105,9 @@ def call(
         target = output if output is not None else kept
         try:
             process = subprocess.Popen(
-                [program, *words], stdin=subprocess.DEVNULL, stdout=target, preexec_fn=None if is_brief else ending.tied()
-            )
+                [program, *words], stdin=subprocess.DEVNULL, stdout=target,
+                preexec_fn=None if is_brief else ending.tied(),
+            )  # fmt: skip
         except OSError as error:
             raise Trouble(f"{program} can not be called: {error.strerror}", NO_PROGRAM) from error
         status = wait(process, life, None if is_brief else LOOKED_AFTER)
@@ -128,7 +129,7 @@ def refuse_many(words: Sequence[str]) -> None:
 
 
 def wait(process: subprocess.Popen[bytes], life: Optional[Life], seconds: Optional[float]) -> int:
-    """Waits for the program. Each time so many seconds have gone it tells the line of life, and heeds a signal that came."""
+    """Waits for the program. Each so many seconds it tells the line of life, and heeds a signal that came."""
     try:
         while True:
             ending.heed()

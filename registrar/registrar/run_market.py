@@ -98,7 +98,7 @@ def turns_of(settings: str) -> object:
 
 
 def run_to(part: whole.Part, words: Sequence[str], life: tell.Life) -> program.Answer:
-    """Runs these words to a part file. Where all is well with that, it takes the text's name, and a manifest stands beside it."""
+    """Runs these words to a part file. Where that holds it takes the text's name, and its manifest takes its own."""
     before = sums(words)
     answer = program.call(words, life, part.file)
     if answer.status:

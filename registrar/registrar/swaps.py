@@ -1,7 +1,8 @@
 """Swaps at the desk of drop and add: a student gives one section up and asks for another, in one row of a form.
 
-The desk takes both requests one after the other. Where the other section has no seat the student has lost the first one. So each
-swap that would end like that is found by the program's own replies, before anything is written, and left out.
+The desk takes both requests one after the other. Where the other section has no seat the student has lost the first
+one. So each swap that would end like that is found by the program's own replies, before anything is written, and left
+out.
 """
 
 from __future__ import annotations
@@ -14,7 +15,7 @@ from registrar.forms import Request
 
 @dataclass(frozen=True)
 class Swap:
-    """A swap with the replies to both requests, and whether the student got the other section, at once or from the waiting list."""
+    """A swap with the replies to both requests, and whether the student got the other section, at once or later."""
 
     drop: Request
     dropped: str
@@ -29,7 +30,7 @@ class Swap:
 
 @dataclass(frozen=True)
 class Settled:
-    """The requests that are taken, the program's answer to them, and the swaps that are left out, with what they would have got."""
+    """The requests that are taken, the program's answer to them, and the swaps that are left out."""
 
     asked: Tuple[Request, ...]
     answer: program.Answer
@@ -42,10 +43,11 @@ class Settled:
 
 
 def settle(found: manifest.Manifest, asked: Sequence[Request], answer: program.Answer) -> Settled:
-    """Leaves out each swap that would lose a seat, the first one first, until there is none; `answer` is that to all requests.
+    """Leaves out each swap that would lose a seat, the first one first; `answer` is the answer to all requests.
 
-    Each time the program is asked anew: where a swap is left out its seat is not free, and others wait further in front. So two
-    students who exchange their seats both stay in, and whoever would lose a seat by it is left out in turn.
+    Each time the program is asked anew: where a swap is left out its seat is not free, and others wait further in
+    front. So two students who exchange their seats both stay in, and whoever would lose a seat by it is left out in
+    turn.
     """
     kept = tuple(asked)
     left_out: Tuple[Swap, ...] = ()
@@ -75,8 +77,11 @@ def swaps_of(asked: Sequence[Request], replies: Sequence[str]) -> List[Swap]:
 def is_called(add: Request, asked: Sequence[Request], replies: Sequence[str]) -> bool:
     """Whether one of these later requests gives the section to the student, who waits for it."""
     _, who, what = add.words
-    called = ((one.words[2], reply.split(" ")) for one, reply in zip(asked, replies) if one.words[0] == "drop" and len(one.words) == 3)
-    return any(section == what and words[0] == "dropped" and words[-1] == who for section, words in called)
+    for one, reply in zip(asked, replies):
+        words = reply.split(" ")
+        if one.words[0] == "drop" and one.words[2:] == (what,) and words[0] == "dropped" and words[-1] == who:
+            return True
+    return False
 
 
 def in_words(swap: Swap, own: own_names.Own, is_left_out: bool = False) -> str:

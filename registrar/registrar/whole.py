@@ -1,9 +1,9 @@
 """Files that are written whole or not at all.
 
-What is written goes into a part file beside its target first, under a name that nobody else has, and takes the target's name
-when all of it is there. So whatever ends a command, or keeps it from writing, the old file stands, and two commands that write
-the same file never mix. A target that stands and is no regular file (a device, a folder, a symbolic link) is refused: to take
-its name would put a file in its place.
+What is written goes into a part file beside its target first, under a name that nobody else has, and takes the target's
+name when all of it is there. So whatever ends a command, or keeps it from writing, the old file stands, and two
+commands that write the same file never mix. A target that stands and is no regular file (a device, a folder, a symbolic
+link) is refused: to take its name would put a file in its place.
 """
 
 from __future__ import annotations
@@ -198,7 +198,7 @@ def give_back(target: str, old: Dict[str, str]) -> None:
 
 def left_parts(folder: str) -> List[str]:
     """The part files that stand in a folder: whoever wrote them was ended, if nobody writes there now."""
-    found = glob.glob(os.path.join(glob.escape(folder), "*" + ENDING)) + glob.glob(os.path.join(glob.escape(folder), ".*" + ENDING))
+    found = [path for begin in ("*", ".*") for path in glob.glob(os.path.join(glob.escape(folder), begin + ENDING))]
     return sorted(os.path.normpath(path) for path in found if PART.search(path))
 
 

@@ -1,7 +1,8 @@
 """`log`: who did what. Each command that writes appends a line to `course-match.log` beside the manifest.
 
-A line is a JSON object: `time` (UTC), `user` (by the system), `command`, `words`, `status`, and `files`, each with its SHA-256. Of
-many files in one folder there is one entry, with their number and the SHA-256 of the lines that `sha256sum` prints of them.
+A line is a JSON object: `time` (UTC), `user` (by the system), `command`, `words`, `status`, and `files`, each with its
+SHA-256. Of many files in one folder there is one entry, with their number and the SHA-256 of the lines that `sha256sum`
+prints of them.
 """
 
 from __future__ import annotations
@@ -194,6 +195,7 @@ def changed(folder: str, entries: Sequence[Entry]) -> List[str]:
         path = os.path.normpath(os.path.join(folder, name))
         if os.path.isfile(path) and program.sha256(path) != total:
             told.append(
-                f"{path} is not what `registrar {entry['command']}` of {entry['user']} wrote last: it was changed by other means"
+                f"{path} is not what `registrar {entry['command']}` of {entry['user']} wrote last: "
+                "it was changed by other means"
             )
     return told
