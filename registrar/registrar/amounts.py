@@ -50,7 +50,10 @@ def whole(text: str, least: int, most: int, decimal: str = ".") -> int:
 
 
 def seats(text: str, most: int, decimal: str, reserved: str) -> int:
-    """A number of seats. Of `35 (5 reserved)` it is 35 where `reserved` is `all`, and 30 where it is `less`. Raises `AmountFault`."""
+    """A number of seats. Of `35 (5 reserved)` it is 35 where `reserved` is `all`, and 30 where it is `less`.
+
+    Raises `AmountFault`, also where it is neither.
+    """
     found = RESERVED.fullmatch(text.strip())
     if not found:
         return whole(text, 0, most, decimal)
@@ -58,8 +61,9 @@ def seats(text: str, most: int, decimal: str, reserved: str) -> int:
     if kept > everything:
         raise AmountFault("no more reserved seats than there are seats")
     if not reserved:
+        both = f"{everything} or {everything - kept}"
         raise AmountFault(
-            f"a number of seats: this may be {everything} or {everything - kept}; state `reserved seats = all` or `reserved seats = less`"
+            f"a number of seats: this may be {both}; state `reserved seats = all` or `reserved seats = less`"
         )
     return everything if reserved == "all" else everything - kept
 

@@ -67,6 +67,10 @@ NEEDED = {
 }
 
 
+#: The columns that are looked at for blanks; of the latter ones, of several rows of a section the first alone counts.
+MAY_BE_BLANK = ("section", "course", "student", "seats", "credits", "meetings", "budget", "courses")
+OF_FIRST_ROWS = ("seats", "credits", "budget", "courses")
+
 #: So many words that stand in place of numbers are shown.
 WORDS_SHOWN = 12
 
@@ -112,6 +116,14 @@ def look_at(path: str, encoding: str) -> Seen:
     header = rows[best] if rows else []
     below = [(number, row) for number, row in enumerate(rows[best + 1 :], best + 2) if any(row)]
     return Seen(path, header, [row for _, row in below], [number for number, _ in below], best + 1, encoding)
+
+
+def choices(option: str, title: str, is_partly: bool) -> str:
+    """What a mapping may say of a column that is blank in some rows (`is_partly`), or in all."""
+    found = [f"`fill down = {title}` where these are merged cells"] if is_partly else []
+    if option not in ("section", "course", "student"):
+        found.append(f"`{option} default` where all of them mean one value")
+    return ", or ".join(found)
 
 
 class Guesser:
@@ -170,7 +182,7 @@ class Guesser:
         return [seen for seen in self.files if seen.kind == kind]
 
     def joined(self, seen: Seen, names: str) -> list[str]:
-        """The codes of a column, or of several that are joined by `-`; what is blank in one of these is what stands above it."""
+        """The codes of a column, or of several that are joined by `-`: what is blank in these is what stands above."""
         places = [seen.header.index(name) for name in names.split(" + ")]
         found: list[str] = []
         above = [""] * len(places)
@@ -248,23 +260,29 @@ class Guesser:
             self.open.append(f"{os.path.basename(seen.path)}: neither catalogue, roll, survey nor requests; it is left out")
 
     def ask(self, seen: Seen, titles: list[str]) -> None:
-        """Asks what the numbers in these columns mean, with examples: the mapping has to say it. Of words it asks for numbers."""
+        """Asks what the numbers in these columns mean, with examples. Of words it asks for numbers."""
         source = Source("survey", "survey", "", self.folder, {})
         seen.asked.append("says: " + "\n    ".join(what_numbers_may_mean(self.values_of(seen, titles), source)))
-        words = list(dict.fromkeys(value for title in titles for value in seen.column(title) if not re.match(r"[-+]?\d", value)))
+        values = (value for title in titles for value in seen.column(title))
+        words = list(dict.fromkeys(value for value in values if not re.match(r"[-+]?\d", value)))
         if words:
-            shown = ", ".join(f'"{word}"' for word in words[:WORDS_SHOWN]) + (", .." if len(words) > WORDS_SHOWN else "")
+            more = ", .." if len(words) > WORDS_SHOWN else ""
+            shown = ", ".join(f'"{word}"' for word in words[:WORDS_SHOWN]) + more
             seen.asked.append(f"answers: these stand in place of numbers: {shown}")
 
     def values_of(self, seen: Seen, titles: list[str]) -> list[tuple[str, list[str]]]:
-        """What each answer gave in these columns, with its first row: a row, or in a long sheet the rows of a student with one time."""
+        """What each answer gave in these columns, with its first row.
+
+        An answer is a row, or in a long sheet the rows of a student with one time.
+        """
         student = seen.header.index(seen.values["student"])
         places = [seen.header.index(title) for title in titles]
         second = seen.header.index(seen.values["second"]) if seen.values.get("second") else len(seen.header)
         time = seen.header.index(seen.has("time")) if seen.has("time") else len(seen.header)
         found: dict[tuple[str, ...], tuple[str, list[str]]] = {}
         for number, row in zip(seen.numbers, seen.rows):
-            key = (str(number),) if seen.values["shape"] != "wishes" else tuple(row[at] for at in (student, time) if at < len(row))
+            is_long = seen.values["shape"] == "wishes"
+            key = tuple(row[at] for at in (student, time) if at < len(row)) if is_long else (str(number),)
             is_pair = second < len(row) and row[second].strip()
             values = [] if is_pair else [tidy(row[at]) for at in places if at < len(row) and row[at].strip()]
             found.setdefault(key, (f"row {number}", []))[1].extend(values)
@@ -334,7 +352,8 @@ class Guesser:
         title = f"sessions {spelt(os.path.basename(os.path.abspath(path)))[:28] or 'own'}"
         self.sections[title] = {"folder": os.path.relpath(path, self.folder)}
         count = sum(name.endswith(".session") for name in os.listdir(path))
-        self.told.append(f"{os.path.basename(os.path.abspath(path))} is [{title}]: {tell.count(count, 'session file', 'session files')}")
+        files = tell.count(count, "session file", "session files")
+        self.told.append(f"{os.path.basename(os.path.abspath(path))} is [{title}]: {files}")
 
     def blanks(self, seen: Seen) -> list[str]:
         """The columns that are blank in some rows, so that the mapping has to say what a blank means.
@@ -344,19 +363,16 @@ class Guesser:
         names = self.joined(seen, seen.values["section"]) if seen.kind == "catalogue" else []
         firsts = [row for at, row in enumerate(seen.rows) if not names or names.index(names[at]) == at]
         found: list[str] = []
-        options = ("section", "course", "student", "seats", "credits", "meetings", "budget", "courses") if seen.kind in SOUGHT else ("student",)
         told: set[str] = set()
-        for option in options:
-            is_name = option in ("section", "course", "student")
-            for title in (title for title in seen.values.get(option, "").split(" + ") if title in seen.header and title not in told):
-                rows = seen.rows if is_name or option == "meetings" else firsts
-                at = seen.header.index(title)
-                blank = sum(at >= len(row) or not row[at] for row in rows)
+        for option in MAY_BE_BLANK if seen.kind in SOUGHT else ("student",):
+            rows = firsts if option in OF_FIRST_ROWS else seen.rows
+            for title in seen.values.get(option, "").split(" + "):
+                at = seen.header.index(title) if title in seen.header else -1
+                blank = sum(at >= len(row) or not row[at] for row in rows) if at >= 0 and title not in told else 0
                 if blank:
                     told.add(title)
-                    choices = [f"`fill down = {title}` where these are merged cells"] if blank < len(rows) else []
-                    choices += [] if is_name else [f"`{option} default` where all of them mean one value"]
-                    found.append(f"{option}: {blank} of {len(rows)} rows have nothing in {title}: {', or '.join(choices)}")
+                    found.append(f"{option}: {blank} of {len(rows)} rows have nothing in {title}: "
+                                 + choices(option, title, blank < len(rows)))  # fmt: skip
         return found
 
     def reserved(self, seen: Seen) -> list[str]:
@@ -375,15 +391,17 @@ class Guesser:
         return [f'length or length default: "{text}" has no end' for text in open_ended[:1]]
 
     def of_times(self) -> dict[str, str]:
-        """Whether times are of 24 hours, by those of the catalogue; where they do not tell, what reads in two ways is asked."""
+        """Whether times are of 24 hours, by those of the catalogue. Where they do not tell, two readings are asked about."""
         for seen in self.of("catalogue"):
-            names = [seen.values[option] for option in ("meetings", "start", "end") if seen.values.get(option) in seen.header]
+            options = ("meetings", "start", "end")
+            names = [seen.values[option] for option in options if seen.values.get(option) in seen.header]
             of_day = hours_of_24(text for name in names for text in seen.column(name))
             if of_day:
                 self.told.append(f'clock = 24, since "{of_day}" stands in {os.path.basename(seen.path)}')
                 return {"clock": "24"}
             options = ("meetings",) if seen.values.get("meetings") else ("days", "start", "end")
-            places = [seen.header.index(seen.values[option]) if seen.values.get(option) else len(seen.header) for option in options]
+            named = [seen.values.get(option) for option in options]
+            places = [seen.header.index(name) if name else len(seen.header) for name in named]
             unclear = two_ways([row[at] if at < len(row) else "" for at in places] for row in seen.rows)
             if unclear:
                 self.open.append(f"[times] or [days] {unclear}")

@@ -50,7 +50,7 @@ def add_arguments(parser: argparse.ArgumentParser) -> None:
     parser.add_argument("--replace", action="store_true", help="write over files that stand there and differ")
     parser.add_argument(
         "--pseudonyms", action="store_true",
-        help=f"draw a name for each student; {pseudonyms.FILE}, beside the register, keeps whose each is, and is not to be published",
+        help=f"draw a name for each student; {pseudonyms.FILE}, beside the register, keeps whose each is: never publish it",
     )
     parser.add_argument("--faults", metavar="FILE", help="write the faults as a table too")
     parser.add_argument(
@@ -177,7 +177,7 @@ class Importer:
         self.result = Made(self.mapping)
 
     def place_of_key(self) -> str:
-        """Where the key of drawn names is: beside the register; nothing where the mapping has none, which is a fault of its own."""
+        """Where the key of drawn names is: beside the register; nothing where the mapping has none, which is a fault."""
         registers = self.mapping.of_kind("roll")
         return pseudonyms.beside(registers[0].path) if registers else ""
 
@@ -263,8 +263,8 @@ class Importer:
                 source = export.filled_from(row, option)
                 course = export.cell(by_number[source], "course") if source else ""
                 if source and course != export.cell(row, "course"):
-                    expected = f"{option} of its own: what stands above, in row {source}, is of another course ({course})"
-                    export.fault(row, option, "", expected)
+                    above = f"what stands above, in row {source}, is of another course ({course})"
+                    export.fault(row, option, "", f"{option} of its own: {above}")
 
     def take_row(self, export: Export, row: Row, draft: Draft) -> None:
         """One row of a section. What it says of course, seats, credits and parts has to be what its other rows say."""

@@ -60,13 +60,13 @@ class MeetingFault(Exception):
 class MeetingRules:
     """What a mapping states of meetings."""
 
-    #: Words for days beside those of `DAYS`, in small letters, with the program's letters: one, or those of several days.
+    #: Words for days beside those of `DAYS`, in small letters, with the program's letters of one day or of several.
     days: dict[str, str] = field(default_factory=dict)
     #: Words for no meeting.
     none: tuple[str, ...] = NO_MEETING
     #: A time before this minute of the day that says neither am nor pm is a fault.
     earliest: int = 7 * 60
-    #: A time that says neither am nor pm reads in two ways where it could also end in the evening, by this minute of the day.
+    #: A time that says neither am nor pm reads in two ways where it could also end in the evening, by this minute.
     latest: int = 22 * 60
     #: Whether a time that says neither am nor pm is of 24 hours, so that it reads in one way.
     is_24: bool = False
@@ -76,7 +76,10 @@ class MeetingRules:
 
 @dataclass(frozen=True)
 class Clock:
-    """A time as it is written: minutes of the day, `a` or `p` where it says so, and whether its hour is one of 24 (`09:00`, `13:00`)."""
+    """A time as it is written: minutes of the day, and `a` or `p` where it says so.
+
+    `is_24` says whether its hour is one of 24, as in `09:00` and `13:00`.
+    """
 
     minutes: int
     half: str
@@ -84,7 +87,10 @@ class Clock:
 
 
 def days_of(text: str, rules: MeetingRules) -> str:
-    """The program's letters for the days that the text names, in its order. Raises `MeetingFault`, also where it reads in two ways."""
+    """The program's letters for the days that the text names, in its order.
+
+    Raises `MeetingFault`, also where it reads in two ways.
+    """
     letters = ""
     whole = rules.days.get(text.strip().casefold())
     for word in [] if whole else BETWEEN.split(text.strip()):
@@ -100,8 +106,8 @@ def days_of(text: str, rules: MeetingRules) -> str:
 def days_of_word(word: str, text: str, rules: MeetingRules) -> str:
     """The letters of one word without blanks and signs, as `MWF`, `TTh`, `TuTh`, `Sunday`. Raises `MeetingFault`.
 
-    A word of the mapping is what the mapping says. Where capitals begin small letters, each capital begins a day. A day's name
-    of three letters or more that stands alone is that day. Any other word is read in all ways that there are.
+    A word of the mapping is what the mapping says. Where capitals begin small letters, each capital begins a day. A day's
+    name of three letters or more that stands alone is that day. Any other word is read in all ways that there are.
     """
     folded = word.casefold()
     words = {**DAYS, **rules.days}
@@ -118,7 +124,8 @@ def days_of_word(word: str, text: str, rules: MeetingRules) -> str:
     if len(once) > 1:
         shown = ", or ".join(" and ".join(DAY_NAMES[letter] for letter in letters) for letters in once.values())
         said = " or ".join(f"`{word} = {letters}`" for letters in once.values())
-        raise MeetingFault(f'days that read in one way: "{word}" may be {shown}; write the days apart, or say {said} under [days]')
+        advice = f"write the days apart, or say {said} under [days]"
+        raise MeetingFault(f'days that read in one way: "{word}" may be {shown}; {advice}')
     return next(iter(once.values()))
 
 

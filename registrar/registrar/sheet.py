@@ -124,7 +124,7 @@ def text_rows(text: str) -> Iterator[list[str]]:
 
 
 def unwrapped(cell: str) -> str:
-    """What a cell shows that is written `="0001"`, by which an export keeps a spreadsheet from taking its zeros; any other as it is."""
+    """What a cell shows that is written `="0001"`, which keeps a spreadsheet from taking its zeros; any other as it is."""
     found = AS_TEXT.fullmatch(cell.strip())
     return found.group(1).replace('""', '"') if found else cell
 

@@ -66,8 +66,8 @@ class Known:
 class Survey:
     """What one survey says, and what was not taken of it.
 
-    `passed_over` are the columns that nothing was taken from, `replaced` the number of submissions of each student that a later
-    one replaced, and `strangers` the rows of each code that is nobody's on the roll, with what is told of it.
+    `passed_over` are the columns that nothing was taken from, `replaced` the number of submissions of each student that a
+    later one replaced, and `strangers` the rows of each code that is nobody's on the roll, with what is told of it.
     """
 
     name: str
@@ -129,7 +129,7 @@ class SurveyReader:
         self.export.missing("says", "", "; ".join(what_numbers_may_mean(list(self.given.values()), self.source)))
 
     def refuse_blank(self, counted: set[int]) -> None:
-        """Refuses a submission without an answer that would replace one with answers: it may be an accident, or a withdrawal."""
+        """Refuses a submission without an answer that would replace one with answers: either may be meant."""
         answers = {row: cells[0] for row, cells in self.survey.tally.cells.items()}
         for student in self.survey.replaced:
             rows = [row.number for row in self.rows_of[student]]
@@ -138,8 +138,8 @@ class SurveyReader:
             if lost and all(answers.get(row) == 0 for row in kept):
                 column = self.export.column("student")
                 title = column.title if column else ""
-                expected = f"an answer: this later row of {student} is blank, and row {lost[0]} has answers. Take out one of the two"
-                self.faults.add(self.export.file, kept[0], title, student, expected)
+                expected = f"an answer: this later row of {student} is blank, and row {lost[0]} has answers"
+                self.faults.add(self.export.file, kept[0], title, student, f"{expected}. Take out one of the two")
 
     def name(self, names: Names, row: Row, column: str, text: str) -> str:
         """The name that a cell means, or nothing, with a fault, where it is nobody's."""
@@ -150,7 +150,10 @@ class SurveyReader:
             return ""
 
     def students(self) -> Iterator[tuple[Row, str]]:
-        """The rows with the student of each. A row whose student is nobody's is still read, for its other faults, unless it is left out."""
+        """The rows with the student of each, but those that are left out.
+
+        Another row whose student is nobody's is still read, for its other faults.
+        """
         column = self.export.column("student")
         assert column is not None
         for row in self.export.rows:
@@ -165,7 +168,7 @@ class SurveyReader:
     def is_stranger(self, row: Row, text: str) -> bool:
         """Whether a code is nobody's on the roll, and is left out and listed.
 
-        Where capitals, zeros or signs alone are other than those of somebody's, it is a fault all the same: it may be that one.
+        Where capitals, zeros or signs alone are other than those of somebody's, it may be that one, and is a fault.
         """
         try:
             self.known.students.find(text)
@@ -192,7 +195,7 @@ class SurveyReader:
         return [wish for wish in wishes if wish.row in counted]
 
     def points(self, row: Row, column: str, text: str) -> tuple[int, int] | None:
-        """The rating that a cell says, and the rank where the survey asks for ranks; none, with a fault, where it says no such number.
+        """The rating that a cell says, and the rank where the survey asks for ranks; none, with a fault, where it says none.
 
         While the mapping does not say what the numbers mean, nothing is read.
         """
@@ -208,7 +211,10 @@ class SurveyReader:
             return None
 
     def give(self, row: Row, student: str, text: str) -> None:
-        """Keeps what a student gave a section, as it stands. An answer is a row, in a long sheet the rows of a student with one time."""
+        """Keeps what a student gave a section, as it stands.
+
+        An answer is a row, or in a long sheet the rows of a student with one time.
+        """
         key = (student, self.export.cell(row, "time")) if self.source.get("shape") == "wishes" else (str(row.number),)
         self.given.setdefault(key, (f"row {row.number}", []))[1].append(self.answers.get(tidy(text).casefold(), text))
 
@@ -371,7 +377,8 @@ class SurveyReader:
             if wish.rank and first.setdefault((wish.student, wish.rank), wish) is not wish:
                 before = first[wish.student, wish.rank]
                 place = f"column {before.column}" if before.row == wish.row else f"row {before.row}"
-                self.fault(wish, f"a rank that {wish.student} did not give in {place} (`says = grade` where 1 is the best and may come again)")
+                advice = "`says = grade` where 1 is the best and may come again"
+                self.fault(wish, f"a rank that {wish.student} did not give in {place} ({advice})")
 
     def fault(self, wish: Wish, expected: str) -> None:
         """Keeps a fault of a wish."""

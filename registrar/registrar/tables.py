@@ -300,9 +300,9 @@ def csv_text(rows: Iterable[Sequence[object]]) -> str:
 
 
 def guarded(cell: object) -> object:
-    """A text that a spreadsheet would take for a formula, with an apostrophe before it; any other cell, as a number, as it is.
+    """A text that a spreadsheet would take for a formula, with an apostrophe before it; any other cell as it is.
 
-    A text that begins with apostrophes and then so gets one more, so that `unguarded` leads back.
+    So a number stays one. A text that begins with apostrophes and then so gets one more, so that `unguarded` leads back.
     """
     is_formula = isinstance(cell, str) and FORMULA.match(cell) and not SIGNED.match(cell)
     return f"'{cell}" if is_formula else cell
@@ -314,7 +314,7 @@ def unguarded(cell: str) -> str:
 
 
 def sheet_text(rows: Iterable[Sequence[object]]) -> str:
-    """A table that a spreadsheet opens, as text by RFC 4180: commas, quotes where they are needed, lines that end with CR LF.
+    """A table that a spreadsheet opens, as text by RFC 4180: commas, quotes where needed, lines that end with CR LF.
 
     No text in it is a formula (`guarded`).
     """
