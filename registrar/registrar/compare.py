@@ -293,7 +293,7 @@ def written(both: Both, groups: Dict[str, str], arguments: argparse.Namespace) -
         "groups.csv": [GROUP_HEADER, *group_rows(both, groups, arguments.least)],
     }
     files = {"compare.html": page(both, groups, arguments.least).encode("utf-8")}
-    return {**files, **{name: tables.csv_text(rows).encode("utf-8-sig") for name, rows in tables_of.items()}}
+    return {**files, **{name: tables.sheet_bytes(rows) for name, rows in tables_of.items()}}
 
 
 def page(both: Both, groups: Dict[str, str], least: int) -> str:

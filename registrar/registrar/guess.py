@@ -37,6 +37,8 @@ WORDS: dict[str, str] = {
     "e mail|email address|name",
     "budget": "budget|tokens|bid points|endowment|points",
     "courses": "max courses|courses|course cap|course limit|max sections|section cap|section limit|max number of courses",
+    "name": "name|full name|student name|last name first name",
+    "e-mail": "e mail|email|e mail address|email address|mail",
     "carry": "carry|carried over|carry over|tokens carried over|tokens left|left over|rollover",
     "rating": "rating|score|points|utility|value|stars|how much",
     "rank": "rank|priority|preference|order of preference",
@@ -54,7 +56,7 @@ WORDS: dict[str, str] = {
 #: What is looked for in each kind of file, and how it is called there.
 SOUGHT = {
     "catalogue": ("section", "course", "seats", "credits", "meetings", "days", "start", "end", "length", "parts"),
-    "roll": ("student", "budget", "credits", "courses", "carry"),
+    "roll": ("student", "budget", "credits", "courses", "carry", "name", "e-mail"),
 }
 
 #: What a mapping needs to be whole: one of each group of options.

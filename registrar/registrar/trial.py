@@ -237,9 +237,8 @@ def group_rows(trials: Sequence[Trial], groups: Dict[str, str], least: int) -> L
 def tell_all(trials: Sequence[Trial], groups: Dict[str, str], arguments: argparse.Namespace) -> int:
     """Tells the trials, and writes the table and the page."""
     rows = rows_of(trials)
-    tables.write_whole(os.path.join(arguments.into, TABLE), tables.csv_text([(*HEADER, "folder"), *(
-        (*row, trial.folder) for row, trial in zip(rows, trials)
-    )]).encode("utf-8-sig"))  # fmt: skip
+    told = [(*HEADER, "folder"), *((*row, trial.folder) for row, trial in zip(rows, trials))]
+    tables.write_whole(os.path.join(arguments.into, TABLE), tables.sheet_bytes(told))
     tables.write_whole(os.path.join(arguments.into, PAGE), page(trials, rows, groups, arguments.least).encode("utf-8"))
     for line in tell.table(HEADER, rows):
         tell.say(line)
