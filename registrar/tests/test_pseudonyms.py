@@ -2,6 +2,7 @@
 
 from __future__ import annotations
 
+import email
 import os
 import re
 import stat
@@ -139,6 +140,35 @@ class Drawn(InFolder):
         self.assertEqual(status, 0, told)
         self.assertIn("pseudonyms.csv is not there: students stand under the names that were drawn for them", told)
         self.assertIn(key["0012"], self.read("others/students.csv"))
+
+
+    @needs_program
+    def test_mails_and_rosters_have_the_student_s_own_name(self) -> None:
+        """The register is joined by the key; the mail's attachment has the drawn name, by which it is checked."""
+        self.write("office/r.csv", "id,who,mail\n" + "".join(f"{own},N{at},s{at}@school.edu\n" for at, own in enumerate(OWN)))
+        rosters = "[rosters]\nfile = system.csv\nencoding = utf-8\n[roster columns]\nID = {student}\nNAME = {name}\nSEC = {section}\n"
+        self.write("office/mapping.ini", MAPPING.replace("[survey w]", "name = who\ne-mail = mail\n[survey w]") + rosters)
+        self.write("mail.txt", "From: office@school.edu\nSubject: Sections of {student}\n\nDear {name},\n{sections}\n")
+        status, told = self.imported()
+        self.assertEqual(status, 0, told)
+        key = self.key()
+        words = ["term/catalogue.csv", "term/roll.csv", "settings.json", "term/w.session", "--text", "term/published.txt"]
+        self.assertEqual(say("run", *words)[0], 0)
+        by = ["--manifest", "term/manifest.json", "--mapping", "office/mapping.ini"]
+        status, told = say("lists", *by, "--mail", "mail.txt", "--out", "lists", "--no-reasons")
+        self.assertEqual(status, 0, told)
+        self.assertEqual(sorted(os.listdir("lists/mails")), ["-cmd--.eml", "0012.eml", "Umit.eml", "n.jones.eml"])
+        with open("lists/mails/n.jones.eml", "rb") as file:
+            mail = email.message_from_binary_file(file)
+        text, session = (part.get_payload(decode=True).decode() for part in mail.get_payload())
+        self.assertEqual((mail["To"], mail["Subject"]), ('"N3" <s3@school.edu>', "Sections of n.jones"))
+        self.assert_told(text, ("Dear N3,", "B-1"))
+        self.assertIn(f"rate {key['n.jones']} B-1 60\n", session)
+        status, told = say("rosters", *by, "--into", "system")
+        self.assertEqual(status, 0, told)
+        rows = self.read("system/system.csv").splitlines()[1:]
+        self.assertEqual({row.split(",")[0] for row in rows} - set(OWN), set(), rows)
+        self.assertTrue(rows)
 
 
 if __name__ == "__main__":
