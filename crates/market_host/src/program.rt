@@ -1,5 +1,6 @@
 // The whole process, over whatever words, shelf, sink and gate it is given.
-ghost use Rattle.std.specs.Prelude.{◌≡◌, Result, Vec, String, Global};
+ghost use Rattle.std.specs.Global.{Global};
+ghost use Rattle.std.specs.Prelude.{◌≡◌, Result, Vec, String};
 ghost use Rattle.std.specs.Process.{exit_status};
 ghost use Rattle.market_edge.specs.GivenWords.{AreHad};
 ghost use Rattle.market_edge.specs.declared.given_words.NoWords.{NoWords};
