@@ -1,7 +1,7 @@
 """Puts the page together: one file with the module, the example term, and all scripts and styles in it.
 
-The default is the module of the proved program. `--unproved` takes the one that `rt try` builds without proofs, and the page
-then says so in plain sight; it is for whoever works on the page."""
+The default is the module of the proved program. `--unproved` takes the one that `rt try` builds without proofs, and the
+page then says so in plain sight; it is for whoever works on the page."""
 
 import argparse
 import base64
@@ -17,6 +17,7 @@ from pathlib import Path
 import join
 import kit
 import module
+import narrow
 
 HERE = Path(__file__).resolve().parent
 TOP = HERE.parent
@@ -63,32 +64,36 @@ def page_of(wasm: bytes, is_proved: bool) -> str:
     """The whole page."""
     script = join.joined(HERE, "page")
     style = (HERE / "course-match.css").read_text()
-    sum_of_module, commit, of_kit = hashlib.sha256(wasm).hexdigest(), version(), said("rt", "version")
+    guard, worker = (HERE / "guard.js").read_text(), join.joined(HERE, "worker")
+    packed_in = {"module": wasm, "example": example(), "worker": worker.encode()}
+    commit, of_kit = version(), said("rt", "version")
     policy = (
-        f"default-src 'none'; script-src {source_of(script)} 'wasm-unsafe-eval'; worker-src blob:; "
+        f"default-src 'none'; script-src {source_of(guard)} {source_of(script)} 'wasm-unsafe-eval'; worker-src blob:; "
         f"style-src {source_of(style)}; base-uri 'none'; form-action 'none'"
     )
-    about = {"version": commit, "kit": of_kit, "module": sum_of_module, "proved": is_proved}
+    sums = {name: hashlib.sha256(it).hexdigest() for name, it in packed_in.items()}
+    about = {"version": commit, "kit": of_kit, "proved": is_proved, "sums": sums}
     parts = {
         "policy": policy,
         "style": style,
+        "guard": guard,
         "script": script,
-        "worker": join.joined(HERE, "worker"),
+        "worker": worker,
         "module": packed(wasm),
-        "example": packed(example()),
+        "example": packed(packed_in["example"]),
         "about": json.dumps(about),
         "unproved": "" if is_proved else f'<p class="unproved" role="alert">{UNPROVED}</p>',
         "origin": PROVED if is_proved else UNPROVED,
         "commit": html.escape(commit),
         "kit": html.escape(of_kit),
-        "sum": sum_of_module,
     }
     text = (HERE / "course-match.html").read_text()
     return re.sub(r"\{\{(\w+)\}\}", lambda it: parts[it[1]], text)
 
 
-def module_for(arguments: argparse.Namespace, room: Path) -> Path:
-    """The WebAssembly module that the arguments ask for; it is kept by what it is made of, since compiling takes minutes."""
+def wide_module(arguments: argparse.Namespace, room: Path) -> Path:
+    """The module with a 64-bit memory that the arguments ask for; it is kept by what it is made of, since compiling
+    takes minutes."""
     crate = TOP / "crates/market_program"
     if arguments.bitcode:
         bitcode = arguments.bitcode.resolve()
@@ -127,18 +132,23 @@ def main() -> None:
         print("page: the program is proved first, which takes half an hour to two hours", flush=True)
     out, room = HERE / "out", HERE / "out/module"
     room.mkdir(parents=True, exist_ok=True)
-    wasm = module_for(arguments, room).read_bytes()
+    wide = wide_module(arguments, room).read_bytes()
+    (room / "wide.wasm").write_bytes(wide)  # (of which the tests derive the other anew)
+    wasm = narrow.narrowed(wide)
     text = page_of(wasm, not arguments.unproved)
-    (out / "course-match.html").write_text(text)
-    (out / "course-match.wasm").write_bytes(wasm)
+    files = {"course-match.html": text.encode(), "course-match.wasm": wasm}
+    sums = {name: hashlib.sha256(content).hexdigest() for name, content in files.items()}
     origin = {
         "commit": version(),
         "kit": said("rt", "version"),
         "proved": not arguments.unproved,
-        "module": hashlib.sha256(wasm).hexdigest(),
-        "page": hashlib.sha256(text.encode()).hexdigest(),
+        "module": sums["course-match.wasm"],
+        "page": sums["course-match.html"],
     }
-    (out / "course-match.json").write_text(json.dumps(origin, indent=2) + "\n")
+    files["course-match.json"] = (json.dumps(origin, indent=2) + "\n").encode()
+    files["SHA256SUMS"] = "".join(f"{total}  {name}\n" for name, total in sums.items()).encode()
+    for name, content in files.items():
+        (out / name).write_bytes(content)
     proved = "proved" if origin["proved"] else "UNPROVED"
     sizes = f"{len(text.encode())} bytes, module {len(wasm)} bytes"
     print(f"page/out/course-match.html: {sizes}, {proved}, commit {origin['commit']}")

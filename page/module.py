@@ -1,15 +1,22 @@
 """Makes the WebAssembly module out of the LLVM module of the program.
 
-Of the program's LLVM text these change: the target's triple and data layout; attributes of functions that speak of x86-64;
-the names `main` and that of the question what the processor has; and two instructions of x86-64, of which the one pauses, and is left out, and the other shuffles sixteen
-bytes, and is written by WebAssembly's own. `shim.c` is all that is linked to it."""
+Of the program's LLVM text these change: the target's triple and data layout; attributes of functions that speak of
+x86-64; the names `main` and that of the question what the processor has; and two instructions of x86-64, of which the
+one pauses, and is left out, and the other shuffles sixteen bytes, and is written by WebAssembly's own. `shim.c` is all
+that is linked to it. The module has 64-bit addresses; `narrow.py` makes one of 32-bit addresses of it."""
 
 import re
 import subprocess
 import sys
 from pathlib import Path
 
-TARGET = ["--target=wasm64-unknown-unknown", "--no-default-config", "-fno-crash-diagnostics", "-ffunction-sections", "-fdata-sections"]
+TARGET = [
+    "--target=wasm64-unknown-unknown",
+    "--no-default-config",
+    "-fno-crash-diagnostics",
+    "-ffunction-sections",
+    "-fdata-sections",
+]
 # The processor and the passes of LLVM are those with which the kit compiles for this target and for x86-64.
 PROGRAM = "-mcpu=lime1 -mllvm -expand-div-rem-bits=64 -mllvm -expand-fp-convert-bits=64 -mllvm -trap-unreachable"
 PROGRAM += " -mllvm -disable-machine-licm -mllvm -disable-postra-machine-licm -mllvm -sink-common-insts=false -O3"
@@ -20,18 +27,25 @@ PROCESSOR = re.compile(r'"target-cpu"="[^"]*"')
 NO_ATTRIBUTE = re.compile(r"\{ +\}")
 PAUSE = re.compile(r"\b(?:call|declare) void @llvm\.x86\.sse2\.pause\(\)")
 SHUFFLE = "@llvm.x86.ssse3.pshuf.b.128("
-NAMES = {"@main(": "@program_main(", "@__x86_get_cpuid_feature_leaf(": "@processor_features(", SHUFFLE: "@byte_shuffle("}
-# Byte n of the answer is the byte at place n's lowest four bits, or 0 where the highest bit of place n is set. WebAssembly's
-# own gives 0 for each place of 16 and more, so the three bits between are cleared.
+NAMES = {
+    "@main(": "@program_main(",
+    "@__x86_get_cpuid_feature_leaf(": "@processor_features(",
+    SHUFFLE: "@byte_shuffle(",
+}
+# Byte n of the answer is the byte at place n's lowest four bits, or 0 where the highest bit of place n is set.
+# WebAssembly's own gives 0 for each place of 16 and more, so the three bits between are cleared.
 SHUFFLE_HERE = """
 declare <16 x i8> @llvm.wasm.swizzle(<16 x i8>, <16 x i8>)
 
-define internal <16 x i8> @byte_shuffle(<16 x i8> %bytes, <16 x i8> %places) alwaysinline nounwind "target-cpu"="lime1" "target-features"="+simd128" {
+define internal <16 x i8> @byte_shuffle(<16 x i8> %bytes, <16 x i8> %places)
+    alwaysinline nounwind "target-cpu"="lime1" "target-features"="+simd128" {
   %within = and <16 x i8> %places, <MASK>
   %shuffled = call <16 x i8> @llvm.wasm.swizzle(<16 x i8> %bytes, <16 x i8> %within)
   ret <16 x i8> %shuffled
 }
-""".replace("MASK", ", ".join(["i8 -113"] * 16))
+""".replace(
+    "MASK", ", ".join(["i8 -113"] * 16)
+)
 
 
 def run(words: list[str], **how) -> subprocess.CompletedProcess:

@@ -7,12 +7,12 @@ import { $ } from './elements.js';
 import { FileList } from './file_list.js';
 import { SESSIONS, filesDropped, kindOf, loaded, partsOf } from './files.js';
 import { ownFiles, ownMarketOf } from './own_market.js';
-import { unpacked } from './packed.js';
 import { RatingForm } from './rating_form.js';
 import { Registrar } from './registrar.js';
 import { spellingIn } from './spelling.js';
+import { changesIn, exampleIn, held, showSums } from './sums.js';
 import {
-  clearVerdict, showAccepted, showFailure, showFound, showOpen, showOwn, showRefused, showUnopened,
+  clearVerdict, showAccepted, showChanged, showFailure, showFound, showOpen, showOwn, showRefused, showUnopened,
 } from './verdict.js';
 import { drawReaders, listenToViews, recall, remember, show, shownView } from './views.js';
 import { orderOf } from './wishes.js';
@@ -24,7 +24,7 @@ const NOTHING = 'The text does not hold, so nothing of it is shown here.';
 
 /** @type {About} */
 const about = JSON.parse($('about').textContent);
-const list = new FileList(() => check()), registrar = new Registrar(about.version, takeRun), form = new RatingForm();
+const list = new FileList(() => check()), registrar = new Registrar(about, takeRun), form = new RatingForm();
 
 /** How many checks were begun: the answers of one that is not the last are of old files. */
 let checks = 0;
@@ -124,34 +124,38 @@ function closeFiles() {
   $('files').open = false;
 }
 
-/** @returns {Promise<GivenFile[]>} */
-async function exampleFiles() {
-  /** @type {[string, string][]} */
-  const files = JSON.parse(decoded(await unpacked('example-files')));
-  return files.map(([name, text]) => {
+/**
+ * The example term as files that were given.
+ * @param {[string, string][]} texts each with its name
+ * @returns {GivenFile[]}
+ */
+function exampleFiles(texts) {
+  return texts.map(([name, text]) => {
     const bytes = encoded(text);
     return { name, bytes, kind: kindOf(name, bytes) };
   });
 }
 
-const takeExample = async () => list.set(await exampleFiles());
-
-/** Takes of the example what one of its students has: what is published, and its own lines. */
-async function takeOwnExample() {
-  const files = await exampleFiles(), { bytes } = files.find(it => it.kind === 'text'), name = 'n.jones';
+/**
+ * Takes of the example what one of its students has: what is published, and its own lines.
+ * @param {GivenFile[]} files
+ */
+function takeOwnExample(files) {
+  const { bytes } = files.find(it => it.kind === 'text'), name = 'n.jones';
   const sessions = files.filter(it => it.kind === 'session').map(it => it.bytes), said = saidByAll(orderOf(bytes), sessions);
   list.set([...files.filter(it => it.kind !== 'session'), { name: `${name}.session`, kind: 'own', bytes: said.get(name).bytes }]);
 }
 
-function listen() {
+/** @param {[string, string][]} example the files of the example term */
+function listen(example) {
   addEventListener('unhandledrejection', event => showFailure(event.reason));
   addEventListener('error', event => showFailure(event.message));
   $('choose').addEventListener('change', async (/** @type {any} */ event) => {
     await give([...event.target.files].map(file => ({ name: file.name, file })));
     event.target.value = '';
   });
-  $('example').addEventListener('click', takeExample);
-  $('example-own').addEventListener('click', takeOwnExample);
+  $('example').addEventListener('click', () => list.set(exampleFiles(example)));
+  $('example-own').addEventListener('click', () => takeOwnExample(exampleFiles(example)));
   $('clear').addEventListener('click', () => { $('choose').focus(); list.set([]); });
   $('stop').addEventListener('click', stopWork);
   addEventListener('beforeunload', event => { if (registrar.mayLose() || form.mayLose()) event.preventDefault(); });
@@ -188,22 +192,18 @@ function listenToPrints() {
   addEventListener('afterprint', () => { for (const it of closed.splice(0)) it.open = false; });
 }
 
-/** Whether this browser has 64-bit memories: a module with nothing but one. */
-function hasMemory64() {
-  try {
-    return WebAssembly.validate(new Uint8Array([0, 0x61, 0x73, 0x6d, 1, 0, 0, 0, 5, 3, 1, 4, 1]));
-  } catch {
-    return false;
-  }
-}
-
 async function begin() {
-  if (!hasMemory64()) {
-    $('old-browser').hidden = false;
-    return;
+  if (typeof WebAssembly === 'undefined' || typeof DecompressionStream === 'undefined') return refuseBrowser();
+  const parts = await held().catch(fault => `It cannot be unpacked (${fault}).`);
+  const changes = typeof parts === 'string' ? [parts] : changesIn(parts, about);
+  if (typeof parts === 'string' || changes.length) {
+    return showChanged(changes);
   }
-  startProgram(await WebAssembly.compile(await unpacked('module')), $('worker').textContent);
-  listen();
+  if (!WebAssembly.validate(parts.bytes.module)) return refuseBrowser();
+  showSums(parts);
+  startProgram(await WebAssembly.compile(parts.bytes.module), decoded(parts.bytes.worker));
+  window.onerror = null;
+  listen(exampleIn(parts));
   document.querySelector('main').hidden = false;
   recall();
   await check();

@@ -58,11 +58,11 @@ const REPLIES = {
 /** The registrar's view. */
 export class Registrar {
   /**
-   * @param {string} version what a manifest names as the program
+   * @param {About} about what a manifest says of the program
    * @param {(text: GivenFile, settings: GivenFile) => void} take gives what a run made to the check
    */
-  constructor(version, take) {
-    this.version = version;
+  constructor(about, take) {
+    this.about = about;
     this.take = take;
     /** @type {Made | null} */
     this.made = null;
@@ -180,9 +180,10 @@ export class Registrar {
     const inputs = await Promise.all(kinds.map(async ([role, it]) =>
       ({ role, file: it.name, sha256: await hashOf(it.bytes) })));
     return JSON.stringify({
-      inputs, words: ['run', '1', ...inputs.map(it => it.file)], program: this.version,
+      inputs, words: ['run', '1', ...inputs.map(it => it.file)], program: this.about.sums.module,
       text: { file: text.name, sha256: await hashOf(text.bytes) }, elapsed: Math.round(ms / 100) / 10,
-      made: new Date().toISOString(),
+      made: new Date().toISOString(), page: this.about.version,
+      ...this.about.proved ? {} : { unproved: 'built without proofs: trust nothing in it' },
     }, null, 2) + '\n';
   }
 

@@ -27,8 +27,9 @@ mostly less than a minute.
 4. Point the name that people call at the new folder: `ln -sfn /opt/course-match-{version} /opt/course-match`
 5. Keep a school's own files elsewhere, each term in a folder: the archive's folder may belong to root and be read by all.
 
-`course-match.html` may lie on any web server or disk: it is one file, and asks for no other. Chrome or Edge from version 133 on, or
-Firefox from 134 on, opens it.
+`course-match.html` may lie on any web server or disk: it is one file, and asks for no other. For phones serve it over
+https. Publish the lines of `SHA256SUMS` for it and for `course-match.wasm`, its module, in a second place
+(`docs/GUIDE.md`, "In a browser").
 
 ## What to check
 
@@ -52,7 +53,7 @@ published text stays what it is: `check` of either version says the same of it, 
 | File | What it is |
 |---|---|
 | `course-match` | the program |
-| `course-match.html`, `course-match.json` | the page, and what it was built from |
+| `course-match.html`, `course-match.wasm`, `course-match.json` | the page, its module, and what they were built from |
 | `scripts/` | commands that call the program; `--help` tells the words of each |
 | `registrar/`, `verify/` | the registrar's tools (`scripts/registrar --help`), and the second checker |
 | `docs/` | begin with `docs/GUIDE.md`; `docs/README.md` is the README that the documents speak of |

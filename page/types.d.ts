@@ -235,12 +235,15 @@ interface Left {
   m: number;
 }
 
-/** What the module and the page were built from. */
+/** What is packed into the page. */
+type Packed = 'module' | 'example' | 'worker';
+
+/** What the page was built from, and the SHA-256 of what was packed into it. */
 interface About {
   version: string;
   kit: string;
-  module: string;
   proved: boolean;
+  sums: Record<Packed, string>;
 }
 
 /** A part that opens; `fill` makes what stands in it, once. */

@@ -26,6 +26,16 @@ const FAILED = 'Load the page anew and give the files again. If it fails again, 
  */
 export const showFailure = fault => showVerdict('wrong', 'The page failed', p(String(fault)), p(FAILED));
 
+/**
+ * Tells that the page is not as it was built.
+ * @param {string[]} changes in words
+ */
+export function showChanged(changes) {
+  $('changed').hidden = false;
+  $('changed').append(...changes.map(it => p(it)), p('Nothing was run. Take the page anew from whoever gave it to you, and '
+    + 'tell them these words.'));
+}
+
 /** Tells that a folder was dropped that the browser does not open. */
 export const showUnopened = () => showVerdict('wrong', 'The folder was not opened',
   p('This browser does not open a folder to this page: open the folder, and give the files that are in it. What was '

@@ -1,4 +1,4 @@
-"""Drives a headless Chromium by its remote protocol, over a pipe: no port is opened and nothing but Python is needed."""
+"""Drives a headless Chromium by its remote protocol, over a pipe: no port is opened, and only Python is needed."""
 
 import base64
 import contextlib
@@ -142,13 +142,17 @@ class Browser:
 
     def look(self, width: int, height: int, dark: bool = False, medium: str = "") -> None:
         """Sets the size of the window, light or dark, screen or print."""
-        self.call("Emulation.setDeviceMetricsOverride", width=width, height=height, deviceScaleFactor=1, mobile=width < 600)
+        self.call(
+            "Emulation.setDeviceMetricsOverride", width=width, height=height, deviceScaleFactor=1, mobile=width < 600
+        )
         features = [{"name": "prefers-color-scheme", "value": "dark" if dark else "light"}]
         self.call("Emulation.setEmulatedMedia", media=medium, features=features)
 
     def picture(self, file: Path, whole: bool = True) -> None:
         """Keeps a picture of the page."""
-        answer = self.call("Page.captureScreenshot", captureBeyondViewport=whole, **({"clip": self.whole_page()} if whole else {}))
+        answer = self.call(
+            "Page.captureScreenshot", captureBeyondViewport=whole, **({"clip": self.whole_page()} if whole else {})
+        )
         file.write_bytes(base64.b64decode(answer["data"]))
 
     def whole_page(self) -> dict:

@@ -1,5 +1,6 @@
 """The page's module answers as the native program: each example of each form, spoiled texts, want of memory."""
 
+import base64
 import json
 import random
 import tempfile
@@ -7,74 +8,15 @@ import unittest
 from pathlib import Path
 
 from browser import browser, chromium
-from common import MARKET, PAGE, PROGRAM, TERM, VECTORS, in_page, native, open_page, refuser
+from calls import OF_TERM, SESSIONS, TABLES, example_calls, worked_calls
+from common import PAGE, PROGRAM, TERM, in_page, native, open_page, refuser
 
 SPOILED, SEED = 2000, 20261128
-TABLES = ["catalogue.csv", "roll.csv", "settings.json"]
-SESSIONS = ["desk.session", "web.session"]
-SCHOOL = ["ann.session", "bob.session", "cleo.session"]
-OF_TERM = [
-    ["check", *TABLES, "published.txt", *SESSIONS],
-    ["check", *TABLES, "published.txt", *SESSIONS[::-1]],
-    ["check", *TABLES, "published.txt", SESSIONS[0]],
-    ["explain", *TABLES, "published.txt", "n.jones", "FNCE-717-A", *SESSIONS],
-    ["explain", *TABLES, "published.txt", "nobody", "FNCE-717-A", *SESSIONS],
-    ["run", "1", *TABLES, *SESSIONS],
-    ["run", "16", *TABLES, *SESSIONS],
-    ["audit", "2", *TABLES, "published.txt", *SESSIONS],
-    ["hall", *TABLES[:2], "published.txt", "desk.requests"],
-    ["prefer", *TABLES[:2], *SESSIONS],
-    ["check", *TABLES, "nothing.txt", *SESSIONS],
-    ["make", "4", "7", "300", "60", "1000000000000"],
-    ["make", "2", "7", "40", "15", "0"],
-    ["help"],
-]
-OF_MARKET = [
-    ["prefer", *TABLES[:2], *SCHOOL],
-    ["demand", "3", *TABLES, "prices.csv", *SCHOOL],
-    ["quote", "catalogue.csv", "ann.session", "ann", "12", "4"],
-    ["run", "2", *TABLES, *SCHOOL],
-]
-
-
-def example_calls() -> list[tuple[list[str], dict[str, bytes], list[bytes]]]:
-    """The calls on the repository's examples: words, files, and no answers that are known beforehand."""
-
-    def calls(folder: Path, words: list[list[str]]):
-        return [(it, {name: (folder / name).read_bytes() for name in it if (folder / name).is_file()}, []) for it in words]
-
-    return calls(TERM, OF_TERM) + calls(MARKET, OF_MARKET)
-
-
-def worked_calls() -> list[tuple[list[str], dict[str, bytes], list[bytes]]]:
-    """The worked examples beside the repository, with the outputs that are lawful; none where they are not there."""
-    found = []
-    for folder in sorted(it.parent for it in VECTORS.glob("*/*/words")):
-        names = {it.name: it.read_bytes() for it in folder.iterdir() if it.is_file()}
-        words = names.pop("words").decode().splitlines()
-        files = {name: it for name, it in names.items() if name in words}
-        if "cuts.tsv" in names:
-            found += cut_calls(words, files, names)
-        else:
-            found.append((words, files, [(int(names["status"]), names[it]) for it in sorted(names) if it.startswith("stdout")]))
-    return found
-
-
-def cut_calls(words: list[str], files: dict[str, bytes], names: dict[str, bytes]) -> list[tuple[list[str], dict[str, bytes], list[bytes]]]:
-    """The example whose catalogue is cut after each of its bytes."""
-    rows = [it.split("\t") for it in names["cuts.tsv"].decode().splitlines() if it[0].isdigit()]
-    return [
-        (
-            words,
-            {**files, "catalogue.csv": files["catalogue.csv"][: int(kept)]},
-            [(int(status), names[line[0]] if any(line) else f"{told}\n".encode())],
-        )
-        for kept, status, told, *line in rows
-    ]
 
 
 def edits(text: bytes, count: int) -> list[tuple[int, int, str]]:
-    """Edits of a text: at which byte, how many go, what comes. Lines that go, come twice or change places, bytes that go, come or change."""
+    """Edits of a text: at which byte, how many go, what comes. Lines go or come twice; bytes go, come, change or turn
+    around."""
     draw, starts = random.Random(SEED), [0, *(at + 1 for at, it in enumerate(text) if it == 10)]
     made = []
     for _ in range(count):
@@ -101,13 +43,15 @@ CHECK = """(async edits => {
   const base = atob(spoilt.text), answers = [];
   for (const [at, gone, come] of edits) {
     const text = Uint8Array.from(base.slice(0, at) + come + base.slice(at + gone), it => it.charCodeAt(0));
-    const { status, text: said } = await program.ask({ words: spoilt.words, files: [...spoilt.files, ['published.txt', text]] });
+    const files = [...spoilt.files, ['published.txt', text]];
+    const { status, text: said } = await program.ask({ words: spoilt.words, files });
     answers.push([status, said]);
   }
   return answers;
 })"""
 GIVE = """(([words, text, files]) => {
-  globalThis.spoilt = { words, text, files: files.map(([name, it]) => [name, Uint8Array.from(atob(it), it => it.charCodeAt(0))]) };
+  const bytes = it => Uint8Array.from(atob(it), one => one.charCodeAt(0));
+  globalThis.spoilt = { words, text, files: files.map(([name, it]) => [name, bytes(it)]) };
 })"""
 
 
@@ -126,7 +70,7 @@ class Answers(unittest.TestCase):
         self.assertEqual(self.tab.evaluate("WebAssembly.Module.imports(program.module).length"), 0)
 
     def test_examples_of_every_form(self) -> None:
-        calls = example_calls() + worked_calls()
+        calls = [*example_calls(), *worked_calls()]
         for words, files, lawful in calls:
             with self.subTest(words=words[:8]):
                 answer = in_page(self.tab, words, files)
@@ -138,11 +82,13 @@ class Answers(unittest.TestCase):
 
     @unittest.skipUnless(PROGRAM.is_file(), "no native program to compare with")
     def test_spoiled_texts(self) -> None:
-        import base64
-
         files = {name: (TERM / name).read_bytes() for name in [*TABLES, *SESSIONS]}
         text, words, counts = (TERM / "published.txt").read_bytes(), ["check", *TABLES, "published.txt", *SESSIONS], {}
-        given = [words, base64.b64encode(text).decode(), [[name, base64.b64encode(it).decode()] for name, it in files.items()]]
+        given = [
+            words,
+            base64.b64encode(text).decode(),
+            [[name, base64.b64encode(it).decode()] for name, it in files.items()],
+        ]
         self.tab.evaluate(f"{GIVE}({json.dumps(given)})")
         all_edits = edits(text, SPOILED)
         for first in range(0, SPOILED, 100):

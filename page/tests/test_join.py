@@ -37,11 +37,17 @@ class Join(unittest.TestCase):
         self.assertEqual("'use strict';\n\nconst c = 1;\n\nconst b = c;\n\n// first\n\nconst one = b + c;\n", text)
 
     def test_what_a_module_keeps_to_itself_is_not_to_be_had(self) -> None:
-        self.refused("a.js imports b, which b.js does not export", a="import { b } from './b.js';\n", b="const b = 1;\n")
+        self.refused(
+            "a.js imports b, which b.js does not export", a="import { b } from './b.js';\n", b="const b = 1;\n"
+        )
 
     def test_no_two_declare_one_name(self) -> None:
         same = "function twice() {}\n"
-        self.refused("b.js and a.js both declare twice", a="import { b } from './b.js';\n" + same, b="export const b = 1;\n" + same)
+        self.refused(
+            "b.js and a.js both declare twice",
+            a="import { b } from './b.js';\n" + same,
+            b="export const b = 1;\n" + same,
+        )
 
     def test_no_two_need_each_other(self) -> None:
         b = "import { a } from './a.js';\nexport const b = a;\n"

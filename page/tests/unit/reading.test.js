@@ -6,6 +6,7 @@ import { encoded } from '../../bytes.js';
 import { envyOf } from '../../envy.js';
 import { kindOf, partsOf } from '../../files.js';
 import { settingsFile, settingsIn, settingsWords, wrongField } from '../../settings.js';
+import { changesIn, comparedWords } from '../../sums.js';
 import { catalogueOf, meetingWords, records, rollOf } from '../../tables.js';
 import { possibleOrders, sessionsWords } from '../../wishes.js';
 import { listed, plural, quoted, shortList, timed } from '../../wording.js';
@@ -96,4 +97,16 @@ test('numbers and names stand in sentences', () => {
   assert.equal(shortList(Array.from({ length: 14 }, (_, at) => String(at))).endsWith('11 and 2 more'), true);
   assert.equal(timed(0.2) + timed(3449), '1 ms3.4 s');
   assert.equal(quoted('x'.repeat(90)).length, 81);
+});
+
+test('a published sum is compared in each of the ways in which it is pasted', () => {
+  const sum = 'ab'.repeat(32);
+  assert.match(comparedWords(` ${sum.toUpperCase()}  course-match.wasm`, sum), /^It is the sum/);
+  assert.match(comparedWords('00'.repeat(32), sum), /^It is not the sum/);
+  assert.match(comparedWords(sum.slice(1), sum), /no SHA-256/);
+  assert.equal(comparedWords(' ', sum), '');
+  const about = { sums: { module: sum, example: sum, worker: sum } };
+  assert.deepEqual(changesIn({ sums: { module: sum, example: sum, worker: sum } }, about), []);
+  assert.deepEqual(changesIn({ sums: { module: null, example: null, worker: null } }, about), []);
+  assert.match(changesIn({ sums: { module: sum, example: '', worker: sum } }, about)[0], /^The example term of this page/);
 });
