@@ -25,9 +25,6 @@ function figuresPart(market) {
   const lines = [
     ['Checked in', timed(market.ms)],
     ['Students, sections, sessions', `${roll.length}, ${catalogue.length}, ${market.parts.sessions.length}`],
-    ['Clearing error, search', `${text.error} by the text, which the check does not judge `
-      + `(the settings accept ${market.settings.accept})`],
-    ['Clearing error, second stage', String(errorOf(counts, catalogue, text.prices))],
     ['Seats taken', `${sum(counts)} in the second stage, ${sum(endCounts)} in the end, of ${seats}`],
     ['Students without a section', `${without[0]} in the second stage, ${without[1]} in the end`],
     ['Turns of the aftermarket', `${text.turns.length} in ${passes}; ${changes.length} changed something`],
@@ -35,6 +32,30 @@ function figuresPart(market) {
   return el('dl', { class: 'figures' },
     lines.map(([name, value]) => el('div', {}, el('dt', {}, name), el('dd', {}, value))));
 }
+
+/**
+ * Both clearing errors beside each other, with what each is made of.
+ * @param {Market} market
+ */
+function errorsPart({ text, catalogue, counts, settings }) {
+  const free = catalogue.filter(it => text.prices[it.at] > 0 && counts.get(it.name) < it.seats);
+  const seats = free.reduce((sum, it) => sum + it.seats - counts.get(it.name), 0);
+  return [
+    p('The clearing error is the sum, over all sections, of the square of the students too many, or, where the price is not '
+      + '0, of the seats left free.'),
+    el('dl', { class: 'figures' },
+      errorFigure('After the search', `${text.error} by the text, which the check does not judge (the settings accept `
+        + `${settings.accept})`, 'At these prices some sections may have more students than seats, and others free ones.'),
+      errorFigure('In the second stage', `${errorOf(counts, catalogue, text.prices)} by the page's sum`,
+        'Prices were raised until no section had more students than seats, so it counts free seats alone: '
+        + `${plural(seats, 'seat')} of ${plural(free.length, 'section')} with a price. It can be the greater of the two, since with a `
+        + 'higher price more students may leave a section than were too many.')),
+  ];
+}
+
+/** @param {string} when @param {string} error @param {string} words */
+const errorFigure = (when, error, words) =>
+  el('div', {}, el('dt', {}, when), el('dd', {}, error), el('dd', { class: 'quiet' }, words));
 
 /** @param {Market} market */
 function sectionTable(market) {
@@ -209,6 +230,7 @@ export function auditorView(market, show) {
     part('The check', figuresPart(market),
       opening('What “this text holds” means', meaningPart, false, { class: 'paper' }),
       opening('Which files were checked', () => hashesTable(market), false, { class: 'paper' })),
+    part('Clearing errors', ...errorsPart(market)),
     part('Prices and seats', p(PRICES), sectionTable(market)),
     part('Budgets', ...budgetsPart(market)),
     part('The aftermarket', changesTable(market)),
