@@ -1,10 +1,11 @@
 // The market of one student: what the program is asked in, where nobody else's ratings are at hand or are needed.
 //
-// What `check`, `explain` and `demand` say of one student depends on its own lines, its budget and caps, the catalogue and
-// the prices, and on nothing of anybody else. So the page makes a market that has all of these and one student: each
-// section has a seat for it, its base is the budget that is printed, nothing is drawn or raised, and the bundle and its tree
-// are lines of a text that the program checks. Where not all sections are to be had, as at a turn of the aftermarket, those
-// that are not cost more than the budget: by "Trees" (FORMATS) a place is closed alike for both, and the tree is the same.
+// What `check`, `explain` and `demand` say of one student depends on its own lines, its budget and caps, the catalogue
+// and the prices, and on nothing of anybody else. So the page makes a market that has all of these and one student:
+// each section has a seat for it, its base is the budget that is printed, nothing is drawn or raised, and the bundle
+// and its tree are lines of a text that the program checks. Where not all sections are to be had, as at a turn of the
+// aftermarket, those that are not cost more than the budget: by "Trees" (FORMATS) a place is closed alike for both, and
+// the tree is the same.
 
 import { encoded } from './bytes.js';
 
@@ -19,8 +20,8 @@ const MARK = [0xef, 0xbb, 0xbf];
 const WITH_MARK = new TextDecoder('utf-8', { ignoreBOM: true });
 
 /**
- * The lines of a session that are commands, in their order, each with its bytes (without the line feed) and its words. A
- * byte order mark at the beginning of the session belongs to no line.
+ * The lines of a session that are commands, in their order, each with its bytes (without the line feed) and its words.
+ * A byte order mark at the beginning of the session belongs to no line.
  * @param {Uint8Array} bytes
  * @returns {{ bytes: Uint8Array, words: string[] }[]}
  */
@@ -103,15 +104,16 @@ export function saidByAll(order, sessions) {
 }
 
 /**
- * Sessions of as many commands as an order takes of each, none of which is readable. With these `check` judges of a text
- * what stands before the bundles: its form, and everybody's budget.
+ * Sessions of as many commands as an order takes of each, none of which is readable. With these `check` judges of a
+ * text what stands before the bundles: its form, and everybody's budget.
  * @param {number[]} order
  * @returns {GivenFile[]}
  */
 export function blankSessions(order) {
   const counts = new Array(Math.min(LAST_SESSION, Math.max(1, ...new Set(order)))).fill(0);
   for (const it of order) if (it >= 1 && it <= counts.length) counts[it - 1]++;
-  return counts.map((count, at) => fileOf('session', `session ${at + 1}, without what it says`, encoded('x\n'.repeat(count))));
+  return counts.map((count, at) =>
+    fileOf('session', `session ${at + 1}, without what it says`, encoded('x\n'.repeat(count))));
 }
 
 /**

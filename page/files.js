@@ -9,7 +9,8 @@ import { listed, shortList } from './wording.js';
  */
 export const KINDS = {
   catalogue: 'catalogue', roll: 'roll', settings: 'settings', text: 'published text', session: 'session',
-  manifest: 'manifest', own: 'one student\'s lines', names: 'the school\'s spelling', other: 'not needed here', unknown: 'not known',
+  manifest: 'manifest', own: 'one student\'s lines', names: 'the school\'s spelling', other: 'not needed here',
+  unknown: 'not known',
 };
 
 /**
@@ -157,8 +158,8 @@ const nothing = () => /** @type {null} */ (null);
 const baseName = path => String(path).split(/[\\/]/).at(-1);
 
 /**
- * The files that a manifest names, in its order; the faults are in words. Where somebody's own lines are there, sessions
- * may be missing.
+ * The files that a manifest names, in its order; the faults are in words. Where somebody's own lines are there,
+ * sessions may be missing.
  * @param {GivenFile} manifest @param {GivenFile[]} files
  */
 async function byManifest(manifest, files) {

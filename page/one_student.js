@@ -4,7 +4,7 @@ import { MOST_BASE, roomOf, sessionOf } from './alone.js';
 import { encoded } from './bytes.js';
 import { callOf } from './program.js';
 import { menuOf, priceOf, raisedBudget, worthOf } from './reckoning.js';
-import { namesOf, turnsOf } from './texts.js';
+import { linesOf, namesOf, turnsOf } from './texts.js';
 
 /**
  * Runs one call of the program and tells that it works.
@@ -38,7 +38,25 @@ export function stagesOf(market, student) {
  */
 export function roomOfStage(market, student, { names, tree, budget, allowed }) {
   const { name, credits, courses } = market.roll[student], said = market.said.get(name) ?? NOTHING_SAID;
-  return roomOf(market.catalogue, { name, credits, courses, prices: market.text.prices, said, names, tree, budget, allowed });
+  const { prices } = market.text;
+  return roomOf(market.catalogue, { name, credits, courses, prices, said, names, tree, budget, allowed });
+}
+
+/**
+ * The lines of the text that are a student's own, each with its number.
+ * @param {Market} market @param {number} student
+ * @returns {{ number: number, text: string }[]}
+ */
+export function linesInText({ roll, catalogue, text }, student) {
+  const { name } = roll[student], at = linesOf(roll.length, catalogue.length, text.turns.length);
+  const bundle = (/** @type {string[]} */ names) => `[${names.join()}]`, { names, tree } = text.bundles[student];
+  return [
+    { number: at.budgets + student, text: `budget ${name} ${text.budgets[student]}` },
+    { number: at.bundles + student, text: `bundle ${name} ${bundle(names)} ${tree}` },
+    ...text.turns.filter(it => it.student === student).map(it => (
+      { number: at.turns + it.number, text: `turn ${it.pass} ${name} ${bundle(it.names)} ${it.tree}` })),
+    { number: at.finals + student, text: `final ${name} ${bundle(text.finals[student])}` },
+  ];
 }
 
 /**
@@ -59,8 +77,8 @@ export async function judgedStages(ask, market, student) {
   const judged = [];
   for (const stage of stagesOf(market, student)) {
     const unjudged = unjudgedWords(stage);
-    const answer = unjudged ? null : await ask('Checking the bundles', callOf('check', roomOfStage(market, student, stage)));
-    judged.push({ ...stage, ...findingOf(answer, unjudged) });
+    const call = callOf('check', roomOfStage(market, student, stage));
+    judged.push({ ...stage, ...findingOf(unjudged ? null : await ask('Checking the bundles', call), unjudged) });
   }
   return judged;
 }
@@ -70,7 +88,8 @@ function findingOf(answer, unjudged) {
   if (!answer) return { finding: null, unjudged };
   if (answer.status === 0) return { finding: null };
   const [, finding] = /^finding: (.*)\n$/.exec(answer.text) ?? [];
-  return finding ? { finding } : { finding: null, unjudged: answer.status === 'stopped' ? STOPPED : `It ended with ${answer.status}.` };
+  if (finding) return { finding };
+  return { finding: null, unjudged: answer.status === 'stopped' ? STOPPED : `It ended with ${answer.status}.` };
 }
 
 const STOPPED = 'The work was stopped before the program had answered.';
@@ -85,12 +104,13 @@ export function explanationOf(answer) {
   const told = words[0] === 'clash' ? { reason: 'clash', other: words[1] } : { reason: words.join(' ') };
   if (!best) return told;
   const [, bundle, worth] = best.split(' ');
-  return { ...told, best: namesOf(bundle), worth: Number(worth), lost: Number(lost.split(' ')[1]), tree: tree.slice(5) };
+  const known = { worth: Number(worth), lost: Number(lost.split(' ')[1]), tree: tree.slice(5) };
+  return { ...told, best: namesOf(bundle), ...known };
 }
 
 /**
- * Asks why a student has no seat in a section in one of its stages. Of a turn of the aftermarket the answer is of what was
- * held and what was free, and of the raised budget.
+ * Asks why a student has no seat in a section in one of its stages. Of a turn of the aftermarket the answer is of what
+ * was held and what was free, and of the raised budget.
  * @param {Ask} ask
  * @param {Market} market
  * @param {number} student
@@ -116,7 +136,8 @@ export async function demandedWith(ask, market, student, { section, points, budg
   const { name } = market.roll[student], said = market.said.get(name) ?? NOTHING_SAID;
   const more = section === undefined ? '' : `rate ${name} ${section} ${points}\n`;
   const [stage] = stagesOf(market, student), room = roomOfStage(market, student, { ...stage, budget });
-  const call = callOf('demand', { ...room, sessions: [{ ...room.sessions[0], bytes: joined(said.bytes, encoded(more)) }] });
+  const session = { ...room.sessions[0], bytes: joined(said.bytes, encoded(more)) };
+  const call = callOf('demand', { ...room, sessions: [session] });
   const answer = await ask('Asking what would be taken', call);
   const bundle = answer.status === 0 && answer.text.split('\n').find(it => it.startsWith('bundle '))?.split(' ')[2];
   if (!bundle) return { answer, call };

@@ -1,5 +1,5 @@
-// A text as whoever has no lines but its own can know it: the form and all budgets by the program, what needs nobody's ratings
-// by the page's own reading, and of each student whose lines were given what it said.
+// A text as whoever has no lines but its own can know it: the form and all budgets by the program, what needs nobody's
+// ratings by the page's own reading, and of each student whose lines were given what it said.
 
 import { blankSessions, commandLines, namedIn, saidIn, sessionOf } from './alone.js';
 import { decoded, hashOf } from './bytes.js';
@@ -27,8 +27,8 @@ export function ownFiles(files, { text, sessions }) {
 }
 
 /**
- * Whose lines files have: for each student of the roll its lines, and in words what was passed over. Of a file the lines of
- * every student are taken that it names; of two files that name one student the later one counts.
+ * Whose lines files have: for each student of the roll its lines, and in words what was passed over. Of a file the
+ * lines of every student are taken that it names; of two files that name one student the later one counts.
  * @param {GivenFile[]} files
  * @param {Student[]} roll
  * @returns {{ said: Map<string, Said>, notes: string[] }}
@@ -44,8 +44,11 @@ export function ownLines(files, roll) {
       if (said.has(it)) notes.push(`Several files have lines of ${it}: those of ${file} are taken.`);
       said.set(it, saidIn(bytes, it));
     }
-    if (strange.length) notes.push(`${file} has lines of ${shortList(strange)}, whom the roll does not have: they are left out.`);
-    if (others) notes.push(`${plural(others, 'line')} of ${file} ${others > 1 ? 'name' : 'names'} no student, and ${others > 1 ? 'are' : 'is'} left out.`);
+    if (strange.length) {
+      notes.push(`${file} has lines of ${shortList(strange)}, whom the roll does not have: they are left out.`);
+    }
+    const [name, is] = others > 1 ? ['name', 'are'] : ['names', 'is'];
+    if (others) notes.push(`${plural(others, 'line')} of ${file} ${name} no student, and ${is} left out.`);
   }
   return { said, notes };
 }
@@ -65,10 +68,12 @@ export async function ownMarketOf(ask, parts, lines, spelling) {
   if (answer.status !== 0 && (answer.status !== 8 || BEFORE_BUNDLES.test(answer.text))) {
     return { refusal: { answer, call, parts: blank } };
   }
-  const catalogue = catalogueIn(parts), roll = rollIn(parts), text = publishedOf(decoded(parts.text.bytes), catalogue, roll);
-  const settings = JSON.parse(decoded(parts.settings.bytes)), finding = findingWithoutRatings({ text, catalogue, roll, settings });
+  const catalogue = catalogueIn(parts), roll = rollIn(parts), settings = JSON.parse(decoded(parts.settings.bytes));
+  const text = publishedOf(decoded(parts.text.bytes), catalogue, roll);
+  const finding = findingWithoutRatings({ text, catalogue, roll, settings });
   if (finding) return { finding };
-  const { said, notes } = ownLines(lines, roll), heard = { ...parts, sessions: [sessionOfAll(said)] };
+  const { said, notes } = ownLines(lines, roll);
+  const heard = { ...parts, sessions: [sessionOfAll(said)] };
   const wished = said.size ? callOf('prefer', heard) : null;
   const preferred = wished && await ask('Reading what was wished', wished);
   if (preferred && preferred.status !== 0) return { refusal: { answer: preferred, call: wished, parts: heard } };
@@ -76,7 +81,8 @@ export async function ownMarketOf(ask, parts, lines, spelling) {
   const files = [parts.catalogue, parts.roll, parts.settings, parts.text, ...lines];
   for (const it of files) it.sum ??= await hashOf(it.bytes);
   return { notes, market: {
-    parts: { ...parts, sessions: [] }, files, catalogue, roll, text, settings, said, spelling, isOwn: true, ms: answer.ms,
+    parts: { ...parts, sessions: [] }, isOwn: true, ms: answer.ms,
+    files, catalogue, roll, text, settings, said, spelling,
     wishes: preferred ? preferencesOf(preferred.text) : new Map(),
     sectionOf: new Map(catalogue.map(it => [it.name, it])),
     counts: countsOf(text.bundles.map(it => it.names), catalogue), endCounts: countsOf(text.finals, catalogue),

@@ -82,7 +82,8 @@ async function check() {
 async function checkParts(parts, isByManifest, unused, isOld) {
   const answered = await checked(parts, isByManifest);
   const isRefused = answered.answer.status !== 0;
-  const { market, refusal } = isRefused ? { market: null, refusal: answered } : await marketOf(answered, spellingIn(list.files));
+  const { market, refusal } = isRefused ? { market: null, refusal: answered }
+    : await marketOf(answered, spellingIn(list.files));
   if (isOld()) return false;
   if (!market) return refuse(refusal);
   closeFiles();
@@ -142,8 +143,9 @@ function exampleFiles(texts) {
  */
 function takeOwnExample(files) {
   const { bytes } = files.find(it => it.kind === 'text'), name = 'n.jones';
-  const sessions = files.filter(it => it.kind === 'session').map(it => it.bytes), said = saidByAll(orderOf(bytes), sessions);
-  list.set([...files.filter(it => it.kind !== 'session'), { name: `${name}.session`, kind: 'own', bytes: said.get(name).bytes }]);
+  const sessions = files.filter(it => it.kind === 'session').map(it => it.bytes);
+  const said = saidByAll(orderOf(bytes), sessions).get(name);
+  list.set([...files.filter(it => it.kind !== 'session'), { name: `${name}.session`, kind: 'own', bytes: said.bytes }]);
 }
 
 /** @param {[string, string][]} example the files of the example term */

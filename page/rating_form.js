@@ -311,7 +311,9 @@ function fillChoice(choice, rated, shown) {
 
 /**
  * The call of `quote` of one student.
- * @param {GivenFile} catalogue @param {GivenFile} session @param {string} name @param {{ credits: number, courses: number }} caps @returns {Call}
+ * @param {GivenFile} catalogue @param {GivenFile} session @param {string} name
+ * @param {{ credits: number, courses: number }} caps
+ * @returns {Call}
  */
 function quoteCall(catalogue, session, name, { credits, courses }) {
   return {

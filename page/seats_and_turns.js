@@ -1,11 +1,11 @@
-// What of a published text needs nobody's ratings, as the page itself reads it: budgets and caps are kept, seats suffice,
-// turns are the due ones and take what is held or free, and the end follows (FORMATS, "Findings").
+// What of a published text needs nobody's ratings, as the page itself reads it: budgets and caps are kept, seats
+// suffice, turns are the due ones and take what is held or free, and the end follows (FORMATS, "Findings").
 
 import { clashOf } from './reckoning.js';
 
 /**
- * The first of these findings, in the words of `check`; null where there is none. Form, order and budgets are taken as they
- * stand, and of a bundle it is judged only what ratings have no part in.
+ * The first of these findings, in the words of `check`; null where there is none. Form, order and budgets are taken as
+ * they stand, and of a bundle it is judged only what ratings have no part in.
  * @param {{ text: PublishedText, catalogue: Section[], roll: Student[], settings: { raise: number } }} market
  * @returns {string | null}
  */
@@ -59,7 +59,8 @@ function seatsFinding({ text, catalogue }) {
 }
 
 /**
- * The students in the order of their turns: the greatest budget before the raise first, equal ones in the order of the roll.
+ * The students in the order of their turns: the greatest budget before the raise first, equal ones in the order of the
+ * roll.
  * @param {number[]} budgets
  */
 export const turnOrder = budgets =>
@@ -89,7 +90,8 @@ function turnsFinding(market) {
     if (before.join() !== turn.names.join()) changes++;
     held[turn.student] = turn.names;
   }
-  if (order.length && (changes || text.turns.length % order.length)) return `not quiet after ${text.turns.length} turns`;
+  const isQuiet = !changes && text.turns.length % order.length === 0;
+  if (order.length && !isQuiet) return `not quiet after ${text.turns.length} turns`;
   const wrong = roll.find((/** @type {Student} */ it) => held[it.at].join() !== text.finals[it.at].join());
   return wrong ? `final ${wrong.name}` : null;
 }
@@ -103,6 +105,7 @@ const raised = (budget, percent) => budget + Math.floor(budget * percent / 100);
 /** @param {any} market */
 function usedFinding({ text, catalogue }) {
   const counts = holdersOf(text.finals, catalogue);
-  const wrong = catalogue.find((/** @type {Section} */ it) => text.used[it.at] !== counts[it.at] || text.seats[it.at] !== it.seats);
+  const isWrong = (/** @type {Section} */ it) => text.used[it.at] !== counts[it.at] || text.seats[it.at] !== it.seats;
+  const wrong = catalogue.find(isWrong);
   return wrong ? `used ${wrong.name}` : null;
 }

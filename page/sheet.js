@@ -10,7 +10,9 @@ export function sheetNodes(market) {
   const day = el('span'), sums = el('tbody', {}, market.files.map(it => el('tr', {},
     el('th', { scope: 'row' }, it.name), el('td', { class: 'sum' }, it.sum ?? 'not computed by this browser'))));
   const print = () => window.print();
-  const dated = () => { day.textContent = new Date().toLocaleString('en-GB', { dateStyle: 'long', timeStyle: 'short' }); };
+  const dated = () => {
+    day.textContent = new Date().toLocaleString('en-GB', { dateStyle: 'long', timeStyle: 'short' });
+  };
   dated();
   addEventListener('beforeprint', dated);
   return [

@@ -81,8 +81,8 @@ function signAt(text, at) {
 }
 
 /**
- * The signs of a tree one after another, each in words. Places that may not be taken and follow each other are one step.
- * The last step is of kind `fault` where a sign does not fit, and of kind `end` where all do.
+ * The signs of a tree one after another, each in words. Places that may not be taken and follow each other are one
+ * step. The last step is of kind `fault` where a sign does not fit, and of kind `end` where all do.
  * @param {Walk} walk
  * @param {string} text
  * @returns {Generator<Step>}
@@ -171,38 +171,42 @@ export const points = thousandths => (thousandths / 1000).toFixed(3).replace(/\.
 function boundSentence({ walk, chosen, place }, sign) {
   const symbol = sign[0], number = Number(sign.slice(1));
   const it = boundOf(walk, chosen, place, /** @type {any} */ ({ symbol, number }));
-  const names = listed(chosen.map(that => walk.menu.places[that].name)), begins = beginsWith(place, chosen, names, it.value);
+  const begins = beginsWith(place, listed(chosen.map(that => walk.menu.places[that].name)), chosen.length, it.value);
   const most = Math.floor(it.bound / 1000), isTie = most === walk.worth;
   const end = isTie
-    ? `So at most ${most}, as much as the bundle; and of bundles of equal worth the one with the earlier section wins, which is the bundle.`
+    ? `So at most ${most}, as much as the bundle; and of bundles of equal worth the one with the earlier section wins, `
+      + 'which is the bundle.'
     : `So at most ${most}, less than the ${walk.worth} of the bundle: no more need be looked at.`;
   if (symbol === 'n') {
     const more = it.brought.map(that => `${that.worth} (${that.name})`).join(' + ');
     return `${begins} ${more ? `What may still come brings ${more} at most.` : 'Nothing else can come to it.'} ${end}`;
   }
   const [, one, many] = BOUNDS.find(([that]) => that === symbol), by = walk.menu.places[number];
-  const sum = [`${it.value}`, `${points(it.rate)} · ${it.left}`,
-    ...it.brought.map(that => `${points(that.brings)} (${that.name}: ${that.worth} less ${points(it.rate)} · ${that.takes})`)];
+  const rate = points(it.rate);
+  const above = it.brought.map(that => `${points(that.brings)} (${that.name}: ${that.worth} less ${rate} · ${that.takes})`);
+  const sum = [`${it.value}`, `${rate} · ${it.left}`, ...above].join(' + ');
   return `${begins} ${plural(it.left, `${one} is`, `${many} are`)} left. At place ${number}, ${by.name}, `
-    + `${plural(TAKES[symbol](by), one, many)} bring ${it.by.worth}, ${points(it.rate)} each. Counted at that rate, with what `
-    + `each course may bring above it: ${sum.join(' + ')} = ${points(it.bound)}. ${end}`;
+    + `${plural(TAKES[symbol](by), one, many)} bring ${it.by.worth}, ${rate} each. Counted at that rate, with what each `
+    + `course may bring above it: ${sum} = ${points(it.bound)}. ${end}`;
 }
 
-/** @param {number} place @param {number[]} chosen @param {string} names @param {number} value */
-function beginsWith(place, chosen, names, value) {
-  if (!chosen.length) return `Without the places below ${place}: nothing is chosen yet.`;
+/** @param {number} place @param {string} names @param {number} count @param {number} value */
+function beginsWith(place, names, count, value) {
+  if (!count) return `Without the places below ${place}: nothing is chosen yet.`;
   return `With ${names}, worth ${value}, and ${place ? `no other of the places below ${place}` : 'nothing else'}:`;
 }
 
-/** @param {Walk} walk @param {number[] | null} chosen @param {string} text @param {number} at @param {string | null} due */
+/**
+ * @param {Walk} walk @param {number[] | null} chosen @param {string} text @param {number} at @param {string | null} due
+ */
 function faultAt(walk, chosen, text, at, due) {
   const stands = at < text.length ? `“${signAt(text, at) ?? text[at]}” stands here` : 'the signs end here';
   const what = chosen === null ? 'nothing more is due' : due === null
     ? `${listed(chosen.map(it => walk.menu.places[it].name))} ${chosen.length === 1 ? 'is' : 'are'} worth `
       + `${worthOf(walk.menu, chosen)}, better than the ${walk.worth} of the bundle`
     : `“${due}” is due`;
-  return /** @type {Step} */ ({ kind: 'fault', at, sign: text.slice(at, at + 3), words: `Behind ${plural(at, 'character')} `
-    + `${stands}, and by these ratings, prices and this budget ${what}.`, depth: 0 });
+  const words = `Behind ${plural(at, 'character')} ${stands}, and by these ratings, prices and this budget ${what}.`;
+  return /** @type {Step} */ ({ kind: 'fault', at, sign: text.slice(at, at + 3), words, depth: 0 });
 }
 
 /** Why a tree may not fit that a school published, in words. */

@@ -52,7 +52,7 @@ export function changeWords(market, before, after) {
 /**
  * What a reason speaks of.
  * @typedef {{ of: Section, name: string, price: number, left: number, budget: number, caps: Student, held: string,
- *   spent: number, credits: number, count: number, other: string, clash: string, student: string, isTurn: boolean }} Facts
+ *   spent: number, credits: number, other: string, clash: string, student: string, isTurn: boolean }} Facts
  */
 
 /** @param {Facts} it */
@@ -80,30 +80,34 @@ const SHORT = {
  * @type {Record<string, (it: Facts) => string>}
  */
 const LONG = {
-  held: it => `${it.student} ${took(it)} ${it.name}${it.isTurn ? '' : ' in the second stage, and gave it up in the aftermarket '
-    + 'for a bundle that it prefers'}.`,
+  held: it => it.isTurn ? `${it.student} took ${it.name}.` : `${it.student} bought ${it.name} in the second stage, and gave it `
+    + 'up in the aftermarket for a bundle that it prefers.',
   unrated: it => `${it.student} gave ${it.name} no rating above 0, and so did not ask for it.`,
-  'alone price': it => `The price of ${it.name} is ${grouped(it.price)}, more than the whole budget of ${grouped(it.budget)}.`,
+  'alone price': it =>
+    `The price of ${it.name} is ${grouped(it.price)}, more than the whole budget of ${grouped(it.budget)}.`,
   'alone credits': it => `${it.name} has ${plural(it.of.credits, 'credit')}, more than the cap of ${it.caps.credits}.`,
   'alone courses': it => `The roll allows ${it.student} no section at all.`,
-  'beside price': it => `The price of ${it.name} is ${grouped(it.price)}. ${it.student} ${took(it)} ${it.held}, whose prices `
-    + `together are ${grouped(it.spent)}. Of its budget of ${grouped(it.budget)} that leaves ${grouped(it.left)}, too little `
-    + `for ${it.name} besides.`,
+  'beside price': it => `The price of ${it.name} is ${grouped(it.price)}. ${it.student} ${took(it)} ${it.held}, whose `
+    + `prices together are ${grouped(it.spent)}. Of its budget of ${grouped(it.budget)} that leaves ${grouped(it.left)}, `
+    + `too little for ${it.name} besides.`,
   'beside credits': it => `${it.name} has ${plural(it.of.credits, 'credit')}. With what ${it.student} ${took(it)} `
     + `(${it.held}) that passes the cap of ${it.caps.credits} credits.`,
   'beside courses': it => `${it.student} ${took(it)} ${it.held}. With ${it.name} that passes the cap of `
     + `${plural(it.caps.courses, 'section')}.`,
   clash: it => `${it.name} ${it.clash} ${it.other}, which ${it.student} ${took(it)}.`,
-  less: it => `${it.student} could have had ${it.name} besides what it ${took(it)}, but by its own adjustments that is worth `
-    + 'no more.',
+  less: it => `${it.student} could have had ${it.name} besides what it ${took(it)}, but by its own adjustments that is `
+    + 'worth no more.',
 };
 
-/** @param {Market} market @param {number} student @param {Stage} stage @param {string} name @param {Explanation} told @returns {Facts} */
+/**
+ * @param {Market} market @param {number} student @param {Stage} stage @param {string} name @param {Explanation} told
+ * @returns {Facts}
+ */
 function factsOf(market, student, stage, name, told) {
   const of = market.sectionOf.get(name), spent = priceOf(market, stage.names), other = market.sectionOf.get(told.other);
   return {
-    of, name: section(market, name), price: market.text.prices[of.at], left: stage.budget - spent, budget: stage.budget, spent,
-    caps: market.roll[student], held: sections(market, stage.names), count: stage.names.length,
+    of, name: section(market, name), price: market.text.prices[of.at], left: stage.budget - spent, budget: stage.budget,
+    spent, caps: market.roll[student], held: sections(market, stage.names),
     credits: stage.names.reduce((sum, it) => sum + market.sectionOf.get(it).credits, 0),
     other: other ? section(market, other.name) : '', clash: other ? clashOf(of, other) : '',
     student: studentName(market, student), isTurn: stage.pass > 0,
@@ -130,14 +134,14 @@ export function longReason(market, student, stage, name, told) {
 }
 
 /** The rule by which a tie is broken, in words. */
-export const TIE = 'of bundles of equal worth the best is the one with the earliest section, in the order of the catalogue, that '
-  + 'only one of them has';
+export const TIE = 'of bundles of equal worth the best is the one with the earliest section, in the order of the '
+  + 'catalogue, that only one of them has';
 
 /** @param {Market} market @param {Facts} it @param {Stage} stage @param {Explanation} told */
 function bestWords(market, it, stage, told) {
   const more = told.lost ? `${told.lost} more.` : `as much: a tie; ${TIE}.`;
-  const of = stage.pass ? 'of what was held and what was free' : '';
-  return `With ${it.name} the best bundle that the budget buys ${of ? `${of} ` : ''}is ${sections(market, told.best)} (prices together `
-    + `${grouped(priceOf(market, told.best))}), worth ${told.worth} by the ratings of ${it.student}. `
+  const of = stage.pass ? ' of what was held and what was free' : '', prices = grouped(priceOf(market, told.best));
+  return `With ${it.name} the best bundle that the budget buys${of} is ${sections(market, told.best)} (prices together `
+    + `${prices}), worth ${told.worth} by the ratings of ${it.student}. `
     + `What ${it.student} ${took(it)} is worth ${told.worth + told.lost}, ${more}`;
 }

@@ -1,4 +1,5 @@
-// What a student sees: first the answer and the week, then each stage, why a section is not there, what if, the signs, and envy.
+// What a student sees: first the answer and the week, then each stage, why a section is not there, what if, the signs,
+// and envy.
 
 import { answerNodes, heldWeek } from './answer_view.js';
 import { drawingOf } from './drawing.js';

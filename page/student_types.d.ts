@@ -49,7 +49,10 @@ interface Tried {
   budget: number;
 }
 
-/** What the student would take at these prices, what that is worth by the ratings that are tried, and its prices together. */
+/**
+ * What the student would take at these prices, what that is worth by the ratings that are tried, and its prices
+ * together.
+ */
 interface Demanded {
   names: string[];
   worth: number;
@@ -86,7 +89,10 @@ interface NodeAt {
   place: number;
 }
 
-/** What a student rates in the form; a pair's key has its two sections in the order of the catalogue, with a blank between. */
+/**
+ * What a student rates in the form; a pair's key has its two sections in the order of the catalogue, with a blank
+ * between.
+ */
 interface WishList {
   name: string;
   ratings: Map<string, number>;
@@ -94,8 +100,8 @@ interface WishList {
 }
 
 /**
- * How a school spells names. Of a kind (`student`, `section`, `course`) and a name, `shown` gives the spelling, or the name
- * where there is none; `meant` gives the names that may be meant by what somebody typed, exact spellings first.
+ * How a school spells names. Of a kind (`student`, `section`, `course`) and a name, `shown` gives the spelling, or the
+ * name where there is none; `meant` gives the names that may be meant by what somebody typed, exact spellings first.
  */
 interface Spelling {
   shown(kind: string, name: string): string;

@@ -9,9 +9,9 @@ import { clock } from './tables.js';
 const WEEK = [['M', 'Mon'], ['T', 'Tue'], ['W', 'Wed'], ['R', 'Thu'], ['F', 'Fri'], ['S', 'Sat'], ['U', 'Sun']];
 
 /**
- * The week of sections. Its rows are the times at which something begins and ends, the earliest first; a row has for each
- * of the days the sections that meet then. Days from Monday to Friday are left out only where nothing meets on any day
- * before or after; a day of the weekend stands where something meets on it.
+ * The week of sections. Its rows are the times at which something begins and ends, the earliest first; a row has for
+ * each of the days the sections that meet then. Days from Monday to Friday are left out only where nothing meets on any
+ * day before or after; a day of the weekend stands where something meets on it.
  * @param {Section[]} sections
  * @returns {Week}
  */

@@ -104,22 +104,26 @@ function findingPart(finding, parts, by = 'the program\'s words') {
  * @param {string} finding @param {Parts} parts
  */
 export function showFound(finding, parts) {
-  showVerdict('wrong', 'This text does not hold', p(findingWords(finding)), findingPart(finding, parts, 'found by the page itself'),
+  showVerdict('wrong', 'This text does not hold',
+    p(findingWords(finding)), findingPart(finding, parts, 'found by the page itself'),
     p('Do not trust it as it stands: ask the school about the line that is named.'));
 }
+
+const KNOWN = 'The program says that the form of the text is right, and each budget the one that the roll, the settings and '
+  + 'the draw give. The page itself reads that bundles keep budgets, caps and timetables, that seats suffice at any time, '
+  + 'that turns are the due ones, and that what is held in the end follows. Whether the bundles of others are their best, '
+  + 'nobody can tell without their lines.';
 
 /**
  * Tells what of a text holds as far as one student can know it.
  * @param {Market} market @param {string[]} notes what of the lines was passed over
  */
 export function showOwn({ parts, roll, catalogue, said }, notes) {
-  const names = [...said.keys()], whose = names.length ? `with the lines of ${shortList(names)} alone` : 'but no lines of a student of its roll';
+  const names = [...said.keys()];
+  const whose = names.length ? `with the lines of ${shortList(names)} alone` : 'but no lines of a student of its roll';
   showVerdict(names.length ? 'right' : 'open', 'What you can know holds',
     el('details', {}, el('summary', {}, `${parts.text.name}, ${whose}`),
-      p(`${plural(roll.length, 'student')}, ${plural(catalogue.length, 'section')}. The program says that the form of the text is right, and each `
-        + 'budget the one that the roll, the settings and the draw give. The page itself reads that bundles keep budgets, caps and '
-        + 'timetables, that seats suffice at any time, that turns are the due ones, and that what is held in the end follows. Whether the '
-        + 'bundles of others are their best, nobody can tell without their lines.')),
+      p(`${plural(roll.length, 'student')}, ${plural(catalogue.length, 'section')}. ${KNOWN}`)),
     notes.map(it => p(it)));
 }
 

@@ -58,14 +58,15 @@ function goByKey(event) {
 export function drawReaders(market, words) {
   shown.market = market;
   $('student').replaceChildren(...market ? [chooser(market), el('div', { id: 'student-answer' })] : [p(words)]);
-  $('auditor').replaceChildren(...market && !market.isOwn ? auditorView(market, showStudent) : [p(market ? ALL_SESSIONS : words)]);
+  const isWhole = market && !market.isOwn;
+  $('auditor').replaceChildren(...isWhole ? auditorView(market, showStudent) : [p(market ? ALL_SESSIONS : words)]);
   if (market) recall();
   const only = market && named(market).length === 1 && market.isOwn ? named(market)[0] : null;
   if (only && $('student-answer').dataset.name !== only.name) drawStudent(only);
 }
 
-const ALL_SESSIONS = 'The whole text is checked with all sessions, which say what everybody wished. What one student can know '
-  + 'of it with its own lines alone stands under “One student”.';
+const ALL_SESSIONS = 'The whole text is checked with all sessions, which say what everybody wished. What one student can '
+  + 'know of it with its own lines alone stands under “One student”.';
 
 /**
  * The students who can be looked at: all of the roll, or those whose own lines are there.
@@ -88,7 +89,8 @@ function chooser(market) {
     else showNobody();
   });
   const onsubmit = (/** @type {Event} */ event) => { event.preventDefault(); showStudent(input.value); };
-  return el('form', { class: 'chooser', onsubmit, hidden: market.isOwn && named(market).length === 1 }, el('label', { for: 'student-name' }, 'Name of the student'),
+  const hidden = market.isOwn && named(market).length === 1;
+  return el('form', { class: 'chooser', onsubmit, hidden }, el('label', { for: 'student-name' }, 'Name of the student'),
     input, names, el('button', { class: 'main' }, 'Show'), el('div', { id: 'student-said', role: 'status' }));
 }
 
@@ -113,7 +115,8 @@ function showStudent(typed, focuses = true) {
 }
 
 /** @param {Market} market */
-const nobodyWords = market => market.isOwn ? 'No lines of a student of this name were given.' : 'No student of the roll has this name.';
+const nobodyWords = market => market.isOwn ? 'No lines of a student of this name were given.'
+  : 'No student of the roll has this name.';
 
 /** @param {Student} student */
 function drawStudent({ name, at }) {
@@ -132,7 +135,10 @@ function showNobody() {
 /** @param {Student[]} near */
 const whichOf = near => [
   'Which of them? ',
-  ...near.slice(0, 12).flatMap(it => [button(shown.market.spelling.shown('student', it.name), () => showStudent(it.name), { class: 'link' }), ' ']),
+  ...near.slice(0, 12).flatMap(it => {
+    const name = shown.market.spelling.shown('student', it.name);
+    return [button(name, () => showStudent(it.name), { class: 'link' }), ' '];
+  }),
   near.length > 12 ? `and ${near.length - 12} more` : '',
 ];
 

@@ -19,7 +19,8 @@ export function weekView(sections, caption, shown) {
     row.cells.map(cell => el('td', cell.length ? { class: 'meets' } : {}, cell.map(it => sectionCell(it, shown))))));
   const table = el('table', { class: 'week' }, el('caption', { class: 'aside' }, caption), el('thead', {}, heads),
     el('tbody', {}, lines));
-  const rest = without.length ? el('p', { class: 'quiet' }, `Without meetings: ${listed(without.map(it => shown(it.name)))}.`) : null;
+  const still = listed(without.map(it => shown(it.name)));
+  const rest = without.length ? el('p', { class: 'quiet' }, `Without meetings: ${still}.`) : null;
   return el('div', { class: 'week-frame' }, rows.length ? table : null, rest);
 }
 

@@ -1,4 +1,5 @@
-// "What if": what a student would take at these prices with another rating or another budget, by the program's `demand`.
+// "What if": what a student would take at these prices with another rating or another budget, by the program's
+// `demand`.
 
 import { MOST_BASE } from './alone.js';
 import { el, p } from './elements.js';

@@ -12,14 +12,14 @@ import { work } from './work.js';
 import { explanationOf } from './one_student.js';
 
 /**
- * What was answered about a section: for each group of stages with the same answer, the first of them, how many they are,
- * and what `explain` said; `free` has the seats that were free at each turn.
+ * What was answered about a section: for each group of stages with the same answer, the first of them, how many they
+ * are, and what `explain` said; `free` has the seats that were free at each turn.
  * @typedef {{ stage: Stage, last: Stage, told?: Explanation, failed?: string }} Reply
  */
 
 /**
- * The sections that a student rated and does not hold in the end, highest rating first: those that it rated higher than one
- * that it holds, and the others.
+ * The sections that a student rated and does not hold in the end, highest rating first: those that it rated higher than
+ * one that it holds, and the others.
  * @param {Market} market @param {number} student
  */
 export function missedSections(market, student) {
@@ -51,7 +51,10 @@ async function repliesAbout(market, student, stages, name) {
   return replies;
 }
 
-/** @param {Market} market @param {number} student @param {Stage} stage @param {string} name @returns {Promise<{ told?: Explanation, failed?: string }>} */
+/**
+ * @param {Market} market @param {number} student @param {Stage} stage @param {string} name
+ * @returns {Promise<{ told?: Explanation, failed?: string }>}
+ */
 async function replyOf(market, student, stage, name) {
   if (unjudgedWords(stage)) return wholeReply(market, student, stage, name);
   const asked = await explainedIn(work, market, student, stage, name);
@@ -114,7 +117,10 @@ function questionsOf(market, student, stages) {
   };
 }
 
-/** @param {Market} market @param {number} student @param {Stage[]} stages @param {string} name @param {boolean} isOpen @returns {Question} */
+/**
+ * @param {Market} market @param {number} student @param {Stage[]} stages @param {string} name @param {boolean} isOpen
+ * @returns {Question}
+ */
 function questionOf(market, student, stages, name, isOpen) {
   const short = el('span', { class: 'short' }), answer = el('div', { class: 'answer', 'aria-live': isOpen ? 'polite' : null });
   const node = el('details', { class: 'question' }, el('summary', {}, 'Why not ', el('b', {}, section(market, name)), '? ', short), answer);
@@ -134,7 +140,9 @@ function questionOf(market, student, stages, name, isOpen) {
   return { node, ask };
 }
 
-/** @param {Market} market @param {number} student @param {Stage[]} stages @param {string} name @param {Reply[]} replies */
+/**
+ * @param {Market} market @param {number} student @param {Stage[]} stages @param {string} name @param {Reply[]} replies
+ */
 function shortAnswer(market, student, stages, name, replies) {
   const [second, later] = replies, turns = stages.filter(it => it.pass);
   const of = (/** @type {Reply} */ it) => it.failed ?? shortReason(market, student, it.stage, name, it.told);
@@ -144,7 +152,9 @@ function shortAnswer(market, student, stages, name, replies) {
   return of(later) === of(second) ? `${of(second)}; free later, and the same holds.` : `${of(second)}; free later: ${of(later)}.`;
 }
 
-/** @param {Market} market @param {number} student @param {Stage[]} stages @param {string} name @param {Reply[]} replies */
+/**
+ * @param {Market} market @param {number} student @param {Stage[]} stages @param {string} name @param {Reply[]} replies
+ */
 function longAnswer(market, student, stages, name, replies) {
   const [second, ...later] = replies, isDone = second.told && ['held', 'unrated'].includes(second.told.reason);
   return [

@@ -78,15 +78,16 @@ export function adjust(list, one, other, points) {
 }
 
 /**
- * The session file of a list: it takes back what the student said before, and says all of the list. Ratings and pairs come
- * in the order of the catalogue.
+ * The session file of a list: it takes back what the student said before, and says all of the list. Ratings and pairs
+ * come in the order of the catalogue.
  * @param {WishList} list
  * @param {Section[]} catalogue
  * @returns {Uint8Array}
  */
 export function sessionFile(list, catalogue) {
   const { name, ratings, pairs } = list;
-  const rated = catalogue.filter(it => ratings.has(it.name)).map(it => `rate ${name} ${it.name} ${ratings.get(it.name)}`);
+  const rated = catalogue.filter(it => ratings.has(it.name))
+    .map(it => `rate ${name} ${it.name} ${ratings.get(it.name)}`);
   const placeOf = new Map(catalogue.map(it => [it.name, it.at]));
   const places = (/** @type {string} */ key) => key.split(' ').map(it => placeOf.get(it));
   const adjusted = [...pairs].sort(([one], [other]) => {

@@ -1,4 +1,5 @@
-// The worked examples beside the repository, as the modules take them; their answers come from no program of this project.
+// The worked examples beside the repository, as the modules take them; their answers come from no program of this
+// project.
 
 import { existsSync, readFileSync, readdirSync } from 'node:fs';
 import { fileURLToPath } from 'node:url';
@@ -44,7 +45,8 @@ export function wishesAfter(text) {
 
 /**
  * The market of a text, as the views have it.
- * @param {{ catalogue: Uint8Array, roll: Uint8Array, settings: Uint8Array, text: Uint8Array, sessions: Uint8Array[] }} of
+ * @param {{ catalogue: Uint8Array, roll: Uint8Array, settings: Uint8Array, text: Uint8Array, sessions: Uint8Array[] }}
+ * of
  */
 export function marketIn({ catalogue, roll, settings, text, sessions }) {
   const plain = (/** @type {Uint8Array} */ it) => new TextDecoder().decode(it);
