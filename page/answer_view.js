@@ -69,8 +69,8 @@ function saidByProgram(market, student, judged) {
     market.isOwn
       ? 'of the whole text: its form, and that each budget is the one that the roll, the settings and the draw give;'
       : 'of the whole text, with all sessions: it holds;',
-    `of ${studentName(market, student)} alone, by its own lines, its budget and the printed prices: the bundle of the second `
-      + `stage is the best that ${tokens(judged[0].budget)} buy, and the signs beside it prove so;`,
+    `of ${studentName(market, student)} alone, by its own lines, its budget and the printed prices: the bundle of the `
+      + `second stage is the best that ${tokens(judged[0].budget)} buy, and the signs beside it prove so;`,
     turns ? `at ${at} of the aftermarket: the bundle is the best that ${tokens(raisedBudget(market, student))} buy of `
       + 'what it held and what was free;' : '',
     'below: why it has no seat in a section, and what it would take with another rating or budget.',

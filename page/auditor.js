@@ -41,16 +41,16 @@ function errorsPart({ text, catalogue, counts, settings }) {
   const free = catalogue.filter(it => text.prices[it.at] > 0 && counts.get(it.name) < it.seats);
   const seats = free.reduce((sum, it) => sum + it.seats - counts.get(it.name), 0);
   return [
-    p('The clearing error is the sum, over all sections, of the square of the students too many, or, where the price is '
-      + 'not 0, of the seats left free.'),
+    p('The clearing error is the sum, over all sections, of the square of the students too many, or, where the price '
+      + 'is not 0, of the seats left free.'),
     el('dl', { class: 'figures' },
       errorFigure('After the search',
         `${text.error} by the text, which the check does not judge (the settings accept ${settings.accept})`,
         'At these prices some sections may have more students than seats, and others free ones.'),
       errorFigure('In the second stage', `${errorOf(counts, catalogue, text.prices)} by the page's sum`,
         'Prices were raised until no section had more students than seats, so it counts free seats alone: '
-        + `${plural(seats, 'seat')} of ${plural(free.length, 'section')} with a price. It can be the greater of the two, `
-        + 'since with a higher price more students may leave a section than were too many.')),
+        + `${plural(seats, 'seat')} of ${plural(free.length, 'section')} with a price. It can be the greater of the `
+        + 'two, since with a higher price more students may leave a section than were too many.')),
   ];
 }
 

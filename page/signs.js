@@ -183,11 +183,12 @@ function boundSentence({ walk, chosen, place }, sign) {
   }
   const [, one, many] = BOUNDS.find(([that]) => that === symbol), by = walk.menu.places[number];
   const rate = points(it.rate);
-  const above = it.brought.map(that => `${points(that.brings)} (${that.name}: ${that.worth} less ${rate} · ${that.takes})`);
+  const above = it.brought.map(that => `${points(that.brings)} (${that.name}: ${that.worth} less ${rate} · `
+    + `${that.takes})`);
   const sum = [`${it.value}`, `${rate} · ${it.left}`, ...above].join(' + ');
   return `${begins} ${plural(it.left, `${one} is`, `${many} are`)} left. At place ${number}, ${by.name}, `
-    + `${plural(TAKES[symbol](by), one, many)} bring ${it.by.worth}, ${rate} each. Counted at that rate, with what each `
-    + `course may bring above it: ${sum} = ${points(it.bound)}. ${end}`;
+    + `${plural(TAKES[symbol](by), one, many)} bring ${it.by.worth}, ${rate} each. Counted at that rate, with what `
+    + `each course may bring above it: ${sum} = ${points(it.bound)}. ${end}`;
 }
 
 /** @param {number} place @param {string} names @param {number} count @param {number} value */

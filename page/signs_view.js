@@ -25,8 +25,8 @@ export function signsNodes(market, student, stages) {
     told.replaceChildren(...explained(market, student, stages, field.value, of.value === '' ? null : stages[of.value]));
   };
   return [
-    p('Behind each bundle stand signs. Paste them here, or a whole line of the text or of an answer, and each is told in '
-      + 'words.'),
+    p('Behind each bundle stand signs. Paste them here, or a whole line of the text or of an answer, and each is told '
+      + 'in words.'),
     el('form', { class: 'signs', onsubmit },
       el('label', { for: 'signs' }, 'The signs'), field, el('label', { for: 'signs-stage' }, 'Stage'), of,
       el('button', { class: 'main' }, 'Explain')),
@@ -55,7 +55,8 @@ function explained(market, student, stages, typed, chosen) {
   const forced = menu.places[proved?.forced ?? -1]?.name;
   const walk = walkOf(market, student, { budget: stage.budget, allowed: stage.allowed, champion: names, forced });
   const asked = forced ? `, ${forced} being the section that is asked for` : '', where = stageName(stage).toLowerCase();
-  return [p(`Read as the signs of ${sections(market, names)} in the ${where}, with the budget ${stage.budget}${asked}.`),
+  return [p(`Read as the signs of ${sections(market, names)} in the ${where}, with the budget `
+    + `${stage.budget}${asked}.`),
     ...stepNodes(stepsOf(walk, pasted.tree))];
 }
 

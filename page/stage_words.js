@@ -40,6 +40,13 @@ export const studentName = (market, student) => market.spelling.shown('student',
 export const stageName = ({ pass }) => pass ? `Aftermarket, pass ${pass}` : 'Second stage';
 
 /**
+ * The name of stages that follow each other, of which these are the first and the last.
+ * @param {{ pass: number }} first @param {{ pass: number }} last
+ */
+export const stagesName = (first, last) => first.pass === last.pass ? stageName(first)
+  : `Aftermarket, passes ${first.pass} to ${last.pass}`;
+
+/**
  * What was taken and what given up; nothing where a turn changed nothing.
  * @param {Market} market @param {string[]} before @param {string[]} after
  */
@@ -80,16 +87,16 @@ const SHORT = {
  * @type {Record<string, (it: Facts) => string>}
  */
 const LONG = {
-  held: it => it.isTurn ? `${it.student} took ${it.name}.` : `${it.student} bought ${it.name} in the second stage, and gave it `
-    + 'up in the aftermarket for a bundle that it prefers.',
+  held: it => it.isTurn ? `${it.student} took ${it.name}.` : `${it.student} bought ${it.name} in the second stage, and `
+    + 'gave it up in the aftermarket for a bundle that it prefers.',
   unrated: it => `${it.student} gave ${it.name} no rating above 0, and so did not ask for it.`,
   'alone price': it =>
     `The price of ${it.name} is ${grouped(it.price)}, more than the whole budget of ${grouped(it.budget)}.`,
   'alone credits': it => `${it.name} has ${plural(it.of.credits, 'credit')}, more than the cap of ${it.caps.credits}.`,
   'alone courses': it => `The roll allows ${it.student} no section at all.`,
   'beside price': it => `The price of ${it.name} is ${grouped(it.price)}. ${it.student} ${took(it)} ${it.held}, whose `
-    + `prices together are ${grouped(it.spent)}. Of its budget of ${grouped(it.budget)} that leaves ${grouped(it.left)}, `
-    + `too little for ${it.name} besides.`,
+    + `prices together are ${grouped(it.spent)}. Of its budget of ${grouped(it.budget)} that leaves `
+    + `${grouped(it.left)}, too little for ${it.name} besides.`,
   'beside credits': it => `${it.name} has ${plural(it.of.credits, 'credit')}. With what ${it.student} ${took(it)} `
     + `(${it.held}) that passes the cap of ${it.caps.credits} credits.`,
   'beside courses': it => `${it.student} ${took(it)} ${it.held}. With ${it.name} that passes the cap of `

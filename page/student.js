@@ -10,7 +10,7 @@ import { judgedStages, stagesOf, unratedIn } from './one_student.js';
 import { menuOf, priceOf, raisedBudget, walkOf, worthOf } from './reckoning.js';
 import { sheetNodes } from './sheet.js';
 import { signsNodes } from './signs_view.js';
-import { changeWords, grouped, section, sections, stageName, studentName, tokens } from './stage_words.js';
+import { changeWords, grouped, section, sections, stagesName, studentName, tokens } from './stage_words.js';
 import { meetingWords } from './tables.js';
 import { whatIfNodes } from './what_if_view.js';
 import { whyNodes } from './why_view.js';
@@ -21,17 +21,19 @@ import { work } from './work.js';
 function budgetWords(market, student) {
   const { base, carry } = market.roll[student], budget = market.text.budgets[student], { spread } = market.settings;
   const drawn = budget - base - carry;
-  const rank = spread ? ` (${spread} for each of the ${plural(drawn / spread, 'student')} whom the draw ranks lower)` : '';
+  const lower = spread ? plural(drawn / spread, 'student') : '', raised = grouped(raisedBudget(market, student));
+  const rank = spread ? ` (${spread} for each of the ${lower} whom the draw ranks lower)` : '';
   const carried = carry ? `, ${grouped(carry)} carried over` : '';
   return `${tokens(budget)}: ${grouped(base)} by the roll${carried}, and ${grouped(drawn)} by the draw${rank}. `
-    + `In the aftermarket it is raised by ${market.settings.raise} percent, to ${grouped(raisedBudget(market, student))}.`;
+    + `In the aftermarket it is raised by ${market.settings.raise} percent, to ${raised}.`;
 }
 
-const STAGES = 'First a search finds prices, in tokens. The second stage raises them until no section has more students than '
-  + 'seats; at these prices each student gets the best bundle that its budget buys. The seats that are left free go in the '
-  + 'aftermarket, at the same prices, with raised budgets: at its turn a student takes the best of what it holds and what is '
-  + 'free. Turns go by budget, the greatest first, and pass follows pass until one changes nothing. What is held then is held '
-  + '“in the end”: drop and add come later and are not in this text. A bundle is worth the sum of its ratings and adjustments.';
+const STAGES = 'First a search finds prices, in tokens. The second stage raises them until no section has more '
+  + 'students than seats; at these prices each student gets the best bundle that its budget buys. The seats that are '
+  + 'left free go in the aftermarket, at the same prices, with raised budgets: at its turn a student takes the best of '
+  + 'what it holds and what is free. Turns go by budget, the greatest first, and pass follows pass until one changes '
+  + 'nothing. What is held then is held “in the end”: drop and add come later and are not in this text. A bundle is '
+  + 'worth the sum of its ratings and adjustments.';
 
 /**
  * One line for each stage, which unfolds.
@@ -40,8 +42,10 @@ const STAGES = 'First a search finds prices, in tokens. The second stage raises 
 function stageNodes(market, student, stages) {
   const { credits, courses } = market.roll[student], budget = market.text.budgets[student];
   return [
-    opening([el('b', {}, 'Budget: '), tokens(budget)],
-      () => [p(budgetWords(market, student)), p(`By the roll at most ${plural(credits, 'credit')} and ${plural(courses, 'section')}.`)]),
+    opening([el('b', {}, 'Budget: '), tokens(budget)], () => [
+      p(budgetWords(market, student)),
+      p(`By the roll at most ${plural(credits, 'credit')} and ${plural(courses, 'section')}.`),
+    ]),
     ...quietRuns(market, stages).map(run => stageLine(market, student, run)),
     opening([el('b', {}, 'How it goes: '), 'stages, prices and turns'], () => p(STAGES)),
   ];
@@ -64,7 +68,7 @@ function quietRuns(market, stages) {
 
 /** @param {Market} market @param {number} student @param {{ stages: Stage[], change: string }} run */
 function stageLine(market, student, { stages, change }) {
-  const [first] = stages, last = stages.at(-1), title = first === last ? stageName(first) : `Aftermarket, passes ${first.pass} to ${last.pass}`;
+  const [first] = stages, title = stagesName(first, stages.at(-1));
   const what = first.pass ? change || 'no change' : `bought ${sections(market, first.names)}`;
   return opening([el('b', {}, `${title}: `), what], () => [
     p(bundleWords(market, student, first)), ...stages.map(it => treePart(market, student, it, stages.length > 1)),
@@ -73,34 +77,38 @@ function stageLine(market, student, { stages, change }) {
 
 /** @param {Market} market @param {number} student @param {Stage} stage */
 function bundleWords(market, student, { names, budget, pass, before, allowed }) {
-  const menu = menuOf(market, student), worth = names.every(it => menu.of.has(it)) ? worthOf(menu, names.map(it => menu.of.get(it))) : null;
-  const free = allowed ? menu.places.filter(it => allowed.has(it.name) && !before.includes(it.name)).map(it => it.name) : [];
-  return `${sections(market, names)}${worth === null ? '' : `: worth ${worth}`}, prices together ${grouped(priceOf(market, names))} of `
-    + `${tokens(budget)}.${pass ? ` Of what ${studentName(market, student)} rated, beside what it held, free ${free.length === 1 ? 'was' : 'were'} `
-    + `${sections(market, free)}.` : ''}`;
+  const { of, places } = menuOf(market, student), isRated = names.every(it => of.has(it));
+  const worth = isRated ? `, worth ${worthOf(menuOf(market, student), names.map(it => of.get(it)))}` : '';
+  const spent = `${grouped(priceOf(market, names))} of ${tokens(budget)}`;
+  const free = places.map(it => it.name).filter(it => allowed?.has(it) && !before.includes(it));
+  const rest = `Of what ${studentName(market, student)} rated and did not hold, seats were free in: `
+    + `${sections(market, free)}.`;
+  return `${sections(market, names)}${worth}, prices together ${spent}.${pass ? ` ${rest}` : ''}`;
 }
 
 /** @param {Market} market @param {number} student @param {Stage} stage @param {boolean} isOne */
 function treePart(market, student, stage, isOne) {
   const strange = unratedIn(market, student, stage.names);
-  if (strange.length) return p(`Its signs cannot be drawn: ${listed(strange)} ${strange.length > 1 ? 'are' : 'is'} not rated above 0.`);
+  if (strange.length) return p(`Its signs cannot be drawn, since not rated above 0: ${listed(strange)}.`);
   const walk = walkOf(market, student, { budget: stage.budget, allowed: stage.allowed, champion: stage.names });
-  return opening(`The proof that nothing better was to be had${isOne ? `, pass ${stage.pass}` : ''}`, () => drawingOf(walk, stage.tree));
+  const title = `The proof that nothing better was to be had${isOne ? `, pass ${stage.pass}` : ''}`;
+  return opening(title, () => drawingOf(walk, stage.tree));
 }
 
-/** @param {boolean} is @param {string} words */
-const yes = (is, words) => is ? el('span', { class: 'yes' }, words) : '';
+/** @param {string} words */
+const yes = words => el('span', { class: 'yes' }, words);
 
 /** @param {Market} market @param {number} student */
 function ratedTable(market, student) {
   const second = market.text.bundles[student].names, end = market.text.finals[student];
-  const rows = menuOf(market, student).places.map(it => ({ ...it, isSecond: second.includes(it.name), isEnd: end.includes(it.name) }));
+  const rows = menuOf(market, student).places.map(it => (
+    { ...it, second: second.includes(it.name) ? 'bought' : '', end: end.includes(it.name) ? 'held' : '' }));
   return tableOf(`What ${studentName(market, student)} rated, and what became of it`, [
     { head: 'Section', of: it => section(market, it.name), isText: true },
     { head: 'Rating', of: it => it.rating },
     { head: 'Price', of: it => it.price },
-    { head: 'Second stage', of: it => it.isSecond ? 'bought' : '', show: it => yes(it.isSecond, 'bought'), isText: true },
-    { head: 'In the end', of: it => it.isEnd ? 'held' : '', show: it => yes(it.isEnd, 'held'), isText: true },
+    { head: 'Second stage', of: it => it.second, show: it => yes(it.second), isText: true },
+    { head: 'In the end', of: it => it.end, show: it => yes(it.end), isText: true },
     { head: 'Credits', of: it => it.section.credits },
     { head: 'Meets', of: it => meetingWords(it.section), isText: true },
   ], rows, { filterAt: 20 });
@@ -110,7 +118,8 @@ function ratedTable(market, student) {
 function adjustmentWords(market, student) {
   const pairs = market.wishes.get(market.roll[student].name)?.pairs ?? [];
   if (!pairs.length) return null;
-  const told = pairs.map(([one, other, worth]) => `${section(market, one)} with ${section(market, other)} ${worth > 0 ? '+' : ''}${worth}`);
+  const told = pairs.map(([one, other, worth]) =>
+    `${section(market, one)} with ${section(market, other)} ${worth > 0 ? '+' : ''}${worth}`);
   return p(`Together worth more, or less, than apart: ${told.join('; ')}.`);
 }
 
@@ -121,8 +130,10 @@ function adjustmentWords(market, student) {
  */
 export function studentView(market, student) {
   const stages = stagesOf(market, student), name = market.roll[student].name, shown = studentName(market, student);
-  const answer = el('div', { id: 'answer', 'aria-live': 'polite' }, el('p', { class: 'lead' }, 'Asking the program ..'));
-  judgedStages(work, market, student).then(async judged => answer.replaceChildren(...(await answerNodes(market, student, judged)).filter(Boolean)));
+  const answer = el('div', { id: 'answer', 'aria-live': 'polite' }, el('p', { class: 'lead' }, 'Asking the program '
+    + '..'));
+  judgedStages(work, market, student).then(it => answerNodes(market, student, it))
+    .then(nodes => answer.replaceChildren(...nodes.filter(Boolean)));
   return [
     el('h2', { tabindex: '-1' }, shown, shown === name ? '' : el('span', { class: 'quiet' }, ` ${name}`)),
     answer,

@@ -108,3 +108,12 @@ interface Spelling {
   meant(kind: string, typed: string): string[];
   count: number;
 }
+
+/** What the form is made of: the files that were given, as far as they play a part in it. */
+interface RatingFiles {
+  file?: GivenFile;
+  catalogue: Section[];
+  roll: Student[];
+  sessions: GivenFile[];
+  spelling: Spelling;
+}

@@ -32,8 +32,8 @@ export const showFailure = fault => showVerdict('wrong', 'The page failed', p(St
  */
 export function showChanged(changes) {
   $('changed').hidden = false;
-  $('changed').append(...changes.map(it => p(it)), p('Nothing was run. Take the page anew from whoever gave it to you, and '
-    + 'tell them these words.'));
+  $('changed').append(...changes.map(it => p(it)), p('Nothing was run. Take the page anew from whoever gave it to you, '
+    + 'and tell them these words.'));
 }
 
 /** Tells that a folder was dropped that the browser does not open. */
@@ -109,10 +109,10 @@ export function showFound(finding, parts) {
     p('Do not trust it as it stands: ask the school about the line that is named.'));
 }
 
-const KNOWN = 'The program says that the form of the text is right, and each budget the one that the roll, the settings and '
-  + 'the draw give. The page itself reads that bundles keep budgets, caps and timetables, that seats suffice at any time, '
-  + 'that turns are the due ones, and that what is held in the end follows. Whether the bundles of others are their best, '
-  + 'nobody can tell without their lines.';
+const KNOWN = 'The program says that the form of the text is right, and each budget the one that the roll, the '
+  + 'settings and the draw give. The page itself reads that bundles keep budgets, caps and timetables, that seats '
+  + 'suffice at any time, that turns are the due ones, and that what is held in the end follows. Whether the bundles '
+  + 'of others are their best, nobody can tell without their lines.';
 
 /**
  * Tells what of a text holds as far as one student can know it.

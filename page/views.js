@@ -65,8 +65,8 @@ export function drawReaders(market, words) {
   if (only && $('student-answer').dataset.name !== only.name) drawStudent(only);
 }
 
-const ALL_SESSIONS = 'The whole text is checked with all sessions, which say what everybody wished. What one student can '
-  + 'know of it with its own lines alone stands under “One student”.';
+const ALL_SESSIONS = 'The whole text is checked with all sessions, which say what everybody wished. What one student '
+  + 'can know of it with its own lines alone stands under “One student”.';
 
 /**
  * The students who can be looked at: all of the roll, or those whose own lines are there.

@@ -2,19 +2,24 @@
 
 import { drawingOf } from './drawing.js';
 import { el, opening, p } from './elements.js';
-import { explainedIn, unjudgedWords, unratedIn } from './one_student.js';
+import { explainedIn, explanationOf, unjudgedWords, unratedIn } from './one_student.js';
 import { callOf } from './program.js';
 import { menuOf, walkOf } from './reckoning.js';
-import { grouped, longReason, section, sections, shortReason, stageName, studentName } from './stage_words.js';
+import { turnOrder } from './seats_and_turns.js';
+import { grouped, longReason, section, shortReason, stagesName, studentName } from './stage_words.js';
 import { plural } from './wording.js';
 import { answerWords } from './words.js';
 import { work } from './work.js';
-import { explanationOf } from './one_student.js';
 
 /**
- * What was answered about a section: for each group of stages with the same answer, the first of them, how many they
- * are, and what `explain` said; `free` has the seats that were free at each turn.
+ * The answer about a section in a stage, and in all that follow it up to `last` with the same bundle and the same
+ * seats: what `explain` said, or why it said nothing, in words.
  * @typedef {{ stage: Stage, last: Stage, told?: Explanation, failed?: string }} Reply
+ */
+
+/**
+ * A line that asks about a section. `ask` has it filled once, also where it is not opened.
+ * @typedef {{ node: HTMLElement, ask: () => Promise<void> }} Question
  */
 
 /**
@@ -23,10 +28,48 @@ import { explanationOf } from './one_student.js';
  * @param {Market} market @param {number} student
  */
 export function missedSections(market, student) {
-  const end = market.text.finals[student], { places } = menuOf(market, student), held = places.filter(it => end.includes(it.name));
-  const least = held.length ? Math.min(...held.map(it => it.rating)) : 0;
+  const end = market.text.finals[student], { places } = menuOf(market, student);
+  const least = Math.min(...places.filter(it => end.includes(it.name)).map(it => it.rating)), isHeld = least < Infinity;
   const missed = places.filter(it => !end.includes(it.name)).sort((one, other) => other.rating - one.rating);
-  return { higher: missed.filter(it => it.rating > least), others: missed.filter(it => it.rating <= least) };
+  const isHigher = (/** @type {Place} */ it) => !isHeld || it.rating > least;
+  return { higher: missed.filter(isHigher), others: missed.filter(it => !isHigher(it)) };
+}
+
+/**
+ * The part on all sections that are missed. The lines stand at once; what the program answers is written into them.
+ * @param {Market} market @param {number} student @param {Stage[]} stages
+ */
+export function whyNodes(market, student, stages) {
+  const { higher, others } = missedSections(market, student), name = studentName(market, student);
+  const lines = (/** @type {Place[]} */ of) => {
+    const questions = of.map(it => questionOf(market, student, stages, it.name, false));
+    askAll(questions);
+    return questions.map(it => it.node);
+  };
+  return [
+    p(missedWords(name, market.text.finals[student], higher.length)),
+    ...lines(higher),
+    others.length
+      ? opening(`${plural(others.length, 'section')} that ${name} rated no higher`, () => lines(others)) : null,
+    otherSection(market, student, stages),
+  ].filter(Boolean);
+}
+
+/**
+ * Has questions filled one after another, while they stand on the page.
+ * @param {Question[]} questions
+ */
+async function askAll(questions) {
+  await null;
+  for (const it of questions) if (it.node.isConnected) await it.ask();
+}
+
+/** @param {string} name @param {string[]} end @param {number} higher */
+function missedWords(name, end, higher) {
+  if (!end.length && !higher) return `${name} rated nothing.`;
+  if (!end.length) return `${name} holds nothing in the end. It rated these sections:`;
+  return higher ? `${name} rated these sections higher than one that it holds in the end:`
+    : `${name} rated no other section higher than one that it holds in the end.`;
 }
 
 /**
@@ -36,19 +79,15 @@ export function missedSections(market, student) {
  * @returns {Promise<Reply[]>}
  */
 async function repliesAbout(market, student, stages, name) {
-  /** @type {Reply[]} */
-  const replies = [];
   /** @type {Map<string, Reply>} */
-  const known = new Map();
+  const replies = new Map();
   for (const stage of stages) {
     if (stage.pass && !stage.allowed.has(name)) continue;
-    const key = `${stage.budget} ${stage.names.join()} ${stage.allowed ? [...stage.allowed].join() : 'all'}`, same = known.get(key);
-    if (same) { same.last = stage; continue; }
-    const reply = { stage, last: stage, ...await replyOf(market, student, stage, name) };
-    known.set(key, reply);
-    replies.push(reply);
+    const key = [stage.budget, stage.names.join(), stage.allowed ? [...stage.allowed].join() : ''].join(' ');
+    if (replies.has(key)) replies.get(key).last = stage;
+    else replies.set(key, { stage, last: stage, ...await replyOf(market, student, stage, name) });
   }
-  return replies;
+  return [...replies.values()];
 }
 
 /**
@@ -67,54 +106,9 @@ async function replyOf(market, student, stage, name) {
  */
 async function wholeReply(market, student, stage, name) {
   if (market.isOwn || stage.pass) return { failed: unjudgedWords(stage) };
-  const call = callOf('explain', market.parts, [market.roll[student].name, name]), answer = await work(`Asking about ${name}`, call);
+  const call = callOf('explain', market.parts, [market.roll[student].name, name]);
+  const answer = await work(`Asking about ${name}`, call);
   return answer.status === 0 ? { told: explanationOf(answer.text) } : { failed: answerWords(answer, call).words };
-}
-
-/**
- * The part on all sections that are missed. The lines stand at once; what the program answers is written into them.
- * @param {Market} market @param {number} student @param {Stage[]} stages
- */
-export function whyNodes(market, student, stages) {
-  const { higher, others } = missedSections(market, student), name = studentName(market, student);
-  const end = market.text.finals[student], ask = questionsOf(market, student, stages);
-  const first = higher.map(it => ask.question(it.name));
-  ask.all(first);
-  return [
-    p(missedWords(name, end, higher.length)),
-    ...first.map(it => it.node),
-    others.length ? opening(`${plural(others.length, 'section')} that ${name} rated no higher`, () => {
-      const more = others.map(it => ask.question(it.name));
-      ask.all(more);
-      return more.map(it => it.node);
-    }) : null,
-    otherSection(market, student, ask),
-  ];
-}
-
-/** @param {string} name @param {string[]} end @param {number} higher */
-function missedWords(name, end, higher) {
-  if (!end.length) return higher ? `${name} holds nothing in the end. It rated these sections:` : `${name} rated nothing.`;
-  return higher ? `${name} rated these sections higher than one that it holds in the end:`
-    : `${name} rated no other section higher than one that it holds in the end.`;
-}
-
-/**
- * A section is asked about by its line.
- * @typedef {{ node: HTMLElement, ask: () => Promise<void> }} Question
- */
-
-/** @param {Market} market @param {number} student @param {Stage[]} stages */
-function questionsOf(market, student, stages) {
-  const question = (/** @type {string} */ name, isOpen = false) => questionOf(market, student, stages, name, isOpen);
-  return {
-    question,
-    /**
-     * One after another, while they stand on the page.
-     * @param {Question[]} of
-     */
-    all: async of => { await null; for (const it of of) if (it.node.isConnected) await it.ask(); },
-  };
 }
 
 /**
@@ -122,57 +116,66 @@ function questionsOf(market, student, stages) {
  * @returns {Question}
  */
 function questionOf(market, student, stages, name, isOpen) {
-  const short = el('span', { class: 'short' }), answer = el('div', { class: 'answer', 'aria-live': isOpen ? 'polite' : null });
-  const node = el('details', { class: 'question' }, el('summary', {}, 'Why not ', el('b', {}, section(market, name)), '? ', short), answer);
-  node.open = isOpen;
+  const short = el('span', { class: 'short' }), answer = el('div', { class: 'answer' });
+  const summary = el('summary', {}, 'Why not ', el('b', {}, section(market, name)), '? ', short);
+  const node = el('details', { class: 'question', open: isOpen }, summary, answer);
   /** @type {Promise<void> | null} */
   let asked = null;
   const ask = () => asked ??= fill();
   const fill = async () => {
     short.textContent = '..';
-    const replies = await repliesAbout(market, student, stages, name);
-    short.textContent = shortAnswer(market, student, stages, name, replies);
+    const replies = await repliesAbout(market, student, stages, name), failed = replies.find(it => it.failed);
+    short.textContent = failed ? failed.failed : shortAnswer(market, student, stages, name, replies);
     answer.replaceChildren(...longAnswer(market, student, stages, name, replies));
-    if (replies.some(it => it.failed)) asked = null;
+    if (failed) asked = null;
   };
+  node.fill = () => {};
   node.addEventListener('toggle', () => { if (node.open) ask(); });
   if (isOpen) ask();
   return { node, ask };
 }
 
 /**
+ * Whether a stage's answer is one on which free seats have no bearing.
+ * @param {Reply} reply
+ */
+const isWithoutSeats = ({ told }) => told && ['held', 'unrated'].includes(told.reason);
+
+/**
  * @param {Market} market @param {number} student @param {Stage[]} stages @param {string} name @param {Reply[]} replies
  */
 function shortAnswer(market, student, stages, name, replies) {
-  const [second, later] = replies, turns = stages.filter(it => it.pass);
-  const of = (/** @type {Reply} */ it) => it.failed ?? shortReason(market, student, it.stage, name, it.told);
-  if (second.told && ['held', 'unrated'].includes(second.told.reason)) return `${of(second)}.`;
-  if (!turns.length) return `${of(second)}.`;
-  if (!later) return `${of(second)}; no seat was free later.`;
-  return of(later) === of(second) ? `${of(second)}; free later, and the same holds.` : `${of(second)}; free later: ${of(later)}.`;
+  const [first, later] = replies.map(it => shortReason(market, student, it.stage, name, it.told));
+  if (isWithoutSeats(replies[0]) || stages.length < 2) return `${first}.`;
+  if (!later) return `${first}; no seat was free later.`;
+  return later === first ? `${first}; free later, and the same holds.` : `${first}; free later: ${later}.`;
 }
 
 /**
  * @param {Market} market @param {number} student @param {Stage[]} stages @param {string} name @param {Reply[]} replies
  */
 function longAnswer(market, student, stages, name, replies) {
-  const [second, ...later] = replies, isDone = second.told && ['held', 'unrated'].includes(second.told.reason);
-  return [
-    ...replyNodes(market, student, second, name),
-    ...isDone && !later.length ? [] : freeNodes(market, student, stages, name),
-    ...later.flatMap(it => replyNodes(market, student, it, name)),
-  ];
+  const [first, ...later] = replies.map(it => replyNodes(market, student, it, name));
+  const free = isWithoutSeats(replies[0]) && !later.length ? [] : freeNodes(market, student, stages, name);
+  return [...first, ...free, ...later.flat()];
 }
 
 /** @param {Market} market @param {number} student @param {Reply} reply @param {string} name */
 function replyNodes(market, student, { stage, last, told, failed }, name) {
-  const title = el('b', {}, stage === last ? `${stageName(stage)}. ` : `Aftermarket, passes ${stage.pass} to ${last.pass}. `);
+  const title = el('b', {}, `${stagesName(stage, last)}. `);
   if (failed) return [p(title, failed)];
   const [why, ...more] = longReason(market, student, stage, name, told);
-  const champion = told.best, isDrawn = told.tree && !unratedIn(market, student, champion).length;
-  return [p(title, why), ...more.map(it => p(it)), isDrawn ? opening(`The tree that proves that no bundle with ${section(market, name)} was better`,
-    () => drawingOf(walkOf(market, student, { budget: stage.budget, allowed: stage.allowed, champion, forced: name }), told.tree)) : null]
-    .filter(Boolean);
+  return [p(title, why), ...more.map(it => p(it)), ...told.tree ? [treeNode(market, student, stage, name, told)] : []];
+}
+
+/**
+ * @param {Market} market @param {number} student @param {Stage} stage @param {string} name @param {Explanation} told
+ */
+function treeNode(market, student, { budget, allowed }, name, { best, tree }) {
+  if (unratedIn(market, student, best).length) return '';
+  const walk = walkOf(market, student, { budget, allowed, champion: best, forced: name });
+  const title = `The tree that proves that no bundle with ${section(market, name)} was better`;
+  return opening(title, () => drawingOf(walk, tree));
 }
 
 /**
@@ -180,43 +183,51 @@ function replyNodes(market, student, { stage, last, told, failed }, name) {
  * @param {Market} market @param {number} student @param {Stage[]} stages @param {string} name
  */
 function freeNodes(market, student, stages, name) {
-  const { seats } = market.sectionOf.get(name), who = studentName(market, student), count = (/** @type {number} */ it) => it > 0 ? it : 'none';
-  /** @type {{ first: number, last: number, free: number }[]} */
-  const runs = [];
-  for (const { pass, free } of stages.filter(it => it.pass)) {
-    if (runs.at(-1)?.free === free.get(name)) runs.at(-1).last = pass;
-    else runs.push({ first: pass, last: pass, free: free.get(name) });
-  }
-  const passes = (/** @type {any} */ it) => it.first === it.last ? `pass ${it.first}` : `passes ${it.first} to ${it.last}`;
-  const after = seats - market.counts.get(name), isFree = runs.some(it => it.free > 0);
-  const rank = turnNumber(market, student);
-  return [p(el('b', {}, 'Free seats'), ` of ${section(market, name)}, of ${seats} in all:`), el('ul', {},
-    el('li', {}, `at the end of the second stage: ${count(after)}`),
-    runs.map(it => el('li', {}, `in the aftermarket, at the turn of ${who} in ${passes(it)}: ${count(it.free)}`)),
-    el('li', {}, `in the end: ${count(seats - market.endCounts.get(name))}`)),
-  isFree || !runs.length ? null : p(`In each pass turns go by budget, the greatest first, and the turn of ${who} is number ${rank} of `
-    + `${market.roll.length}.${after ? ' Others had taken the free seats before it.' : ''}`)].filter(Boolean);
+  const { seats } = market.sectionOf.get(name), who = studentName(market, student);
+  const count = (/** @type {number} */ it) => it > 0 ? it : 'none', after = seats - market.counts.get(name);
+  const runs = freeRuns(stages, name), isTaken = runs.length && !runs.some(it => it.free > 0);
+  return [
+    p(el('b', {}, 'Free seats'), ` of ${section(market, name)}, of ${seats} in all:`),
+    el('ul', {},
+      el('li', {}, `at the end of the second stage: ${count(after)}`),
+      runs.map(it => el('li', {}, `${stagesName(it.first, it.last).toLowerCase()}, at the turn of ${who}: `
+        + `${count(it.free)}`)),
+      el('li', {}, `in the end: ${count(seats - market.endCounts.get(name))}`)),
+    isTaken ? p(turnWords(market, student, after > 0)) : '',
+  ];
+}
+
+/** @param {Market} market @param {number} student @param {boolean} wasFree */
+function turnWords(market, student, wasFree) {
+  const number = turnOrder(market.text.budgets).indexOf(student) + 1;
+  return `In each pass turns go by budget, the greatest first, and the turn of ${studentName(market, student)} is `
+    + `number ${number} of ${market.roll.length}.${wasFree ? ' Others had taken the free seats before it.' : ''}`;
 }
 
 /**
- * Which turn of a pass is a student's, from 1.
- * @param {Market} market @param {number} student
+ * How many seats were free at the turns, those with equally many that follow each other as one.
+ * @param {Stage[]} stages @param {string} name
  */
-const turnNumber = (market, student) => market.text.budgets.filter((it, at) =>
-  it > market.text.budgets[student] || it === market.text.budgets[student] && at <= student).length;
+function freeRuns(stages, name) {
+  /** @type {{ first: Stage, last: Stage, free: number }[]} */
+  const runs = [];
+  for (const it of stages.filter(stage => stage.pass)) {
+    const free = it.free.get(name), before = runs.at(-1);
+    if (before?.free === free) before.last = it;
+    else runs.push({ first: it, last: it, free });
+  }
+  return runs;
+}
 
-/** @param {Market} market @param {number} student @param {any} ask */
-function otherSection(market, student, ask) {
-  const to = el('div', { 'aria-live': 'polite' }), id = 'other-section';
-  const onchange = (/** @type {any} */ event) => to.replaceChildren(ask.question(event.target.value, true).node);
-  const choice = el('select', { id, onchange }, el('option', { value: '', disabled: true, selected: true }, 'choose a section'),
-    market.catalogue.filter(it => !market.text.finals[student].includes(it.name))
-      .map(it => el('option', { value: it.name }, `${section(market, it.name)} (price ${grouped(market.text.prices[it.at])})`)));
+/** @param {Market} market @param {number} student @param {Stage[]} stages */
+function otherSection(market, student, stages) {
+  const to = el('div', { 'aria-live': 'polite' }), id = 'other-section', end = market.text.finals[student];
+  const onchange = (/** @type {any} */ event) =>
+    to.replaceChildren(questionOf(market, student, stages, event.target.value, true).node);
+  const option = (/** @type {Section} */ { name, at }) =>
+    el('option', { value: name }, `${section(market, name)} (price ${grouped(market.text.prices[at])})`);
+  const choice = el('select', { id, onchange }, el('option', { value: '', disabled: true, selected: true }, 'choose a '
+    + 'section'),
+    market.catalogue.filter(it => !end.includes(it.name)).map(option));
   return el('div', {}, el('p', { class: 'ask' }, el('label', { for: id }, 'Ask about another section: '), choice), to);
 }
-
-/**
- * The tie lines of the first answer.
- * @param {Market} market @param {string[]} names
- */
-export const tieWords = (market, names) => `With ${sections(market, names)} a bundle was worth as much: a tie.`;

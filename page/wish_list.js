@@ -98,6 +98,20 @@ export function sessionFile(list, catalogue) {
 }
 
 /**
+ * A list without the sections that a catalogue does not have.
+ * @param {WishList} list
+ * @param {Section[]} catalogue
+ * @returns {WishList}
+ */
+export function keptIn({ name, ratings, pairs }, catalogue) {
+  const known = new Set(catalogue.map(it => it.name));
+  return {
+    name, ratings: new Map([...ratings].filter(([it]) => known.has(it))),
+    pairs: new Map([...pairs].filter(([it]) => it.split(' ').every(that => known.has(that)))),
+  };
+}
+
+/**
  * What to know of a list before it is saved, in words: sections that cannot be taken together, each pair once; and what
  * alone passes a cap.
  * @param {WishList} list

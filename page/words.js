@@ -242,8 +242,8 @@ const NOT_TRUSTED = 'Do not trust it as it stands: compare the line that is name
   + 'as the school published them, ask the school about that line.';
 
 /** What whoever has its own lines alone does. */
-const OWN_CHECK = 'Whoever has its own lines alone gives these and no other session: then the page answers for that student '
-  + '(GUIDE, “How a student checks its own bundles”).';
+const OWN_CHECK = 'Whoever has its own lines alone gives these and no other session: then the page answers for that '
+  + 'student (GUIDE, “How a student checks its own bundles”).';
 const OTHER_SESSIONS = 'Give the sessions of this text, all of them and no others. If these are they, as the school '
   + `published them, do not trust the text. ${OWN_CHECK}`;
 

@@ -89,8 +89,11 @@ class Own(unittest.TestCase):
         cells = self.tab.evaluate("[...document.querySelectorAll('.week tr')].map(it => [...it.children].map(that => that.textContent).join('|'))")
         self.assertEqual(["|Mon|Tue|Wed|Thu|Fri", "09:00–12:00|||||MGMT-691-B second half", "10:30–12:00|FNCE-601-A|ACCT-611-B|FNCE-601-A|ACCT-611-B|"], cells)
         self.tab.evaluate("document.querySelector('.basis').open = true; new Promise(done => setTimeout(done, 50))")
-        for words in ("The program says:", "each budget is the one that the roll", "The page reads and reckons by itself", "Not known here: what others said"):
+        for words in ("The program says:", "each budget is the one that the roll", "The page reads and reckons by itself", "Nobody can say here:what others said"):
             self.assertIn(words, self.words(".basis"))
+        own = [f"{at}: {it}" for at, it in enumerate((TERM / "published.txt").read_text().splitlines(), 1) if it.startswith(("bundle n.jones", "turn 2 n.jones"))]
+        for line in own:
+            self.assertIn(line, self.words(".basis"))
         self.assertIn("with all sessions", self.words("#auditor"))
 
     def test_stages_and_questions_are_one_line_each_that_unfolds(self) -> None:
@@ -111,7 +114,7 @@ class Own(unittest.TestCase):
         for words in ("The price of FNCE-717-A is 3,252. n.jones bought ACCT-611-B, FNCE-601-A and HCMG-841-A, whose prices together are 3,914. "
                       "Of its budget of 4,542 that leaves 628, too little for FNCE-717-A besides.",
                       "ACCT-611-B and FNCE-717-A (prices together 4,103), worth 188 by the ratings of n.jones. What n.jones bought is worth 260, 72 more.",
-                      "at the end of the second stage: 8", "at the turn of n.jones in passes 1 to 5: none", "is number 100 of 100"):
+                      "at the end of the second stage: 8", "aftermarket, passes 1 to 5, at the turn of n.jones: none", "is number 100 of 100"):
             self.assertIn(words, told)
         self.click("Why not LGST-806-A")
         told = self.tab.evaluate("[...document.querySelectorAll('.question')].find(it => it.open && it.textContent.includes('LGST-806-A')).textContent")
@@ -127,7 +130,7 @@ class Own(unittest.TestCase):
             self.assertIn(words, told)
         self.give({"n.jones.session": own_lines() + b"rate n.jones HCMG-841-A 0\n"})
         self.tab.wait("$('answer')?.textContent.includes('a section is not rated')")
-        self.assertIn("Its signs cannot be drawn: HCMG-841-A", self.tab.evaluate(
+        self.assertIn("Its signs cannot be drawn, since not rated above 0: HCMG-841-A", self.tab.evaluate(
             "document.querySelectorAll('#student-answer details').forEach(it => it.open = true); new Promise(done => setTimeout(() => done($('student-answer').textContent), 100))"))
 
     def test_signs_that_were_changed_prove_nothing_of_the_best_bundle(self) -> None:
@@ -187,7 +190,7 @@ class Own(unittest.TestCase):
         told = "document.querySelector('form.signs + .answer').textContent"
         self.fill("signs", "bundle n.jones [ACCT-611-B,FNCE-601-A,HCMG-841-A] ++--------+*nb5b1")
         self.tab.evaluate(explain)
-        for words in ("in second stage, with the budget 4542", "Place 0, ACCT-611-B, may be taken", "= 260.508", "All signs fit"):
+        for words in ("in the second stage, with the budget 4542", "Place 0, ACCT-611-B, may be taken", "= 260.508", "All signs fit"):
             self.assertIn(words, self.tab.evaluate(told))
         self.assertEqual(["+", "+", "--------", "+", "*", "n", "b5", "b1"],
                          self.tab.evaluate("[...document.querySelectorAll('.steps .sign')].map(it => it.textContent)"))
