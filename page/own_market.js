@@ -53,6 +53,9 @@ export function ownLines(files, roll) {
   return { said, notes };
 }
 
+const TAKEN_AS_OWN = 'The text takes other sessions than these. Each of them names one student alone, so they are '
+  + 'taken for the own lines of these students.';
+
 /**
  * The market of whoever has its own lines alone; or the answer by which a file or the text is refused. A finding of the
  * page's own reading comes as `finding`.
@@ -73,6 +76,7 @@ export async function ownMarketOf(ask, parts, lines, spelling) {
   const finding = findingWithoutRatings({ text, catalogue, roll, settings });
   if (finding) return { finding };
   const { said, notes } = ownLines(lines, roll);
+  if (lines.some(it => it.kind === 'session')) notes.unshift(TAKEN_AS_OWN);
   const heard = { ...parts, sessions: [sessionOfAll(said)] };
   const wished = said.size ? callOf('prefer', heard) : null;
   const preferred = wished && await ask('Reading what was wished', wished);

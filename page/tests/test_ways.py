@@ -284,16 +284,14 @@ class Ways(unittest.TestCase):
                 self.give(names, changed)
                 told = self.verdict("The text and these sessions do not fit together")
                 self.assertIn(words, told)
-                self.assertIn("verify/verify.py --own", told)
+                self.assertIn("its own lines alone gives these and no other session", told)
                 self.click("Remove all files")
                 self.tab.wait("!list.files.length && !$('verdict').textContent")
 
-    def test_lines_of_one_student_are_no_session(self) -> None:
+    def test_lines_of_one_student_give_way_to_all_sessions(self) -> None:
         own = b"# What n.jones said, in the order in which the desk took it.\nrate n.jones FNCE-601-A 100\n"
         self.give([*FILES[:4], "n.jones.session"], {"n.jones.session": own})
-        told = self.verdict("Not all files are there yet")
-        self.assertIn("n.jones.session has the lines of one student alone, and the page needs all sessions.", told)
-        self.assertIn("verify/verify.py --own", told)
+        self.assertIn("with the lines of n.jones alone", self.verdict("What you can know holds"))
         self.give(FILES[4:])
         self.verdict("This text holds")
 
@@ -342,17 +340,21 @@ class Ways(unittest.TestCase):
         )
         self.verdict("This text holds")
         self.show("n.jones")
+        self.open_all("#student-answer")
+        self.tab.wait("!isWorking()")
         told = self.words("#student-answer")
         for words in (
-            "n.jones holds ACCT-611-B, FNCE-601-A and MGMT-691-B in the end",
-            "4542 tokens: 4500 by the roll, and 42 by the draw",
-            "The price of FNCE-717-A is 3252. n.jones bought ACCT-611-B, FNCE-601-A and HCMG-841-A, whose prices "
-            "together are 3914. "
-            "Of its budget of 4542 that leaves 628, too little for FNCE-717-A besides.",
-            "ACCT-611-B and FNCE-717-A (prices together 4103), worth 188 by the ratings of n.jones",
+            "Yes: at these prices nothing better was to be had for 4,542 tokens.",
+            "of the whole text, with all sessions: it holds;",
+            "In the end n.jones holds ACCT-611-B, FNCE-601-A and MGMT-691-B.",
+            "4,542 tokens: 4,500 by the roll, and 42 by the draw",
+            "The price of FNCE-717-A is 3,252. n.jones bought ACCT-611-B, FNCE-601-A and HCMG-841-A, whose prices "
+            "together are 3,914. "
+            "Of its budget of 4,542 that leaves 628, too little for FNCE-717-A besides.",
+            "ACCT-611-B and FNCE-717-A (prices together 4,103), worth 188 by the ratings of n.jones",
             "worth 260, 72 more",
             "at the end of the second stage: 8",
-            "in the aftermarket, at the turn of n.jones in passes 1 to 5: none",
+            "aftermarket, passes 1 to 5, at the turn of n.jones: none",
             "in the end: none",
             "the turn of n.jones is number 100 of 100. Others had taken the free seats before it.",
             "s.adler, whose budget is 5018",
@@ -672,7 +674,7 @@ class Ways(unittest.TestCase):
         self.verdict("This text holds")
         self.show("N" * 32)
         self.tab.evaluate("$('files').open = true")
-        for view in ("One student", "Whole text", "Run a market"):
+        for view in ("One student", "Rate sections", "Whole text", "Run a market"):
             self.click(view)
             self.assertEqual(
                 [360, 360],
@@ -686,7 +688,7 @@ class Ways(unittest.TestCase):
         self.tab.evaluate("$('student-name').focus()")
         self.tab.type("n.jones")
         self.assertEqual("shown below", self.words("#student-said"))
-        self.assertIn("4542 tokens", self.words("#student-answer"))
+        self.assertIn("4,542 tokens", self.words("#student-answer"))
         self.tab.type("x")
         self.assertEqual(
             ["", ""], self.tab.evaluate("[$('student-said').textContent, $('student-answer').textContent]")
@@ -794,7 +796,7 @@ class Ways(unittest.TestCase):
             reached.add(
                 self.tab.evaluate("document.activeElement.id || document.activeElement.textContent.trim().slice(0, 20)")
             )
-        for name in ("to-student", "to-auditor", "to-registrar", "student-name", "The files: 6"):
+        for name in ("to-student", "student-name", "The files: 6"):  # (the other tabs are reached by the keys of the arrows)
             self.assertIn(name, reached)
 
     def test_everything_has_a_name(self) -> None:
@@ -820,7 +822,7 @@ class Ways(unittest.TestCase):
         self.tab.evaluate("$('files').open = true")
         for dark in (False, True):
             self.tab.look(*SIZES["desktop"], dark)
-            for view in ("One student", "Whole text", "Run a market"):
+            for view in ("One student", "Rate sections", "Whole text", "Run a market"):
                 self.click(view)
                 self.assertEqual([], self.tab.evaluate(FAINT), (dark, view))
             self.submit(turns="many")
