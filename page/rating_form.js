@@ -16,8 +16,8 @@ import { listed, plural, shortList } from './wording.js';
 import { answerWords } from './words.js';
 import { work } from './work.js';
 
-const ABOUT_RATING = 'Before the desk closes a student says here what it wants. Nothing is sent: what is saved at the end is '
-  + 'a file, which the student gives to its school.';
+const ABOUT_RATING = 'Before the desk closes a student says here what it wants. Nothing is sent: what is saved at the '
+  + 'end is a file, which the student gives to its school.';
 const SAVING = 'The file says all that you wish, and takes back what you said before. Give it to your school before '
   + 'its desk closes; give it to this page again to go on with it.';
 const NAME_WORDS = 'A name is 1 to 32 letters (A to Z, a to z), digits, dashes, underscores and dots.';
@@ -169,6 +169,7 @@ export class RatingForm {
    */
   changed(isUnsaved) {
     this.isUnsaved ||= isUnsaved;
+    if (isUnsaved) this.tell('');
     this.drawNotes();
     this.drawPairs();
     this.quote();
@@ -192,7 +193,8 @@ export class RatingForm {
   /** Asks the program for the best bundle where each price is 0; while it answers nothing else is asked. */
   async quote() {
     this.asking.isOld = true;
-    if (this.asking.isBusy) return;
+    if (!this.list.ratings.size) this.drawn.best?.replaceChildren(p('Nothing is rated yet.'));
+    if (this.asking.isBusy || !this.list.ratings.size) return;
     this.asking.isBusy = true;
     while (this.asking.isOld && this.given.file && this.drawn.best) {
       this.asking.isOld = false;
@@ -209,7 +211,7 @@ export class RatingForm {
     const to = this.drawn.best;
     if (answer.status !== 0) return to.replaceChildren(p(answerWords(answer, call).words));
     const { names, worth } = quoteOf(answer.text), shown = (/** @type {string} */ it) => this.shown(it);
-    if (!names.length) return to.replaceChildren(p('With what is rated so far the best bundle has no section.'));
+    if (!names.length) return to.replaceChildren(p('With these ratings and caps the best bundle has no section.'));
     const sections = names.map(it => this.given.catalogue.find(that => that.name === it));
     return to.replaceChildren(
       p(el('b', {}, `If each price were 0, your best bundle would be ${listed(names.map(shown))}`),

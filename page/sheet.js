@@ -2,22 +2,32 @@
 
 import { button, el, p } from './elements.js';
 
+const HOW = 'Print this as a sheet: answers that are folded here stand open on it, with the sums of the files and the '
+  + 'date.';
+
+/**
+ * Writes the date onto the sheet that stands on the page, as it is printed.
+ * @type {(() => void) | undefined}
+ */
+let dated;
+
 /**
  * The part that stands on paper alone, and the button that prints.
  * @param {Market} market
  */
 export function sheetNodes(market) {
-  const day = el('span'), sums = el('tbody', {}, market.files.map(it => el('tr', {},
-    el('th', { scope: 'row' }, it.name), el('td', { class: 'sum' }, it.sum ?? 'not computed by this browser'))));
-  const print = () => window.print();
-  const dated = () => {
+  const day = el('span'), sums = market.files.map(it =>
+    el('tr', {}, el('th', { scope: 'row' }, it.name), el('td', { class: 'sum' }, it.sum ?? 'not computed by this '
+      + 'browser')));
+  if (dated) removeEventListener('beforeprint', dated);
+  dated = () => {
     day.textContent = new Date().toLocaleString('en-GB', { dateStyle: 'long', timeStyle: 'short' });
   };
-  dated();
   addEventListener('beforeprint', dated);
+  dated();
   return [
-    p('Print this as a sheet: answers that are folded here stand open on it, with the sums of the files and the date.'),
-    el('p', { class: 'buttons' }, button('Print the sheet', print)),
-    el('div', { class: 'on-paper' }, p('Printed on ', day, ', from these files (SHA-256):'), el('table', {}, sums)),
+    el('div', { class: 'on-screen' }, p(HOW), el('p', { class: 'buttons' }, button('Print the sheet', () => print()))),
+    el('div', { class: 'on-paper' }, p('Printed on ', day, ', from these files (SHA-256):'),
+      el('table', {}, el('tbody', {}, sums))),
   ];
 }

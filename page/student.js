@@ -45,7 +45,7 @@ function stageNodes(market, student, stages) {
     opening([el('b', {}, 'Budget: '), tokens(budget)], () => [
       p(budgetWords(market, student)),
       p(`By the roll at most ${plural(credits, 'credit')} and ${plural(courses, 'section')}.`),
-    ]),
+    ], false, { class: 'paper' }),
     ...quietRuns(market, stages).map(run => stageLine(market, student, run)),
     opening([el('b', {}, 'How it goes: '), 'stages, prices and turns'], () => p(STAGES)),
   ];
@@ -72,7 +72,7 @@ function stageLine(market, student, { stages, change }) {
   const what = first.pass ? change || 'no change' : `bought ${sections(market, first.names)}`;
   return opening([el('b', {}, `${title}: `), what], () => [
     p(bundleWords(market, student, first)), ...stages.map(it => treePart(market, student, it, stages.length > 1)),
-  ]);
+  ], false, { class: 'paper' });
 }
 
 /** @param {Market} market @param {number} student @param {Stage} stage */
@@ -124,6 +124,16 @@ function adjustmentWords(market, student) {
 }
 
 /**
+ * A part that is not printed.
+ * @param {string} title @param {...any} children
+ */
+function onScreen(title, ...children) {
+  const made = part(title, ...children);
+  made.classList.add('on-screen');
+  return made;
+}
+
+/**
  * All of one student: what it holds stands at once, and the answer above it as soon as the program has judged.
  * @param {Market} market @param {number} student
  * @returns {any[]}
@@ -140,8 +150,8 @@ export function studentView(market, student) {
     heldWeek(market, student),
     part('Stage by stage', ...stageNodes(market, student, stages)),
     part('Why not?', ...whyNodes(market, student, stages)),
-    part('What if?', ...whatIfNodes(market, student)),
-    part('What the signs mean', ...signsNodes(market, student, stages)),
+    onScreen('What if?', ...whatIfNodes(market, student)),
+    onScreen('What the signs mean', ...signsNodes(market, student, stages)),
     part('Ratings and prices', ratedTable(market, student), adjustmentWords(market, student)),
     market.isOwn ? null : part('What others have', envyPart(market, () => envyOfOne(market, student), isSmall(market))),
     part('On paper', ...sheetNodes(market)),

@@ -52,6 +52,7 @@ export function showOpen(files, faults, lacks) {
 
 /** @param {GivenFile[]} files @param {string[]} lacks */
 function lacksWords(files, lacks) {
+  const canRate = files.some(it => it.kind === 'catalogue') && !files.some(it => it.kind === 'text');
   const canRun = lacks.every(it => it === NEEDED.text || it === NEEDED.settings);
   const named = (/** @type {GivenFile[]} */ of) => of.map(it => it.name);
   const unknown = files.filter(it => it.kind === 'unknown');
@@ -59,6 +60,7 @@ function lacksWords(files, lacks) {
   const strange = named(unknown.filter(it => !it.isUnread && !savedAs(it.bytes)));
   return [
     p(`Missing: ${listed(lacks)}. ${canRun ? 'With “Run a market” you can make that from the other files.' : ''}`),
+    canRate ? p('“Rate sections” needs nothing more: there a student says what it wants before the desk closes.') : '',
     unread.length ? p(`${listed(unread)} cannot be read: the browser does not open it, or it is longer than any file `
       + `of a `
       + 'market.') : '',

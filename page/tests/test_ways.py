@@ -133,7 +133,7 @@ class Ways(unittest.TestCase):
             ("students.csv", "\ufeffstudent,sections,credits,spent,left", "other"),
             ("hall-students.csv", "\ufeffstudent,sections", "other"),
             ("rosters.csv", "\ufeffsection,student", "other"),
-            ("names.csv", "\ufeffkind,original,name", "other"),
+            ("names.csv", "\ufeffkind,original,name", "names"),
             ("summary.html", "<!DOCTYPE html>", "other"),
             ("students/000113.txt", "000113", "unknown"),
             ("students/000113.session", "# What 000113 said, in the order in which the desk took it.", "own"),
