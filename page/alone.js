@@ -8,6 +8,7 @@
 // the tree is the same.
 
 import { encoded } from './bytes.js';
+import { eachCommand } from './lines.js';
 
 /** The greatest budget that a roll can give to one student alone. */
 export const MOST_BASE = 900000;
@@ -16,7 +17,6 @@ export const MOST_BASE = 900000;
 const LAST_SESSION = 64;
 
 const SETTINGS = encoded('{"seed":0,"spread":0,"accept":0,"turns":0,"tabu":1,"patience":1,"steps":[1],"raise":0}');
-const MARK = [0xef, 0xbb, 0xbf];
 const WITH_MARK = new TextDecoder('utf-8', { ignoreBOM: true });
 
 /**
@@ -26,15 +26,12 @@ const WITH_MARK = new TextDecoder('utf-8', { ignoreBOM: true });
  * @returns {{ bytes: Uint8Array, words: string[] }[]}
  */
 export function commandLines(bytes) {
+  /** @type {{ bytes: Uint8Array, words: string[] }[]} */
   const found = [];
-  const first = MARK.every((it, at) => bytes[at] === it) ? MARK.length : 0;
-  for (let from = first; from < bytes.length;) {
-    const feed = bytes.indexOf(10, from), to = feed < 0 ? bytes.length : feed;
+  eachCommand(bytes, (from, to) => {
     const line = bytes.subarray(from, to);
-    const words = WITH_MARK.decode(line).replace(/\r$/, '').split(/[ \t]+/).filter(Boolean);
-    if (words.length && !words[0].startsWith('#')) found.push({ bytes: line, words });
-    from = to + 1;
-  }
+    found.push({ bytes: line, words: WITH_MARK.decode(line).replace(/\r$/, '').split(/[ \t]+/).filter(Boolean) });
+  });
   return found;
 }
 

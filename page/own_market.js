@@ -2,7 +2,7 @@
 // ratings by the page's own reading, and of each student whose lines were given what it said.
 
 import { blankSessions, commandLines, namedIn, saidIn, sessionOf } from './alone.js';
-import { decoded, hashOf } from './bytes.js';
+import { decoded } from './bytes.js';
 import { callOf } from './program.js';
 import { findingWithoutRatings } from './seats_and_turns.js';
 import { catalogueIn, rollIn } from './tables.js';
@@ -18,12 +18,13 @@ const BEFORE_BUNDLES = /^finding: (?:line|journal|budget)/;
  * sessions, where each names one student and the text does not take so many commands.
  * @param {GivenFile[]} files
  * @param {Parts} parts
+ * @param {{ size: number, isOwn: boolean }[]} sizes of each session
  * @returns {GivenFile[]}
  */
-export function ownFiles(files, { text, sessions }) {
+export function ownFiles(files, { text, sessions }, sizes) {
   if (!sessions.length) return files.filter(it => it.kind === 'own');
-  if (!text || possibleOrders(sessions, orderOf(text.bytes), 1).length) return [];
-  return sessions.every(it => namedIn(it.bytes).names.size === 1) ? sessions : [];
+  if (!text || possibleOrders(sizes.map(it => it.size), orderOf(text.bytes), 1).length) return [];
+  return sizes.every(it => it.isOwn) ? sessions : [];
 }
 
 /**
@@ -62,10 +63,9 @@ const TAKEN_AS_OWN = 'The text takes other sessions than these. Each of them nam
  * @param {import('./one_student.js').Ask} ask
  * @param {Parts} parts without sessions
  * @param {GivenFile[]} lines
- * @param {Spelling} spelling the school's
- * @returns {Promise<{ market?: Market, notes?: string[], refusal?: Checked, finding?: string }>}
+ * @returns {Promise<{ market?: ReadMarket, ms?: number, notes?: string[], refusal?: Checked, finding?: string }>}
  */
-export async function ownMarketOf(ask, parts, lines, spelling) {
+export async function ownMarketOf(ask, parts, lines) {
   const blank = { ...parts, sessions: blankSessions(orderOf(parts.text.bytes)) };
   const call = callOf('check', blank), answer = await ask('Checking form and budgets', call);
   if (answer.status !== 0 && (answer.status !== 8 || BEFORE_BUNDLES.test(answer.text))) {
@@ -82,11 +82,8 @@ export async function ownMarketOf(ask, parts, lines, spelling) {
   const preferred = wished && await ask('Reading what was wished', wished);
   if (preferred && preferred.status !== 0) return { refusal: { answer: preferred, call: wished, parts: heard } };
   if (preferred) notes.push(...repliesWords(repliesOf(preferred.text, heard.sessions)));
-  const files = [parts.catalogue, parts.roll, parts.settings, parts.text, ...lines];
-  for (const it of files) it.sum ??= await hashOf(it.bytes);
-  return { notes, market: {
-    parts: { ...parts, sessions: [] }, isOwn: true, ms: answer.ms,
-    files, catalogue, roll, text, settings, said, spelling,
+  return { notes, ms: answer.ms, market: {
+    isOwn: true, catalogue, roll, text, settings, said,
     wishes: preferred ? preferencesOf(preferred.text) : new Map(),
     sectionOf: new Map(catalogue.map(it => [it.name, it])),
     counts: countsOf(text.bundles.map(it => it.names), catalogue), endCounts: countsOf(text.finals, catalogue),

@@ -2,11 +2,11 @@
 
 import { saidByAll } from './alone.js';
 import { decoded, encoded } from './bytes.js';
-import { checked, marketOf } from './checking.js';
+import { checked, marketOf, ownMarket, stopped } from './checking.js';
 import { $ } from './elements.js';
 import { FileList } from './file_list.js';
 import { SESSIONS, filesDropped, kindOf, loaded, partsOf } from './files.js';
-import { ownFiles, ownMarketOf } from './own_market.js';
+import { ownFiles } from './own_market.js';
 import { RatingForm } from './rating_form.js';
 import { Registrar } from './registrar.js';
 import { spellingIn } from './spelling.js';
@@ -16,7 +16,8 @@ import {
 } from './verdict.js';
 import { drawReaders, listenToViews, recall, remember, show, shownView } from './views.js';
 import { orderOf } from './wishes.js';
-import { isWorking, startProgram, stopWork, work } from './work.js';
+import { refusalOf } from './words.js';
+import { isWorking, read, startProgram, stopWork } from './work.js';
 
 const GIVE = 'First give the published files above. When their text holds, this part shows what it says.';
 const CHECKING = 'The files are being checked. When their text holds, this part shows what it says.';
@@ -69,23 +70,36 @@ async function check() {
   $('registrar').replaceChildren(...view);
   $('rate').replaceChildren(...form.view(list.files, spellingIn(list.files)));
   if (!list.files.length) return false;
-  const own = ownFiles(list.files, parts), missing = own.length ? lacks.filter(it => it !== SESSIONS) : lacks;
+  const sizes = await sizesOf(parts);
+  if (isOld()) return false;
+  if (!sizes) return refuse(stopped(parts), isOld);
+  const own = ownFiles(list.files, parts, sizes), missing = own.length ? lacks.filter(it => it !== SESSIONS) : lacks;
   if (missing.length || faults.length) {
     showOpen(list.files, faults, missing);
     drawReaders(null, GIVE);
     return false;
   }
-  return own.length ? checkOwn(parts, own, isOld) : checkParts(parts, isByManifest, unused, isOld);
+  if (own.length) return checkOwn(parts, own, isOld);
+  return checkParts(parts, isByManifest ? null : sizes.map(it => it.size), unused, isOld);
 }
 
-/** @param {Parts} parts @param {boolean} isByManifest @param {GivenFile[]} unused @param {() => boolean} isOld */
-async function checkParts(parts, isByManifest, unused, isOld) {
-  const answered = await checked(parts, isByManifest);
-  const isRefused = answered.answer.status !== 0;
+/**
+ * How many commands the sessions have, where a text is there that takes them; null where that was stopped.
+ * @param {Parts} parts
+ * @returns {Promise<{ size: number, isOwn: boolean }[] | null>}
+ */
+async function sizesOf({ text, sessions }) {
+  return text && sessions.length ? read('Reading the sessions', 'sizes', sessions.map(it => it.bytes)) : [];
+}
+
+/** @param {Parts} parts @param {number[] | null} sizes @param {GivenFile[]} unused @param {() => boolean} isOld */
+async function checkParts(parts, sizes, unused, isOld) {
+  const answered = await checked(parts, sizes), isRefused = answered.answer.status !== 0;
+  if (isOld()) return false;
   const { market, refusal } = isRefused ? { market: null, refusal: answered }
     : await marketOf(answered, spellingIn(list.files));
   if (isOld()) return false;
-  if (!market) return refuse(refusal);
+  if (!market) return refuse(refusal, isOld);
   closeFiles();
   showAccepted(market, unused);
   drawReaders(market, '');
@@ -97,11 +111,13 @@ async function checkParts(parts, isByManifest, unused, isOld) {
  * @param {Parts} parts @param {GivenFile[]} own @param {() => boolean} isOld
  */
 async function checkOwn(parts, own, isOld) {
-  const { market, notes, refusal, finding } = await ownMarketOf(work, parts, own, spellingIn(list.files));
+  const { market, notes, refusal, finding } = await ownMarket(parts, own, spellingIn(list.files));
   if (isOld()) return false;
-  if (refusal) return refuse(refusal);
+  if (refusal) return refuse(refusal, isOld);
   if (finding) {
-    showFound(finding, parts);
+    const excerpt = await read('Reading the text', 'excerpt', finding, parts);
+    if (isOld()) return false;
+    showFound(finding, excerpt, parts.text.name);
     drawReaders(null, NOTHING);
     return false;
   }
@@ -111,10 +127,15 @@ async function checkOwn(parts, own, isOld) {
   return true;
 }
 
-/** @param {Checked} refusal */
-function refuse(refusal) {
-  const told = showRefused(refusal, () => { $('files').querySelector('summary').focus(); check(); });
-  drawReaders(null, told.finding ? NOTHING : GIVE);
+/** @param {Checked} refusal @param {() => boolean} isOld */
+async function refuse(refusal, isOld) {
+  const isStopped = refusal.answer.status === 'stopped', { parts } = refusal;
+  const words = isStopped ? null : await read('Reading what is refused', 'refusal', refusal);
+  if (isOld()) return false;
+  const again = () => { $('files').querySelector('summary').focus(); check(); };
+  const told = words ?? refusalOf(stopped(parts));
+  showRefused(told, parts.text?.name, words ? null : again);
+  drawReaders(null, told.told.finding ? NOTHING : GIVE);
   return false;
 }
 

@@ -48,6 +48,23 @@ export class Program {
     return { ...answer, text: new TextDecoder('utf-8', { ignoreBOM: true }).decode(answer.out) };
   }
 
+  /**
+   * Has the worker read something; null where that was stopped.
+   * @param {string} reading its name @param {any[]} given what is read
+   * @returns {Promise<any>}
+   */
+  async read(reading, given) {
+    if (!this.worker) this.start();
+    const id = ++this.count;
+    /** @type {any} */
+    const answer = await new Promise(done => {
+      this.waiting.set(id, done);
+      this.worker.postMessage({ id, reading, given, limit: this.limit });
+    });
+    if (answer.fault) throw new Error(answer.fault);
+    return answer.status === 'stopped' ? null : answer.value;
+  }
+
   /** @param {'stopped' | 'fault'} status @param {string} [fault] */
   end(status, fault) {
     this.worker?.terminate();

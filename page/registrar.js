@@ -7,11 +7,9 @@ import { partsOf } from './files.js';
 import { tableOf } from './grid.js';
 import { callOf } from './program.js';
 import { NAMES, RANGES, settingsFile, settingsIn, settingsNotes, usual, wrongField } from './settings.js';
-import { catalogueIn, rollIn } from './tables.js';
-import { commandsOf, preferencesOf, repliesOf } from './wishes.js';
 import { listed, plural, quoted, shortList, timed } from './wording.js';
 import { answerWords } from './words.js';
-import { work } from './work.js';
+import { read, work } from './work.js';
 
 /**
  * What each setting does.
@@ -234,24 +232,7 @@ function settingsFields(values) {
 const formValues = form => Object.fromEntries(NAMES.map(name =>
   [name, /** @type {HTMLInputElement} */ (form.elements.namedItem(name)).value.trim()]));
 
-/**
- * What the desk replies to the wishes, and what they come to.
- * @param {string} answer @param {Parts} parts
- */
-function lookOf(answer, parts) {
-  const wishes = preferencesOf(answer);
-  const has = (/** @type {string} */ name) => [...wishes.get(name)?.ratings.values() ?? []].some(it => it > 0);
-  const wanted = new Set([...wishes.values()].flatMap(it => [...it.ratings.keys()]));
-  return {
-    replies: repliesOf(answer, parts.sessions),
-    all: parts.sessions.reduce((sum, it) => sum + commandsOf(it.bytes).length, 0),
-    silent: rollIn(parts).map(it => it.name).filter(it => !has(it)),
-    unwanted: catalogueIn(parts).map(it => it.name).filter(it => !wanted.has(it)),
-    several: inSeveral(parts.sessions),
-  };
-}
-
-/** @param {ReturnType<typeof lookOf>} look */
+/** @param {Look} look */
 function lookPart({ replies, all, silent, unwanted, several }) {
   const lines = [
     `The desk carried out ${all - replies.length} of ${all} commands.`,
@@ -274,20 +255,6 @@ function lookPart({ replies, all, silent, unwanted, several }) {
 }
 
 /**
- * The students that more than one session names.
- * @param {GivenFile[]} sessions @returns {string[]}
- */
-function inSeveral(sessions) {
-  const seen = new Map();
-  sessions.forEach((session, at) => commandsOf(session.bytes).forEach(({ line }) => {
-    const [word, student] = line.trim().split(/[ \t]+/);
-    if (!['rate', 'pair', 'clear'].includes(word) || !student) return;
-    seen.set(student, (seen.get(student) ?? new Set()).add(at));
-  }));
-  return [...seen].filter(([, at]) => at.size > 1).map(([name]) => name);
-}
-
-/**
  * What is to be known of the wishes before a text is published; nothing where the desk carried out all and each student
  * wants something.
  * @param {Parts} parts
@@ -295,7 +262,9 @@ function inSeveral(sessions) {
 async function wishesWarning(parts) {
   const answer = await work('Reading what the students want', callOf('prefer', parts));
   if (answer.status !== 0) return '';
-  const { all, replies, silent } = lookOf(answer.text, parts);
+  const look = await read('Reading what the desk replies', 'look', answer.text, parts);
+  if (!look) return '';
+  const { all, replies, silent } = look;
   const told = [
     replies.length ? `the desk did not carry out ${replies.length} of ${all} commands` : '',
     silent.length ? `${plural(silent.length, 'student wants', 'students want')} nothing` : '',
@@ -307,7 +276,9 @@ async function wishesWarning(parts) {
 async function lookAtWishes(parts, to) {
   const call = callOf('prefer', parts), answer = await work('Reading what the students want', call);
   if (answer.status === 0) {
-    return to.replaceChildren(el('h3', {}, 'What the desk replies'), ...lookPart(lookOf(answer.text, parts)));
+    const look = await read('Reading what the desk replies', 'look', answer.text, parts);
+    if (look) to.replaceChildren(el('h3', {}, 'What the desk replies'), ...lookPart(look));
+    return;
   }
   const told = answerWords(answer, call);
   to.replaceChildren(el('h3', {}, told.title), p(told.words), told.help ? p(told.help) : '');

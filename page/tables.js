@@ -3,34 +3,78 @@
 import { decoded } from './bytes.js';
 
 /**
- * The records of a text of comma-separated fields, as the program reads them (FORMATS, "The catalogue").
+ * The records of a text of comma-separated fields, as the program reads them (FORMATS, "The catalogue"), one after the
+ * other.
  * @param {string} text
- * @returns {string[][]}
+ * @returns {Generator<string[], void>}
  */
-export function records(text) {
-  /** @type {string[][]} */
-  const rows = [];
+export function* eachRecord(text) {
   /** @type {string[]} */
   let row = [];
-  let field = '', isQuoted = false, isBegun = false;
-  const endField = () => { row.push(field); [field, isBegun] = ['', false]; };
-  const endRow = () => {
-    if (row.length || isBegun) { endField(); rows.push(row); }
+  for (let at = 0; at < text.length;) {
+    if (!row.length && isLineEnd(text, at)) { at++; continue; }
+    const { field, end } = text[at] === '"' ? quotedField(text, at) : plainField(text, at);
+    row.push(field);
+    at = end + 1;
+    if (text[end] === ',') {
+      if (at < text.length) continue;
+      row.push('');
+    }
+    yield row;
     row = [];
-  };
-  for (let at = 0; at < text.length; at++) {
-    const sign = text[at];
-    if (isQuoted) {
-      if (sign !== '"') field += sign;
-      else if (text[at + 1] === '"') { field += '"'; at++; }
-      else isQuoted = false;
-    } else if (sign === '"' && !field) isQuoted = isBegun = true;
-    else if (sign === ',') { endField(); isBegun = true; }
-    else if (sign === '\n' || sign === '\r') endRow();
-    else { field += sign; isBegun = true; }
   }
-  endRow();
-  return rows;
+}
+
+const COMMA = 44, QUOTE = 34;
+
+/** @param {string} text @param {number} at */
+function isLineEnd(text, at) {
+  const sign = text.charCodeAt(at);
+  return sign === 10 || sign === 13;
+}
+
+/**
+ * A field that does not begin with a quote, and where it ends.
+ * @param {string} text @param {number} at
+ */
+function plainField(text, at) {
+  let end = at;
+  while (end < text.length && text.charCodeAt(end) !== COMMA && !isLineEnd(text, end)) end++;
+  return { field: text.slice(at, end), end };
+}
+
+/**
+ * A field that begins with a quote, and where it ends: what stands behind its last quote is of it too. One whose quote is
+ * not closed ends with the text.
+ * @param {string} text @param {number} at
+ */
+function quotedField(text, at) {
+  let quote = at + 1;
+  for (; quote < text.length; quote++) {
+    if (text.charCodeAt(quote) !== QUOTE) continue;
+    if (text.charCodeAt(quote + 1) !== QUOTE) break;
+    quote++;
+  }
+  const field = text.slice(at + 1, quote).replace(/""/g, '"');
+  const rest = plainField(text, quote + 1);
+  return { field: field + rest.field, end: Math.min(rest.end, text.length) };
+}
+
+/**
+ * All records of a text.
+ * @param {string} text
+ */
+export const records = text => [...eachRecord(text)];
+
+/**
+ * One record of a text, by its row, the first being 1; none where the text has no such row.
+ * @param {string} text @param {number} row
+ * @returns {string[]}
+ */
+export function recordAt(text, row) {
+  let number = 0;
+  for (const it of eachRecord(text)) if (++number === row) return it;
+  return [];
 }
 
 /** @type {Record<string, string>} */

@@ -19,11 +19,11 @@ export function linesOf(students, sections, turns) {
 
 /**
  * How many lines are turns, from the given one on.
- * @param {string[]} lines @param {number} from
+ * @param {(number: number) => string | undefined} lineAt a line by its number, from 1 @param {number} from
  */
-export function turnCount(lines, from) {
+export function turnCount(lineAt, from) {
   let count = 0;
-  while (lines[from - 1 + count]?.startsWith('turn ')) count++;
+  while (lineAt(from + count)?.startsWith('turn ')) count++;
   return count;
 }
 
@@ -34,7 +34,7 @@ export function turnCount(lines, from) {
  */
 export function publishedOf(text, catalogue, roll) {
   const lines = text.split('\n'), [students, sections] = [roll.length, catalogue.length];
-  const turns = turnCount(lines, linesOf(students, sections, 0).turns), at = linesOf(students, sections, turns);
+  const turns = turnCount(it => lines[it - 1], linesOf(students, sections, 0).turns), at = linesOf(students, sections, turns);
   const words = (/** @type {number} */ from, /** @type {number} */ count) =>
     lines.slice(from - 1, from - 1 + count).map(it => it.split(' '));
   const numbers = (/** @type {number} */ from, /** @type {number} */ count) =>

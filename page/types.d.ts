@@ -115,6 +115,14 @@ interface Wishes {
   pairs: [string, string, number][];
 }
 
+/** What the desk did not carry out, and why; `row` is the line of the file. */
+interface Reply {
+  file: string;
+  row: number;
+  reply: string;
+  command: string;
+}
+
 /** What the views need of the settings. */
 interface Settings {
   spread: number;
@@ -190,6 +198,34 @@ interface Told {
   help?: string;
   finding?: string;
 }
+
+/** Where a finding stands: a line, and in it, from 1, the column of the sign that it names, if it names one. */
+interface Excerpt {
+  line: number;
+  column: number | null;
+  before: string;
+  marked: string;
+  behind: string;
+}
+
+/** What is told of a text that was refused, where it stands, and why it may be so. */
+interface Refusal {
+  told: Told;
+  excerpt: Excerpt | null;
+  causes: string[];
+}
+
+/** What the desk replies to the wishes, and what they come to. */
+interface Look {
+  replies: Reply[];
+  all: number;
+  silent: string[];
+  unwanted: string[];
+  several: string[];
+}
+
+/** A market as the worker reads it: without the files, and what the school calls its names. */
+type ReadMarket = Omit<Market, 'parts' | 'files' | 'spelling' | 'ms'>;
 
 /** A place of a student's menu: a section that it rated above 0. */
 interface Place {

@@ -3,7 +3,7 @@
 import { $, button, code, el, p } from './elements.js';
 import { NEEDED, savedAs } from './files.js';
 import { listed, plural, shortList, timed } from './wording.js';
-import { OTHER_ORDERS, answerWords, causesOf, findingWords, placeOf } from './words.js';
+import { findingWords } from './words.js';
 
 /**
  * Shows a verdict.
@@ -72,42 +72,36 @@ function lacksWords(files, lacks) {
 
 /**
  * Tells why a text was refused.
- * @param {Checked} checked @param {() => void} again checks once more
+ * @param {Refusal} refusal @param {string} file the text's name
+ * @param {(() => void) | null} again checks once more what was stopped
  */
-export function showRefused({ answer, call, parts, isCut }, again) {
-  const told = answerWords(answer, call);
-  if (isCut && told.finding && !/^line/.test(told.finding)) {
-    Object.assign(told, { title: 'This text was not found to hold', help: OTHER_ORDERS });
-  }
+export function showRefused({ told, excerpt, causes }, file, again) {
   showVerdict('wrong', told.title, p(told.words),
-    told.finding ? [findingPart(told.finding, parts), causesOf(told.finding, parts).map(it => p(it))] : '',
-    told.help ? p(told.help) : '', answer.status === 'stopped' ? button('Check again', again) : '');
-  return told;
+    told.finding ? [findingPart(told.finding, excerpt, file), causes.map(it => p(it))] : '',
+    told.help ? p(told.help) : '', again ? button('Check again', again) : '');
 }
 
 /**
  * Where a finding stands in the text: its line, with the symbol of the tree, or the entry of the order, marked.
- * @param {string} finding @param {Parts} parts @param {string} [by] who found it
+ * @param {string} finding @param {Excerpt | null} excerpt @param {string} file the text's name
+ * @param {string} [by] who found it
  */
-function findingPart(finding, parts, by = 'the program\'s words') {
-  const { line, text, start } = placeOf(finding, parts);
-  if (!line) return p(code(finding));
-  const from = Math.max(0, Math.min(start - 60, text.length)), shown = start === null
-    ? [text.length > 300 ? text.slice(0, 297) + '..' : text]
-    : [from ? '.. ' : '', text.slice(from, start), el('mark', {}, text[start] ?? ' '),
-      text.slice(start + 1, start + 80)];
-  const place = `line ${line}${start === null ? '' : `, column ${start + 1}`} of ${parts.text.name}`;
+function findingPart(finding, excerpt, file, by = 'the program\'s words') {
+  if (!excerpt) return p(code(finding));
+  const { line, column, before, marked, behind } = excerpt;
+  const place = `line ${line}${column === null ? '' : `, column ${column}`} of ${file}`;
   const said = p(`This is ${place} (${by}: `, code(`finding: ${finding}`), '):');
-  return [said, el('pre', { class: 'place', tabindex: '0', role: 'region', 'aria-label': place }, shown)];
+  return [said, el('pre', { class: 'place', tabindex: '0', role: 'region', 'aria-label': place },
+    el('bdi', {}, before, marked ? el('mark', {}, marked) : '', behind))];
 }
 
 /**
  * Tells a finding of the page's own reading, where not all sessions are there.
- * @param {string} finding @param {Parts} parts
+ * @param {string} finding @param {Excerpt | null} excerpt @param {string} file the text's name
  */
-export function showFound(finding, parts) {
+export function showFound(finding, excerpt, file) {
   showVerdict('wrong', 'This text does not hold',
-    p(findingWords(finding)), findingPart(finding, parts, 'found by the page itself'),
+    p(findingWords(finding)), findingPart(finding, excerpt, file, 'found by the page itself'),
     p('Do not trust it as it stands: ask the school about the line that is named.'));
 }
 

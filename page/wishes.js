@@ -2,16 +2,16 @@
 // session, and `prefer` tells how it ends.
 
 import { decoded, encoded, isSame } from './bytes.js';
-import { plural, shortList } from './wording.js';
+import { commandCount, eachCommand, hasMark } from './lines.js';
+import { plural, shortList, visible } from './wording.js';
 
-/**
- * The lines of a session that are commands, with their numbers (FORMATS, "Sessions").
- * @param {Uint8Array} bytes
- */
-export function commandsOf(bytes) {
-  const lines = decoded(bytes).split('\n').map(it => it.endsWith('\r') ? it.slice(0, -1) : it);
-  return lines.map((line, at) => ({ line, number: at + 1 })).filter(({ line }) => /^[ \t]*[^ \t#]/.test(line));
-}
+/** The most bytes of a session. */
+const MOST_BYTES = 2 ** 24;
+
+/** A line that says nothing. */
+const COMMENT = encoded('#');
+
+const FEED = 10;
 
 /**
  * How often each session stands in an order.
@@ -24,19 +24,19 @@ function countsIn(order) {
 }
 
 /**
- * The orders of the given sessions in which each has as many commands as the text says, the given order first. Where no
- * order has, that is seen before any is tried.
- * @param {GivenFile[]} sessions @param {number[]} order @param {number} most how many are looked for
- * @returns {GivenFile[][]}
+ * The orders of the given sessions in which each has as many commands as the text says, the given order first; each is
+ * the sessions' places. Where no order has, that is seen before any is tried.
+ * @param {number[]} sizes how many commands each session has @param {number[]} order
+ * @param {number} most how many are looked for
+ * @returns {number[][]}
  */
-export function possibleOrders(sessions, order, most) {
-  const counts = countsIn(order), sizes = sessions.map(it => commandsOf(it.bytes).length);
-  const wanted = sessions.map((_, at) => counts.get(at + 1) ?? 0);
-  /** @type {GivenFile[][]} */
+export function possibleOrders(sizes, order, most) {
+  const counts = countsIn(order), wanted = sizes.map((_, at) => counts.get(at + 1) ?? 0);
+  /** @type {number[][]} */
   const found = [];
   const go = (/** @type {number[]} */ chosen) => {
     if (found.length === most) return;
-    if (chosen.length === sessions.length) { found.push(chosen.map(it => sessions[it])); return; }
+    if (chosen.length === sizes.length) { found.push(chosen); return; }
     sizes.forEach((size, at) => {
       if (size === wanted[chosen.length] && !chosen.includes(at)) go([...chosen, at]);
     });
@@ -63,7 +63,7 @@ export function orderOf(bytes) {
 export function sessionsWords(sessions, order) {
   const counts = countsIn(order), many = Math.max(0, ...counts.keys());
   const wanted = Array.from({ length: many }, (_, at) => counts.get(at + 1) ?? 0);
-  const here = sessions.map(it => ({ name: it.name, size: commandsOf(it.bytes).length }));
+  const here = sessions.map(it => ({ name: it.name, size: commandCount(it.bytes) }));
   const left = [...here], lacking = [];
   for (const size of wanted) {
     const at = left.findIndex(it => it.size === size);
@@ -107,12 +107,54 @@ function sameWords(sessions) {
 }
 
 /**
- * All commands in one session, in the order of the text.
- * @param {number[]} order @param {GivenFile[]} sessions
+ * All commands in the order of the text, byte for byte, in as many sessions as have the length of one; these are heard one
+ * after the other.
+ * @param {number[]} order @param {Uint8Array[]} sessions
+ * @returns {Uint8Array[]}
  */
-export function merged(order, sessions) {
-  const left = sessions.map(it => commandsOf(it.bytes)), at = sessions.map(() => 0);
-  return encoded(order.map(it => left[it - 1][at[it - 1]++].line + '\n').join(''));
+export function inPrintedOrder(order, sessions) {
+  const left = sessions.map(bytes => {
+    /** @type {Uint8Array[]} */
+    const lines = [];
+    eachCommand(bytes, (from, to) => lines.push(bytes.subarray(from, to)));
+    return lines;
+  });
+  const at = sessions.map(() => 0);
+  return packed(order.map(it => left[it - 1][at[it - 1]++]));
+}
+
+/**
+ * Lines in as few sessions as have the length of one. No line stands where a byte order mark of its own would be dropped.
+ * @param {Uint8Array[]} lines
+ * @returns {Uint8Array[]}
+ */
+export function packed(lines) {
+  /** @type {Uint8Array[][]} */
+  const parts = [];
+  let size = MOST_BYTES;
+  for (const it of lines) {
+    if (size + it.length + 1 > MOST_BYTES) {
+      parts.push(hasMark(it, 0) ? [COMMENT] : []);
+      size = hasMark(it, 0) ? COMMENT.length + 1 : 0;
+    }
+    size += it.length + 1;
+    parts.at(-1).push(it);
+  }
+  return parts.map(joinedLines);
+}
+
+/**
+ * Lines with a line feed between them.
+ * @param {Uint8Array[]} lines
+ */
+function joinedLines(lines) {
+  const all = new Uint8Array(lines.reduce((sum, it) => sum + it.length + 1, -1)).fill(FEED);
+  let at = 0;
+  for (const it of lines) {
+    all.set(it, at);
+    at += it.length + 1;
+  }
+  return all;
 }
 
 /**
@@ -137,16 +179,26 @@ export function preferencesOf(answer) {
 /**
  * The desk's replies other than `done`, each with the file and line of its command.
  * @param {string} answer what `prefer` printed @param {GivenFile[]} sessions
+ * @returns {Reply[]}
  */
 export function repliesOf(answer, sessions) {
-  const left = sessions.map(it => commandsOf(it.bytes)), at = sessions.map(() => 0), found = [];
+  const left = sessions.map(({ bytes }) => {
+    /** @type {{ row: number, said: Uint8Array }[]} */
+    const lines = [];
+    eachCommand(bytes, (from, to, row) => lines.push({ row, said: bytes.subarray(from, to) }));
+    return lines;
+  });
+  const at = sessions.map(() => 0), found = [];
   for (const line of answer.split('\n')) {
     const [word, session, reply, ...command] = line.split(' ');
     if (word !== 'entry') continue;
-    const number = Number(session) - 1, { number: row, line: said } = left[number][at[number]++];
+    const number = Number(session) - 1, { row, said } = left[number][at[number]++];
     if (reply === 'done') continue;
-    const words = command[0] === 'unreadable' ? said.trim() : command.join(' ');
+    const words = command[0] === 'unreadable' ? visible(decoded(said.subarray(0, MOST_SHOWN)).trim()) : command.join(' ');
     found.push({ file: sessions[number].name, row, reply, command: words });
   }
   return found;
 }
+
+/** How many bytes of a line are shown that the desk could not read. */
+const MOST_SHOWN = 300;

@@ -28,6 +28,33 @@ export const shortList = names =>
  */
 export const timed = ms => ms < 1000 ? `${Math.max(1, Math.round(ms))} ms` : `${(ms / 1000).toFixed(1)} s`;
 
+/** Signs that turn the direction of a text, which no screen shows, by their names. */
+const DIRECTIONS = new Map([
+  ['\u200e', 'left-to-right mark'], ['\u200f', 'right-to-left mark'], ['\u061c', 'Arabic letter mark'],
+  ['\u202a', 'left-to-right embedding'], ['\u202b', 'right-to-left embedding'], ['\u202c', 'end of embedding'],
+  ['\u202d', 'left-to-right override'], ['\u202e', 'right-to-left override'], ['\u2066', 'left-to-right isolate'],
+  ['\u2067', 'right-to-left isolate'], ['\u2068', 'isolate'], ['\u2069', 'end of isolate'],
+]);
+const HIDDEN = new RegExp(`[\\0-\\x1f\\x7f-\\x9f\\ufeff${[...DIRECTIONS.keys()].join('')}]`, 'g');
+const RIGHT_TO_LEFT = /[\u0590-\u08ff\ufb1d-\ufdff\ufe70-\ufeff]/;
+
+/** @param {string} sign */
+const hiddenSign = sign => {
+  const direction = DIRECTIONS.get(sign), number = sign.charCodeAt(0).toString(16).padStart(2, '0');
+  if (direction) return `‹${direction}›`;
+  return { '\0': '\\0', '\t': '\\t', '\n': '\\n', '\r': '\\r' }[sign] ?? (sign > '\xff' ? `\\u${number}` : `\\x${number}`);
+};
+
+/**
+ * A text of a file as it can be shown in a sentence: signs that no screen shows are written out (`\0`, marks of direction
+ * by their names), and a text that runs from right to left does not turn what stands beside it.
+ * @param {string} text
+ */
+export function visible(text) {
+  const written = text.replace(HIDDEN, hiddenSign);
+  return RIGHT_TO_LEFT.test(written) ? `\u2068${written}\u2069` : written;
+}
+
 /** @param {string} it */
 const shortened = it => it.length > 80 ? it.slice(0, 77) + '..' : it;
 
@@ -35,4 +62,4 @@ const shortened = it => it.length > 80 ? it.slice(0, 77) + '..' : it;
  * What stands in a file, in quotes, and shortened where it is long.
  * @param {string} it
  */
-export const quoted = it => `“${shortened(it)}”`;
+export const quoted = it => `“${visible(shortened(it))}”`;

@@ -2,11 +2,12 @@
 // "Findings").
 
 import { decoded } from './bytes.js';
+import { Lines } from './lines.js';
 import { savedAs } from './files.js';
 import { jsonPlace, settingsWords } from './settings.js';
-import { catalogueIn, records, rollIn } from './tables.js';
+import { catalogueIn, recordAt, rollIn } from './tables.js';
 import { linesOf, turnCount } from './texts.js';
-import { listed, plural, quoted, shortList } from './wording.js';
+import { plural, quoted, shortList, visible } from './wording.js';
 import { orderOf, sessionsWords } from './wishes.js';
 
 /**
@@ -37,7 +38,7 @@ const NAME = 'A name is 1 to 32 letters (A to Z, a to z), digits, dashes, unders
  * @param {string} text
  */
 function recordWords(kind, row, cause, text) {
-  const record = records(text)[row - 1] ?? [], columns = COLUMNS[kind];
+  const record = recordAt(text, row), columns = COLUMNS[kind];
   const at = (/** @type {number} */ column) => {
     const [name, expected] = columns[column - 1];
     return `column ${column} (${name}): ${quoted(record[column - 1] ?? '')} stands there. Expected: ${expected}`;
@@ -45,7 +46,7 @@ function recordWords(kind, row, cause, text) {
   const number = Number(/column (\d+)$/.exec(cause)?.[1]);
   if (cause === 'header') return headerWords(kind, record);
   if (cause === 'fields') {
-    return `The record has ${plural(record.length, 'field')}, and the header ${records(text)[0].length}: `
+    return `The record has ${plural(record.length, 'field')}, and the header ${recordAt(text, 1).length}: `
       + 'a comma too many or too few, or a quote that is not closed.';
   }
   if (cause === 'too many rows') {
@@ -137,7 +138,7 @@ export function findingWords(words) {
  * @param {string} finding @param {Parts} parts
  * @returns {string[]}
  */
-export function causesOf(finding, parts) {
+function causesOf(finding, parts) {
   const { bytes, name } = parts.text;
   if (finding.startsWith('journal')) return sessionsWords(parts.sessions, orderOf(bytes));
   if (!finding.startsWith('line')) return [];
@@ -160,7 +161,7 @@ export function causesOf(finding, parts) {
 /** @param {string} finding @param {Parts} parts */
 function firstLineWords(finding, { catalogue, roll }) {
   if (finding !== 'line 1 form') return '';
-  const columns = (/** @type {GivenFile} */ it) => records(decoded(it.bytes))[0].length;
+  const columns = (/** @type {GivenFile} */ it) => recordAt(decoded(it.bytes), 1).length;
   const first = `course-match ${columns(catalogue) > 5 || columns(roll) > 4 ? 2 : 1}`;
   return `By the headers of ${catalogue.name} and ${roll.name} the first line is to be “${first}”.`;
 }
@@ -170,8 +171,8 @@ function firstLineWords(finding, { catalogue, roll }) {
  * @param {Parts} parts
  */
 function layoutOf(parts) {
-  const catalogue = catalogueIn(parts), roll = rollIn(parts), lines = decoded(parts.text.bytes).split('\n');
-  const turns = turnCount(lines, linesOf(roll.length, catalogue.length, 0).turns);
+  const catalogue = catalogueIn(parts), roll = rollIn(parts), lines = new Lines(parts.text.bytes);
+  const turns = turnCount(it => lines.at(it), linesOf(roll.length, catalogue.length, 0).turns);
   return { catalogue, roll, lines, at: linesOf(roll.length, catalogue.length, turns) };
 }
 
@@ -182,7 +183,7 @@ function layoutOf(parts) {
 function formWords(finding, parts) {
   const number = Number(/^line (\d+) form$/.exec(finding)?.[1]);
   if (!number) return [];
-  const { catalogue, roll, lines, at } = layoutOf(parts), text = lines[number - 1] ?? '';
+  const { catalogue, roll, lines, at } = layoutOf(parts), text = lines.at(number) ?? '';
   /** @type {[string, number, { name: string }[]][]} */
   const named = [
     ['budget', at.budgets, roll], ['start', at.starts, catalogue], ['price', at.prices, catalogue],
@@ -194,7 +195,7 @@ function formWords(finding, parts) {
   const strange = bundle.split(',').filter(it => it && !catalogue.some(that => that.name === it));
   return [
     due && !text.startsWith(due) ? `The line that is due there begins with “${due.trim()}”.` : '',
-    strange.length ? `${parts.catalogue.name} has no section ${listed(strange)}.` : '',
+    strange.length ? `${parts.catalogue.name} has no section ${shortList(strange.slice(0, 20).map(visible))}.` : '',
   ];
 }
 
@@ -203,12 +204,13 @@ function formWords(finding, parts) {
  * @param {string} text @param {string} word @param {{ name: string }[]} table @param {string} one @param {string} name
  */
 function strangersIn(text, word, table, one, name) {
-  const lines = text.split(/\r?\n/).filter(it => it.startsWith(`${word} `));
-  const named = new Set(lines.map(it => it.split(' ')[1])), known = new Set(table.map(it => it.name));
+  const found = text.matchAll(new RegExp(`^${word} ([^ \\r\\n]*)`, 'gm')), named = new Set();
+  for (const it of found) named.add(it[1]);
+  const known = new Set(table.map(it => it.name));
   const strange = [...named].filter(it => !known.has(it)), lacking = [...known].filter(it => !named.has(it));
   return [
-    strange.length
-      ? `Of the ${plural(named.size, one)} of the text ${name} lacks ${strange.length} (${shortList(strange)}).` : '',
+    strange.length ? `Of the ${plural(named.size, one)} of the text ${name} lacks ${strange.length} `
+      + `(${shortList(strange.slice(0, 20).map(visible))}).` : '',
     lacking.length && named.size
       ? `Of the ${plural(known.size, one)} of ${name} the text has no ${word} for ${lacking.length} `
         + `(${shortList(lacking)}).`
@@ -217,24 +219,44 @@ function strangersIn(text, word, table, one, name) {
   ];
 }
 
+/** How much of a line is shown before and behind the sign that a finding names. */
+const SHOWN_BEFORE = 60, SHOWN_BEHIND = 80, SHOWN_ALONE = 300;
+
 /**
  * The line of the text that a finding names, and where in its last word, or in the order, if it names that.
  * @param {string} words @param {Parts} parts
- * @returns {{ line: number | undefined, text: string, start: number | null }}
+ * @returns {Excerpt | null}
  */
-export function placeOf(words, parts) {
+export function excerptOf(words, parts) {
   const { catalogue, roll, lines, at } = layoutOf(parts), [word, second] = words.split(' ');
   const student = roll.findIndex(it => it.name === second), section = catalogue.findIndex(it => it.name === second);
-  const byte = /tree \w+ at (\d+)$/.exec(words)?.[1];
   const line = new Map([
     ['line', Number(second)], ['journal', at.order], ['budget', at.budgets + student],
     ['student', at.bundles + student],
     ['seats', at.prices + section], ['turn', at.turns + Number(second) - 1], ['not', at.finals],
     ['final', at.finals + student], ['used', at.used + section],
   ]).get(word);
-  const text = lines[line - 1] ?? '', last = text.lastIndexOf(' ') + 1;
-  const entry = text.split(' ').slice(0, Number(words.split(' ')[2])).join(' ').length + 1;
-  return { line, text, start: word === 'journal' ? entry : byte === undefined ? null : last + Number(byte) };
+  if (!line) return null;
+  const text = lines.at(line) ?? '', sign = signIn(words, text);
+  if (sign === null) {
+    const before = text.length > SHOWN_ALONE ? text.slice(0, SHOWN_ALONE - 3) + '..' : text;
+    return { line, column: null, before: visible(before), marked: '', behind: '' };
+  }
+  const from = Math.max(0, Math.min(sign - SHOWN_BEFORE, text.length));
+  return {
+    line, column: sign + 1, before: visible((from ? '.. ' : '') + text.slice(from, sign)), marked: visible(text[sign] ?? ' '),
+    behind: visible(text.slice(sign + 1, sign + SHOWN_BEHIND)),
+  };
+}
+
+/**
+ * Where in a line the sign stands that a finding names, from 0: of a tree, or an entry of the order.
+ * @param {string} words @param {string} text
+ */
+function signIn(words, text) {
+  const [word, , number] = words.split(' '), byte = /tree \w+ at (\d+)$/.exec(words)?.[1];
+  if (word === 'journal') return text.split(' ').slice(0, Number(number)).join(' ').length + 1;
+  return byte === undefined ? null : text.lastIndexOf(' ') + 1 + Number(byte);
 }
 
 const AGAIN = 'Nothing is lost: correct it and give the files again. The first fault alone is told.';
@@ -248,7 +270,7 @@ const OTHER_SESSIONS = 'Give the sessions of this text, all of them and no other
   + `published them, do not trust the text. ${OWN_CHECK}`;
 
 /** What is told where not all orders of the sessions were tried. */
-export const OTHER_ORDERS = 'That is so in the order of the list, and in none of the first orders that were tried does '
+const OTHER_ORDERS = 'That is so in the order of the list, and in none of the first orders that were tried does '
   + 'the text hold. The sessions can stand in others, since several have equally many commands: put them into the '
   + 'order that the school says (“Up” in the list of the files).';
 
@@ -305,3 +327,15 @@ export function answerWords(answer, call) {
   return (TOLD[answer.status] ?? failed)({ line, call, name: call.inputs[number - 1]?.name });
 }
 
+
+/**
+ * What is told of a text that was refused.
+ * @param {Checked} checked
+ * @returns {Refusal}
+ */
+export function refusalOf({ answer, call, parts, isCut }) {
+  const told = answerWords(answer, call), { finding } = told;
+  if (!finding) return { told, excerpt: null, causes: [] };
+  const unsure = isCut && !/^line/.test(finding) ? { title: 'This text was not found to hold', help: OTHER_ORDERS } : {};
+  return { told: { ...told, ...unsure }, excerpt: excerptOf(finding, parts), causes: causesOf(finding, parts) };
+}

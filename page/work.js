@@ -32,15 +32,34 @@ export const stopWork = () => program.stop();
  * @param {{ words: string[], files: [string, Uint8Array][] }} call
  * @returns {Promise<Answer>}
  */
-export async function work(title, call) {
+export const work = (title, call) => told(title, () => program.ask(call));
+
+/** @typedef {typeof import('./readings.js').READINGS} Readings */
+
+/**
+ * Has the worker read something, and tells so as of a run; null where that was stopped.
+ * @template {keyof Readings} Name
+ * @param {string} title what it does @param {Name} name @param {...any} given
+ * @returns {Promise<Awaited<ReturnType<Readings[Name]>> | null>}
+ */
+export const read = (title, name, ...given) => told(title, () => program.read(name, given));
+
+/**
+ * Tells that something is done, as long as it is.
+ * @template Value
+ * @param {string} title @param {() => Promise<Value>} go
+ */
+async function told(title, go) {
   if (!progress.count++) {
     progress.begun = performance.now();
     progress.clock = setInterval(tell, 100);
   }
   progress.title = `${title} ..`;
-  const answer = await program.ask(call);
-  if (--progress.count === 0) rest();
-  return answer;
+  try {
+    return await go();
+  } finally {
+    if (--progress.count === 0) rest();
+  }
 }
 
 function tell() {

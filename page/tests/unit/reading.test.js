@@ -57,9 +57,9 @@ test('of a market there is one file of each kind, and a manifest goes before wha
 test('the sessions are put into the orders that have as many commands as the text says', () => {
   const given = (name, lines) => ({ name, kind: 'session', bytes: encoded('# none\n' + 'close\n'.repeat(lines)) });
   const sessions = [given('a', 2), given('b', 1), given('c', 1)];
-  const orders = possibleOrders(sessions, [1, 2, 2, 3], 9);
-  assert.deepEqual(orders.map(it => it.map(one => one.name).join('')), ['bac', 'cab']);
-  assert.deepEqual(possibleOrders(sessions, [1, 2], 9), []);
+  const orders = possibleOrders([2, 1, 1], [1, 2, 2, 3], 9);
+  assert.deepEqual(orders.map(it => it.map(at => sessions[at].name).join('')), ['bac', 'cab']);
+  assert.deepEqual(possibleOrders([2, 1, 1], [1, 2], 9), []);
   assert.match(sessionsWords(sessions.slice(1), [1, 1, 2])[1], /No session of 2 commands is left for it/);
 });
 
