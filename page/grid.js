@@ -23,7 +23,10 @@ export function tableOf(caption, columns, rows, options = {}) {
   /** @type {{ shown: Row[], by: number | null, isFalling: boolean }} */
   const now = { shown: rows, by: null, isFalling: false };
   const body = el('tbody'), said = el('span', { role: 'status', class: 'quiet' });
-  const draw = () => body.replaceChildren(...now.shown.map(row => rowOf(row, columns)));
+  const draw = () => {
+    body.replaceChildren();
+    drawAsSeen(body, now.shown, columns);
+  };
   const arrange = () => {
     now.shown = arranged(rows, columns, now, filter.value);
     said.textContent = filter.value.trim() ? `${now.shown.length} of ${rows.length}` : '';
@@ -43,6 +46,35 @@ export function tableOf(caption, columns, rows, options = {}) {
   return el('div', { class: 'table' },
     el('div', { class: 'tools' }, el('b', {}, caption), rows.length >= (options.filterAt ?? 8) && filter, copy, said),
     el('div', { class: 'scrolls', role: 'region', 'aria-label': caption, tabindex: '0' }, table));
+}
+
+/** How many rows are drawn at once. */
+const ROWS_AT_ONCE = 60;
+
+/**
+ * Draws the first rows, and more as the last one comes into view. What is drawn anew draws no more of what it was. All are
+ * drawn by the body's `fill`, which is called before the page is printed.
+ * @template Row
+ * @param {HTMLElement} body @param {Row[]} rows @param {Column<Row>[]} columns
+ */
+function drawAsSeen(body, rows, columns) {
+  const add = (/** @type {number} */ count) => {
+    const from = body.children.length;
+    body.append(...rows.slice(from, from + count).map(row => rowOf(row, columns)));
+  };
+  add(ROWS_AT_ONCE);
+  if (rows.length <= ROWS_AT_ONCE) return;
+  let last = body.lastElementChild;
+  const watch = new IntersectionObserver(seen => {
+    if (!seen.some(it => it.isIntersecting)) return;
+    watch.disconnect();
+    if (last.parentElement !== body) return;
+    add(ROWS_AT_ONCE);
+    last = body.lastElementChild;
+    if (body.children.length < rows.length) watch.observe(last);
+  });
+  watch.observe(last);
+  /** @type {any} */ (body).fill = () => { if (last.parentElement === body) add(rows.length); };
 }
 
 /** @param {Column<any>} column */

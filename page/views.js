@@ -12,6 +12,8 @@ const shown = {
    * @type {Market | null}
    */
   market: null,
+  /** Whether the whole text is to be drawn, once it is looked at. */
+  waits: false,
 };
 
 /**
@@ -25,6 +27,9 @@ export function show(view) {
     $(`to-${it}`).setAttribute('aria-selected', String(it === view));
     $(`to-${it}`).tabIndex = it === view ? 0 : -1;
   }
+  if (view !== 'auditor' || !shown.waits) return;
+  shown.waits = false;
+  $('auditor').replaceChildren(...auditorView(shown.market, showStudent));
 }
 
 /** The element of the view that is shown. */
@@ -59,7 +64,8 @@ export function drawReaders(market, words) {
   shown.market = market;
   $('student').replaceChildren(...market ? [chooser(market), el('div', { id: 'student-answer' })] : [p(words)]);
   const isWhole = market && !market.isOwn;
-  $('auditor').replaceChildren(...isWhole ? auditorView(market, showStudent) : [p(market ? ALL_SESSIONS : words)]);
+  shown.waits = isWhole;
+  $('auditor').replaceChildren(...isWhole ? [] : [p(market ? ALL_SESSIONS : words)]);
   if (market) recall();
   const only = market && named(market).length === 1 && market.isOwn ? named(market)[0] : null;
   if (only && $('student-answer').dataset.name !== only.name) drawStudent(only);

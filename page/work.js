@@ -9,6 +9,7 @@ const progress = {
   /** how many calls wait for their answers */
   count: 0,
   title: '',
+  note: '',
   /** when the first of them began, in milliseconds of the page */
   begun: 0,
   /** @type {ReturnType<typeof setInterval> | undefined} */
@@ -30,9 +31,10 @@ export const stopWork = () => program.stop();
  * Runs one call of the program, and tells that it works and for how long.
  * @param {string} title what it does
  * @param {{ words: string[], files: [string, Uint8Array][] }} call
+ * @param {string} [note] what is known of how long it takes
  * @returns {Promise<Answer>}
  */
-export const work = (title, call) => told(title, () => program.ask(call));
+export const work = (title, call, note) => told(title, () => program.ask(call), note);
 
 /** @typedef {typeof import('./readings.js').READINGS} Readings */
 
@@ -47,14 +49,14 @@ export const read = (title, name, ...given) => told(title, () => program.read(na
 /**
  * Tells that something is done, as long as it is.
  * @template Value
- * @param {string} title @param {() => Promise<Value>} go
+ * @param {string} title @param {() => Promise<Value>} go @param {string} [note]
  */
-async function told(title, go) {
+async function told(title, go, note = '') {
   if (!progress.count++) {
     progress.begun = performance.now();
     progress.clock = setInterval(tell, 100);
   }
-  progress.title = `${title} ..`;
+  [progress.title, progress.note] = [`${title} ..`, note];
   try {
     return await go();
   } finally {
@@ -70,6 +72,7 @@ function tell() {
     if (it.textContent !== progress.title) it.textContent = progress.title;
   }
   $('working-time').textContent = ms < 1000 ? '' : `${Math.floor(ms / 1000)} s`;
+  $('working-note').textContent = ms < 1000 ? '' : progress.note;
 }
 
 function rest() {
