@@ -3,10 +3,10 @@
 
 import { answerNodes, heldWeek } from './answer_view.js';
 import { drawingOf } from './drawing.js';
-import { el, opening, p, part } from './elements.js';
+import { button, el, opening, p, part } from './elements.js';
 import { envyOfOne, envyPart, isSmall } from './envy.js';
 import { tableOf } from './grid.js';
-import { judgedStages, stagesOf, unratedIn } from './one_student.js';
+import { judgedStages, stagesOf, unjudgedWords, unratedIn } from './one_student.js';
 import { menuOf, priceOf, raisedBudget, walkOf, worthOf } from './reckoning.js';
 import { sheetNodes } from './sheet.js';
 import { signsNodes } from './signs_view.js';
@@ -134,19 +134,31 @@ function onScreen(title, ...children) {
 }
 
 /**
+ * Where the answer comes, as soon as the program has judged all stages.
+ * @param {Market} market @param {number} student
+ */
+function answerPart(market, student) {
+  const answer = el('div', { id: 'answer', 'aria-live': 'polite' });
+  const judge = async () => {
+    answer.replaceChildren(el('p', { class: 'lead' }, 'Asking the program ..'));
+    const judged = await judgedStages(work, market, student), nodes = await answerNodes(market, student, judged);
+    const mayAsk = judged.some(it => it.unjudged && !unjudgedWords(it));
+    answer.replaceChildren(...nodes.filter(Boolean), mayAsk ? button('Ask again', judge, { class: 'small' }) : '');
+  };
+  judge();
+  return answer;
+}
+
+/**
  * All of one student: what it holds stands at once, and the answer above it as soon as the program has judged.
  * @param {Market} market @param {number} student
  * @returns {any[]}
  */
 export function studentView(market, student) {
   const stages = stagesOf(market, student), name = market.roll[student].name, shown = studentName(market, student);
-  const answer = el('div', { id: 'answer', 'aria-live': 'polite' }, el('p', { class: 'lead' }, 'Asking the program '
-    + '..'));
-  judgedStages(work, market, student).then(it => answerNodes(market, student, it))
-    .then(nodes => answer.replaceChildren(...nodes.filter(Boolean)));
   return [
     el('h2', { tabindex: '-1' }, shown, shown === name ? '' : el('span', { class: 'quiet' }, ` ${name}`)),
-    answer,
+    answerPart(market, student),
     heldWeek(market, student),
     part('Stage by stage', ...stageNodes(market, student, stages)),
     part('Why not?', ...whyNodes(market, student, stages)),

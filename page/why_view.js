@@ -1,7 +1,7 @@
 // "Why not X?": one line for each section that a student rated and does not hold, which unfolds.
 
 import { drawingOf } from './drawing.js';
-import { el, opening, p } from './elements.js';
+import { button, el, opening, p } from './elements.js';
 import { explainedIn, explanationOf, unjudgedWords, unratedIn } from './one_student.js';
 import { callOf } from './program.js';
 import { menuOf, walkOf } from './reckoning.js';
@@ -127,7 +127,9 @@ function questionOf(market, student, stages, name, isOpen) {
     const replies = await repliesAbout(market, student, stages, name), failed = replies.find(it => it.failed);
     short.textContent = failed ? failed.failed : shortAnswer(market, student, stages, name, replies);
     answer.replaceChildren(...longAnswer(market, student, stages, name, replies));
-    if (failed) asked = null;
+    if (!failed) return;
+    asked = null;
+    answer.append(button('Ask again', ask, { class: 'small' }));
   };
   node.fill = () => {};
   node.addEventListener('toggle', () => { if (node.open) ask(); });
