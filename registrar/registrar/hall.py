@@ -7,9 +7,9 @@ import functools
 import os
 import sys
 from collections import Counter
-from typing import Sequence
+from typing import Optional, Sequence
 
-from registrar import forms, hall_desk, manifest, own_names, program, swaps, tables, tell, work_log
+from registrar import forms, hall_desk, manifest, own_names, program, register, swaps, tables, tell, work_log
 from registrar.faults import Faults, shown
 from registrar.import_exports import write_all
 from registrar.spelling import Meant
@@ -81,9 +81,11 @@ def run(arguments: argparse.Namespace) -> int:
         return tell_refusal(found, answer)
     if tell_lost(found, asked, hall_desk.replies_of(answer.lines), arguments.allow):
         return tell.FAULTS
+    people = register.of_people(arguments.mapping, found.catalogue, found.roll, faults)
+    register.refuse(faults, arguments.mapping)
     takes_all = "lost-seat" in arguments.allow
     settled = swaps.Settled(tuple(asked), answer, ()) if takes_all else swaps.settle(found, asked, answer)
-    return written(arguments, found, settled)
+    return written(arguments, found, settled, people)
 
 
 def gathered(arguments: argparse.Namespace, found: manifest.Manifest, faults: Faults) -> list[forms.Request]:
@@ -134,7 +136,9 @@ def tell_lost(
     return refused
 
 
-def written(arguments: argparse.Namespace, found: manifest.Manifest, settled: swaps.Settled) -> int:
+def written(
+    arguments: argparse.Namespace, found: manifest.Manifest, settled: swaps.Settled, people: Optional[register.Register]
+) -> int:
     """Writes the stream, the program's answer and the tables, and tells what became of each request."""
     own = own_names.beside(found.catalogue)
     left_out = [swaps.in_words(swap, own, True) for swap in settled.left_out]
@@ -147,7 +151,7 @@ def written(arguments: argparse.Namespace, found: manifest.Manifest, settled: sw
     files = {
         "hall.requests": (hall_desk.as_stream(settled.asked) + comments).encode(),
         "hall.txt": settled.answer.output,
-        **tables_of(settled, own),
+        **tables_of(settled, own, people),
     }
     folder = into(arguments)
     tables.refuse_over([os.path.join(folder, name) for name in files], manifest.files_read(found))
@@ -156,8 +160,11 @@ def written(arguments: argparse.Namespace, found: manifest.Manifest, settled: sw
     return 0
 
 
-def tables_of(settled: swaps.Settled, own: own_names.Own) -> dict[str, bytes]:
-    """The tables after the hall, in the school's own spelling: replies, rosters, what each student holds, who waits."""
+def tables_of(settled: swaps.Settled, own: own_names.Own, people: Optional[register.Register]) -> dict[str, bytes]:
+    """The tables after the hall, in the school's own spelling: replies, rosters, what each student holds, who waits.
+
+    With `people` each student's name and address stand behind its number.
+    """
     section, student = (functools.partial(own_names.spelt, own, kind) for kind in ("section", "student"))
     rosters, holds, waits = [["section", "student"]], [["student", "sections"]], [["section", "place", "student"]]
     held: dict[str, list[str]] = {}
@@ -172,7 +179,7 @@ def tables_of(settled: swaps.Settled, own: own_names.Own) -> dict[str, bytes]:
         elif words[0] == "used":
             rosters += [[section(words[1]), student(who)] for who in held.get(words[1], [])]
     made = {"replies": reply_rows(settled, own), "rosters": rosters, "students": holds, "waiting": waits}
-    return {f"hall-{name}.csv": tables.sheet_bytes(rows) for name, rows in made.items()}
+    return {f"hall-{name}.csv": tables.sheet_bytes(register.with_people(people, rows)) for name, rows in made.items()}
 
 
 def left_requests(settled: swaps.Settled) -> list[forms.Request]:

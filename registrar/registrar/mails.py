@@ -174,7 +174,7 @@ def mail(post: Post, name: str, values: Mapping[str, Callable[[], str]], session
     head = [address_line(title, *who) for title, who in people.items()]
     # By the last line a mail program opens it as a draft.
     head += ["Subject: " + (subject if is_plain(subject) else encoded(subject)), "X-Unsent: 1"]
-    written = "".join(line + "\r\n" for line in head).encode("ascii") + body(text, session, f"{name}.session")
+    written = "".join(line + "\r\n" for line in head).encode("ascii") + body(text, session, f"{own_names.file_of(made.own, name)}.session")
     fault = read_back(written, {**people, "Subject": subject}, session)
     if fault:
         raise tell.Trouble(f"the mail of {name} is not written: read back, its {fault} is another")

@@ -146,6 +146,17 @@ def read_or_tell(path: str, catalogue: str, roll: str) -> Register:
     return made
 
 
+def of_people(path: str, catalogue: str, roll: str, faults: Faults) -> Optional[Register]:
+    """The register, where the mapping names a column of names or addresses in [roll]; else nothing is read but the mapping."""
+    try:
+        sources = read_mapping(path, Faults()).of_kind("roll")
+    except OSError:
+        return None
+    if not any(source.get(option) for source in sources for option in OF_A_STUDENT):
+        return None
+    return read(path, catalogue, roll, faults)
+
+
 def refuse(faults: Faults, mapping: str) -> None:
     """Tells the faults, where there are any, and ends the command."""
     if faults:

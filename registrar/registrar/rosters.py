@@ -9,7 +9,7 @@ import os
 from dataclasses import dataclass
 from typing import Callable, Dict, Iterator, List, Optional, Sequence, Set, Tuple
 
-from registrar import fields, hall_text, manifest, own_names, published, register, tables, tell, work_log
+from registrar import fields, hall_desk, hall_text, manifest, own_names, published, register, tables, tell, work_log
 from registrar.import_exports import write_all
 from registrar.mapping import split
 
@@ -61,7 +61,7 @@ def run(arguments: argparse.Namespace) -> int:
     """Writes the files."""
     if arguments.since and not arguments.hall:
         raise tell.Trouble("--since needs --hall", tell.USAGE)
-    found = manifest.read(arguments.manifest)
+    found = read_manifest(arguments)
     text = published.read_published(found.text)
     made = register.read_or_tell(arguments.mapping, found.catalogue, found.roll)
     template = Template(made, found)
@@ -84,6 +84,14 @@ def run(arguments: argparse.Namespace) -> int:
     for line in told(folder, template, now, difference if arguments.hall else None):
         tell.say(line)
     return 0
+
+
+def read_manifest(arguments: argparse.Namespace) -> manifest.Manifest:
+    """The manifest. After a hall the catalogue may have other seats than at the run, and is else the same."""
+    found = manifest.read(arguments.manifest, catalogue_too=not arguments.hall)
+    if arguments.hall and not hall_desk.is_catalogue_of_run(found):
+        hall_desk.refuse_more_than_seats(found, False)
+    return found
 
 
 def held_after(path: str, found: manifest.Manifest) -> Holds:

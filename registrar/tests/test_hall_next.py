@@ -199,7 +199,7 @@ class WholeTerm(WithSchool):
         self.assertEqual(told.count("changes.csv row"), 12)
         codes = {section.code for section in self.school.sections}
         rosters = [row.split(",") for row in self.read("hall/hall-rosters.csv").splitlines()]
-        self.assertEqual(rosters[0], ["section", "student"])
+        self.assertEqual(rosters[0], ["section", "student", "name", "e-mail"])
         self.assertLessEqual({row[0] for row in rosters[1:]}, codes)
         status, told = say("next")
         self.assertEqual(status, 0, told)

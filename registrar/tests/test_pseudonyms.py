@@ -144,7 +144,7 @@ class Drawn(InFolder):
 
     @needs_program
     def test_mails_and_rosters_have_the_student_s_own_name(self) -> None:
-        """The register is joined by the key; the mail's attachment has the drawn name, by which it is checked."""
+        """The register is joined by the key; in the mail's attachment stands the drawn name, by which it is checked."""
         self.write("office/r.csv", "id,who,mail\n" + "".join(f"{own},N{at},s{at}@school.edu\n" for at, own in enumerate(OWN)))
         rosters = "[rosters]\nfile = system.csv\nencoding = utf-8\n[roster columns]\nID = {student}\nNAME = {name}\nSEC = {section}\n"
         self.write("office/mapping.ini", MAPPING.replace("[survey w]", "name = who\ne-mail = mail\n[survey w]") + rosters)
@@ -160,6 +160,7 @@ class Drawn(InFolder):
         self.assertEqual(sorted(os.listdir("lists/mails")), ["-cmd--.eml", "0012.eml", "Umit.eml", "n.jones.eml"])
         with open("lists/mails/n.jones.eml", "rb") as file:
             mail = email.message_from_binary_file(file)
+        self.assertEqual([part.get_filename() for part in mail.get_payload()], [None, "n.jones.session"])
         text, session = (part.get_payload(decode=True).decode() for part in mail.get_payload())
         self.assertEqual((mail["To"], mail["Subject"]), ('"N3" <s3@school.edu>', "Sections of n.jones"))
         self.assert_told(text, ("Dear N3,", "B-1"))

@@ -7,7 +7,7 @@ import os
 import shutil
 import unittest
 
-from registrar import fields, manifest, program, tables, tell
+from registrar import fields, manifest, tables, tell
 from tests import school
 from tests.support import TERM, needs_program
 from tests.term import InFolder, WithSchool, say
@@ -149,15 +149,29 @@ class Rosters(WithTerm):
         self.assertEqual(say("rosters", "--mapping", "mapping.ini", "--since", "hall/hall.txt")[0], tell.USAGE)
 
     def test_seats_that_were_raised_for_the_hall(self) -> None:
-        """The hall's own lines say how many seats it had."""
+        """The catalogue may have more seats than at the run, and is else the same."""
+        catalogue = self.read("catalogue.csv")
+        self.write("catalogue.csv", catalogue.replace("FNCE-717-A,FNCE-717,12,", "FNCE-717-A,FNCE-717,13,"))
         self.hall("hall")
-        raised = self.read("catalogue.csv").replace("FNCE-717-A,FNCE-717,12,", "FNCE-717-A,FNCE-717,13,")
-        self.write("raised.csv", raised)
-        text = program.call(["hall", "raised.csv", "roll.csv", "published.txt", "hall/hall.requests"]).text
-        self.write("more.txt", text)
-        status, told = say("rosters", "--mapping", "mapping.ini", "--hall", "more.txt", "--into", "out")
+        self.assertIn("used FNCE-717-A 12 13\n", self.read("hall/hall.txt"))
+        words = ("rosters", "--mapping", "mapping.ini", "--hall", "hall/hall.txt", "--into", "out")
+        status, told = say(*words)
         self.assertEqual(status, 0, told)
-        self.assertIn("used FNCE-717-A 12 13\n", text)
+        self.assertEqual({(row[1], row[2]) for row in self.rows("out/system.txt")}, self.held("hall/hall.txt"))
+        self.write("catalogue.csv", catalogue.replace("FNCE-717-A,FNCE-717,12,2,", "FNCE-717-A,FNCE-717,12,1,"))
+        status, told = say(*words, "--replace")
+        self.assertEqual(status, tell.FAULTS)
+        self.assertIn("catalogue.csv has changed since the run in more than its seats", told)
+
+    def test_names_in_the_lists_after_the_hall(self) -> None:
+        self.hall("hall")
+        rows = self.read("hall/hall-rosters.csv").splitlines()
+        self.assertEqual(rows[0], "section,student,name,e-mail")
+        self.assertIn("FNCE-717-A,n.jones,N.JONES Ünal,n.jones@school.example", rows)
+        self.assertEqual(self.read("hall/hall-students.csv").splitlines()[0], "student,name,e-mail,sections")
+        self.assertEqual(self.read("hall/hall-waiting.csv").splitlines()[0], "section,place,student,name,e-mail")
+        replies = self.read("hall/hall-replies.csv").splitlines()
+        self.assertIn("student,name,e-mail,section,reply", replies[0])
 
 
 @needs_program
