@@ -1,4 +1,4 @@
-"""`compare`: two runs beside each other: who gained and who lost by the own ratings, seats, prices, errors, envy, by group."""
+"""`compare`: two runs beside each other: who gained and lost by the own ratings, seats, prices, errors, envy."""
 
 from __future__ import annotations
 
@@ -10,7 +10,7 @@ from typing import Callable, Dict, List, Optional, Sequence, Tuple
 from registrar import figures, manifest, measures, own_names, pages, plots, ranges, register, run_market, tables, tell
 
 NAME = "compare"
-HELP = "put two runs beside each other: who gained and who lost by the own ratings, seats, prices, errors, envy, by group"
+HELP = "put two runs beside each other: who gained and lost by the own ratings, seats, prices, errors, envy, by group"
 
 #: So many students and sections are told on the terminal; the files have all.
 SHOWN = 20
@@ -20,7 +20,7 @@ GAINED, LOST, SAME, OTHER = "gained", "lost", "as before", "other wishes"
 
 @dataclass(frozen=True)
 class Change:
-    """A student of both runs: what it holds is worth so much by its own wishes of each run, and which of the four that is."""
+    """A student of both runs: what it holds is worth so much by its own wishes, and which of the four that is."""
 
     student: str
     before: int
@@ -44,21 +44,25 @@ class Both:
 def add_arguments(parser: argparse.ArgumentParser) -> None:
     """The words of `compare`."""
     parser.description = (
-        f"{HELP}. A student gained where what it holds in the end of B is worth more by its own ratings and adjustments than what it "
-        "holds in A. A student whose wishes differ between the two is counted apart."
+        f"{HELP}. A student gained where what it holds in the end of B is worth more by its own ratings and "
+        "adjustments than what it holds in A. A student whose wishes differ between the two is counted apart."
     )
     parser.add_argument("one", metavar="A", help="the manifest of the first run")
     parser.add_argument("other", metavar="B", help="the manifest of the second run")
     register.add_argument(parser)
     add_groups(parser)
-    parser.add_argument("--out", metavar="FOLDER", help="write compare.html, and students.csv, sections.csv and groups.csv")
+    parser.add_argument(
+        "--out", metavar="FOLDER", help="write compare.html, and students.csv, sections.csv and groups.csv"
+    )
     parser.add_argument("--no-audit", action="store_true", help="leave envy out: `audit` checks both texts first")
     run_market.add_workers(parser)
 
 
 def add_groups(parser: argparse.ArgumentParser) -> None:
     """The options by which students are put into groups."""
-    parser.add_argument("--by", metavar="COLUMN", help="with --mapping: by this column of the register, as the programme or the year")
+    parser.add_argument(
+        "--by", metavar="COLUMN", help="with --mapping: by this column of the register, as the programme or the year"
+    )
     parser.add_argument(
         "--least", type=ranges.whole(1, tables.MAX_STUDENTS), default=5, metavar="N",
         help="groups of fewer than N students are put together, so that nobody stands alone (default: 5)",
@@ -138,18 +142,21 @@ def differences(both: Both) -> List[str]:
     lines += [f"{name}: {shown(settings[0][name])} in A, {shown(settings[1][name])} in B" for name in changed]
     sections = [each.market.sections for each in (one, other)]
     called = both.other.market.section
-    lines += [f"{called(code)}: only in {'AB'[at]}" for at in (0, 1) for code in sections[at] if code not in sections[1 - at]]
+    for at in (0, 1):
+        lines += [f"{called(code)}: only in {'AB'[at]}" for code in sections[at] if code not in sections[1 - at]]
     for code in (code for code in sections[0] if code in sections[1]):
         for what in ("seats", "credits", "meetings", "parts", "course"):
             before, after = (getattr(each[code], what) for each in sections)
             if before != after:
-                lines.append(f"{called(code)}: {what} {told_as(both, what, before)} in A, {told_as(both, what, after)} in B")
+                told = (told_as(both, what, value) for value in (before, after))
+                lines.append("{}: {} {} in A, {} in B".format(called(code), what, *told))
     rolls = [each.market.students for each in (one, other)]
     changed = [name for name in both.changes if row(rolls[0][name]) != row(rolls[1][name])]
     if changed:
         lines.append(f"{tell.count(len(changed), 'student has', 'students have')} another row in the roll")
     if both.gone or both.new:
-        lines.append(f"{tell.count(len(both.gone), 'student is', 'students are')} in A alone, {len(both.new)} in B alone")
+        gone = tell.count(len(both.gone), "student is", "students are")
+        lines.append(f"{gone} in A alone, {len(both.new)} in B alone")
     wished = sum(one.what == OTHER for one in both.changes.values())
     if wished:
         lines.append(f"{tell.count(wished, 'student has', 'students have')} other wishes in B than in A")
@@ -243,7 +250,8 @@ def student_rows(both: Both) -> List[Tuple[str, str, int, int, str, str, str, st
     rows = []
     for one in sorted(both.changes.values(), key=lambda one: (one.after - one.before, places[one.student])):
         shares = [pages.percent(each.share(one.student)) for each in (both.one, both.other)]
-        held = ["; ".join(each.market.section(code) for code in each.held(one.student)) for each in (both.one, both.other)]
+        runs = (both.one, both.other)
+        held = ["; ".join(each.market.section(code) for code in each.held(one.student)) for each in runs]
         rows.append((both.other.market.student(one.student), one.what, one.before, one.after, *shares, *held))
     return rows
 
@@ -254,8 +262,8 @@ def sum_line(both: Both) -> str:
     moved = sum(one.what == SAME and one.moved for one in both.changes.values())
     other = f"; {counts[OTHER]} with other wishes are not compared" if counts[OTHER] else ""
     return (
-        f"By their own ratings {counts[GAINED]} of {tell.count(len(both.changes), 'student', 'students')} gained, {counts[LOST]} lost, "
-        f"and for {counts[SAME]} it is worth as much ({moved} of them hold other sections){other}."
+        f"By their own ratings {counts[GAINED]} of {tell.count(len(both.changes), 'student', 'students')} gained, "
+        f"{counts[LOST]} lost, and for {counts[SAME]} it is worth as much ({moved} of them hold other sections){other}."
     )
 
 
@@ -267,7 +275,8 @@ def told(both: Both, groups: Dict[str, str], arguments: argparse.Namespace) -> L
     if groups:
         lines += ["", *tell.table(GROUP_HEADER, group_rows(both, groups, arguments.least))]
     for what, sign in ((LOST, 1), (GAINED, -1)):
-        found = sorted((one for one in both.changes.values() if one.what == what), key=lambda one: sign * (one.after - one.before))
+        those = [one for one in both.changes.values() if one.what == what]
+        found = sorted(those, key=lambda one: sign * (one.after - one.before))
         lines += [""] * bool(found) + [f"{what}: {in_words(both, one)}" for one in found[:SHOWN]]
         lines += [f"and {len(found) - SHOWN} more, whom --out FOLDER writes"] * (len(found) > SHOWN)
     changed = [row for row in section_rows(both) if row[1:6:2] != row[2:7:2]]

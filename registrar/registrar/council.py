@@ -91,7 +91,9 @@ def read(path: str) -> Words:
         name, colon, value_of = line.partition(":")
         known = name in (TITLE, CHOSEN, LANGUAGE) or name.startswith((CALLED, WORD))
         if not colon or not known or name in head or not value_of.strip():
-            expected = "`Title: ..`, `Columns: students, share, ..`, `Column share: ..`, `Word all: ..` or `Language: en`, once"
+            expected = (
+                "`Title: ..`, `Columns: students, share`, `Column share: ..`, `Word all: ..` or `Language: en`, once"
+            )
             faults.add(path, number, "", line, expected)
         else:
             head[name] = value_of.strip()
@@ -222,7 +224,7 @@ def median(values: Sequence[int]) -> float:
 
 
 def shares_by_ten(one: measures.Group) -> List[Tuple[str, float]]:
-    """How many students have a share in each span of ten percent; whoever holds more than the best at 0 would be is in the last."""
+    """How many students have a share in each span of ten percent; whoever has the whole is in the last."""
     counts = [0] * 11
     for share in one.shares:
         counts[max(0, min(10, int(share // 10)))] += 1

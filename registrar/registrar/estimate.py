@@ -1,8 +1,8 @@
-"""`estimate`: how long a run will take and how far its search may come, by runs of few turns. It is an estimate, and says so.
+"""`estimate`: how long a run takes and how far its search comes, by runs of few turns; where it is a guess it says so.
 
-The search is the same turn by turn whatever number of turns is allowed. So what a run of few turns saw, a longer one sees too:
-where it saw an error that the settings accept, the run is sure to end by then. How long a turn takes, and what the error of
-later turns is, nobody knows before: the first is told as it was measured, of the second nothing is told.
+The search is the same turn by turn whatever number of turns is allowed. So what a run of few turns saw, a longer one
+sees too: where it saw an error that the settings accept, the run is sure to end by then. How long a turn takes, and
+what the error of later turns is, nobody knows before: the first is told as it was measured, the second not at all.
 """
 
 from __future__ import annotations
@@ -50,7 +50,8 @@ def add_arguments(parser: argparse.ArgumentParser) -> None:
     )
     parser.add_argument(
         "--text", default="published.txt", metavar="FILE",
-        help="the text that is to be run: beside it stand the times of earlier runs, and is kept what was measured (default: published.txt)",
+        help="the text that is to be run: beside it stand the times of earlier runs, and what is measured is kept "
+        "(default: published.txt)",
     )
     run_market.add_workers(parser)
 
@@ -80,9 +81,9 @@ def run(arguments: argparse.Namespace) -> int:
     pace = pace_of(samples)
     size = run_market.size_of(["run", str(arguments.workers), arguments.catalogue, arguments.roll])
     folder = os.path.dirname(arguments.text) or "."
-    for line in tell.table(("turns", "time", "least error"), [(one.turns, shown(one.elapsed), one.least) for one in samples]):
-        tell.say(line)
-    for line in [*pace_in_words(samples, pace, size.get("students", 0)), *in_words(samples, pace, turns, accept, whole.elapsed)]:
+    rows = [(one.turns, shown(one.elapsed), one.least) for one in samples]
+    lines = tell.table(("turns", "time", "least error"), rows) + pace_in_words(samples, pace, size.get("students", 0))
+    for line in lines + in_words(samples, pace, turns, accept, whole.elapsed):
         tell.say(line)
     before = tell.times_of(folder, size)
     if before:
@@ -127,8 +128,9 @@ def in_words(samples: Sequence[Sample], pace: Pace, turns: int, accept: int, who
     """What the samples tell of a run with these settings. `whole` is how long the whole run of the last sample took."""
     last = samples[-1]
     if last.least <= accept:
-        ends = f"by turn {last.turns} the search sees an error of {last.least}: with accept {accept} it ends by then, and the turns"
-        return [f"{ends} behind are not used", f"the whole run took {shown(whole)}"]
+        seen = f"by turn {last.turns} the search sees an error of {last.least}"
+        ends = f"with accept {accept} it ends by then, and the turns behind are not used"
+        return [f"{seen}: {ends}", f"the whole run took {shown(whole)}"]
     lines = [f"by turn {last.turns} of {turns} the least error is {last.least}, and accept is {accept}"]
     if last.turns == turns:
         return [*lines, "so the run ends with status 5: give more turns, or an accept of at least that error"]
@@ -136,8 +138,8 @@ def in_words(samples: Sequence[Sample], pace: Pace, turns: int, accept: int, who
     return [
         *lines,
         "whether a later turn comes to that is not known; if none does, the run ends with status 5",
-        f"with accept {last.least} the whole run took {shown(whole)}; with all {turns} turns it takes at most about {most}: "
-        "an estimate, which takes each further turn to be as long as these",
+        f"with accept {last.least} the whole run took {shown(whole)}; with all {turns} turns it takes at most about "
+        f"{most}: an estimate, which takes each further turn to be as long as these",
     ]
 
 

@@ -1,4 +1,4 @@
-"""Templates: texts with fields in braces, `{name}`; `{{` and `}}` are braces. A value is put in as it is, and not read again."""
+"""Templates: texts with fields in braces, `{name}`; `{{` and `}}` are braces. A value is put in as it is."""
 
 from __future__ import annotations
 
@@ -31,7 +31,7 @@ def fields_of(text: str) -> List[Tuple[int, str]]:
 
 
 def refuse_unknown(text: str, known: Iterable[str], openings: Iterable[str] = ()) -> None:
-    """Raises `FieldFault` at the first field that is none of the known ones and begins with none of the openings and a blank."""
+    """Raises `FieldFault` at the first field that is not known, and is none of the openings with a column behind it."""
     names = list(known)
     for line, name in fields_of(text):
         if name not in names and not any(name.startswith(one + " ") for one in openings):

@@ -13,7 +13,7 @@ from registrar.tell import Trouble
 
 @dataclass(frozen=True)
 class After:
-    """What stands after the hall: the requests with their replies, what each student holds, who waits, used seats and seats."""
+    """What stands after the hall: requests with replies, what each student holds, who waits, used seats and seats."""
 
     path: str
     entries: Tuple[Tuple[str, str], ...]
@@ -53,7 +53,7 @@ def refuse_other(after: After, found: manifest.Manifest) -> None:
     """
     sections = tables.read_catalogue(found.catalogue)
     if [one.code for one in sections] != list(after.used):
-        raise Trouble(f"{after.path} is of another catalogue than {found.catalogue}: its lines 'used' have other sections")
+        raise Trouble(f"{after.path} is of another catalogue than {found.catalogue}: it has other sections")
     header, *records = [one.fields for one in tables.records(found.catalogue)]
     rows = [(*fields[:2], after.used[fields[0]][1], *fields[3:]) for fields in records]
     with tempfile.TemporaryDirectory() as folder:
@@ -63,10 +63,11 @@ def refuse_other(after: After, found: manifest.Manifest) -> None:
         answer = program.call(["hall", catalogue, found.roll, found.text, requests], tell.Life("asking the hall anew"))
     if answer.status or replies(answer.lines) != replies(after.lines):
         raise Trouble(
-            f"{after.path} is not what the hall gives of its requests and {found.text}: run `registrar hall` anew, and give that text"
+            f"{after.path} is not what the hall gives of its requests and {found.text}: run `registrar hall` anew, and "
+            "give that text"
         )
 
 
 def replies(lines: Sequence[str]) -> List[str]:
-    """The lines, those of requests without the number of their stream, which follows from how many streams there were."""
+    """The lines, those of requests without the number of their stream."""
     return ["entry " + line.split(" ", 2)[2] if line.startswith("entry ") else line for line in lines]

@@ -1,4 +1,4 @@
-"""`lists`: what a school hands out, from the published text: students, rosters, sections, and a text for each student."""
+"""`lists`: what a school hands out, from the published text: students, rosters, sections, a text for each student."""
 
 from __future__ import annotations
 
@@ -10,14 +10,14 @@ from dataclasses import dataclass
 from typing import Callable, Dict, FrozenSet, Iterable, List, Optional, Sequence, Tuple
 
 from registrar import (
-    alone, explain, mails, manifest, own_names, program, published, reasons, register, run_market, sheet, streams, tables, tell,
-    work_log,
+    alone, explain, mails, manifest, own_names, program, published, reasons, register, run_market, sheet, streams,
+    tables, tell, work_log,
 )
 
 NAME = "lists"
 HELP = (
-    "write students.csv, rosters.csv, sections.csv and for each student a text and its own lines of the sessions, by the manifest; "
-    "the tables have the school's own spelling where names.csv stands beside the catalogue"
+    "write students.csv, rosters.csv, sections.csv and for each student a text and its own lines of the sessions, by "
+    "the manifest; the tables have the school's own spelling where names.csv stands beside the catalogue"
 )
 
 # What may be amiss with addresses, and is allowed by word alone.
@@ -28,7 +28,7 @@ BOOK = "lists.xlsx"
 
 @dataclass(frozen=True)
 class Ask:
-    """What the texts are made from: the manifest, the market, each student's lines, what it said, and where reasons are asked."""
+    """What the texts are made from: manifest, market, each student's lines, what it said, where reasons are asked."""
 
     found: manifest.Manifest
     market: reasons.Market
@@ -52,11 +52,16 @@ def add_arguments(parser: argparse.ArgumentParser) -> None:
     parser.set_defaults(takes_names=True)
     manifest.add_argument(parser)
     parser.add_argument("--out", default="lists", metavar="FOLDER", help="where the lists go (default: lists)")
-    parser.add_argument("--student", action="append", default=[], metavar="NAME", help="texts for these students alone; may be repeated")
-    parser.add_argument("--no-reasons", action="store_true", help="leave the program's reasons out of the texts, which takes less time")
+    parser.add_argument(
+        "--student", action="append", default=[], metavar="NAME", help="texts for these students alone; may be repeated"
+    )
+    parser.add_argument(
+        "--no-reasons", action="store_true", help="leave the program's reasons out of the texts, which takes less time"
+    )
     register.add_argument(parser)
     parser.add_argument(
-        "--mail", metavar="TEMPLATE", help="with --mapping: write a mail for each student as a file, mails/NAME.eml; nothing is sent"
+        "--mail", metavar="TEMPLATE",
+        help="with --mapping: write a mail for each student as a file, mails/NAME.eml; nothing is sent",
     )
     parser.add_argument(
         "--allow", action="append", default=[], choices=ALLOWED, metavar="KIND",
@@ -84,7 +89,8 @@ def run(arguments: argparse.Namespace) -> int:
     names = chosen(arguments.student, market)
     made = register.read_or_tell(arguments.mapping, found.catalogue, found.roll) if arguments.mapping else None
     post, mailed = post_of(arguments, made, names)
-    tables.refuse_over(targets(arguments.out, stems_of(market, names), stems_of(market, mailed)), read_by(arguments, found, made))
+    written = targets(arguments.out, stems_of(market, names), stems_of(market, mailed))
+    tables.refuse_over(written, read_by(arguments, found, made))
     tables.make_folder(os.path.join(arguments.out, "students"))
     own = market.own
     books = {
@@ -102,7 +108,8 @@ def run(arguments: argparse.Namespace) -> int:
         write_texts(arguments.out, ask, names, arguments.workers)
     warn_of_others(arguments.out, stems_of(market, market.students))
     texts = tell.count(len(names), "text", "texts")
-    tell.say(f"{arguments.out}: students.csv, rosters.csv, sections.csv, and {texts} in students/, each with the student's session")
+    made_of_each = f"{texts} in students/, each with the student's session"
+    tell.say(f"{arguments.out}: students.csv, rosters.csv, sections.csv, and {made_of_each}")
     if post is not None:
         none = f"; {len(names) - len(mailed)} without an address have none" if len(mailed) < len(names) else ""
         tell.say(f"{arguments.out}: {tell.count(len(mailed), 'mail', 'mails')} in mails/, which nobody has sent{none}")
@@ -142,7 +149,8 @@ def targets(folder: str, stems: Sequence[str], mailed: Sequence[str]) -> List[st
     """The files that are written: the texts of these students, and the mails of those."""
     texts = [os.path.join("students", name + ending) for name in stems for ending in (".txt", ".session")]
     posted = [os.path.join("mails", name + ".eml") for name in mailed]
-    return [os.path.join(folder, name) for name in ("students.csv", "rosters.csv", "sections.csv", BOOK, *texts, *posted)]
+    tables_of_all = ("students.csv", "rosters.csv", "sections.csv", BOOK)
+    return [os.path.join(folder, name) for name in (*tables_of_all, *texts, *posted)]
 
 
 def chosen(names: Sequence[str], market: reasons.Market) -> List[str]:
@@ -239,7 +247,7 @@ def write_texts(folder: str, ask: Ask, names: Sequence[str], workers: int) -> No
 
 
 def write_told(folder: str, stem: str, told: Told, session: bytes) -> None:
-    """Writes what a student is told under the name of its files: its text, what it said, and its mail, where it has one."""
+    """Writes what a student is told under its files' name: its text, what it said, and its mail, where it has one."""
     path = os.path.join(folder, "students", stem)
     tables.write_whole(path + ".txt", told.text.encode("utf-8"))
     tables.write_whole(path + ".session", session)
@@ -255,7 +263,8 @@ def warn_of_others(folder: str, names: Sequence[str]) -> None:
         there = sorted(os.listdir(path)) if os.path.isdir(path) else []
         others = [name for name in there if name.endswith(ending) and name not in wanted]
         if others:
-            tell.warn(f"warning: {path} has {tell.count(len(others), one, more)} of nobody on this roll, such as {others[0]}")
+            counted = tell.count(len(others), one, more)
+            tell.warn(f"warning: {path} has {counted} of nobody on this roll, such as {others[0]}")
 
 
 def told_of(ask: Ask, name: str) -> Told:
@@ -294,7 +303,8 @@ def student_text(ask: Ask, name: str, why: Sequence[str]) -> str:
     final = text.finals[name].sections
     spent = text.cost(final)
     lines = [market.student(name), ""]
-    lines.append(f"You have {market.listed(final)}: {own_names.credits_in_words(market.own, credits_of(market, final))}.")
+    credits = own_names.credits_in_words(market.own, credits_of(market, final))
+    lines.append(f"You have {market.listed(final)}: {credits}.")
     raised = ": the aftermarket raised the budgets" if spent > text.budgets[name] else ""
     lines.append(f"Your budget was {text.budgets[name]} tokens. What you have costs {spent}{raised}.")
     lines += ["", "Your sections:", ""] + section_lines(market, name, final)
@@ -355,13 +365,14 @@ def reason_lines(ask: Ask, room: alone.Room, name: str) -> List[str]:
     for section in better:
         reason = reason_of(ask, room, name, section)
         rating = ask.market.ratings[name][section]
-        lines += ["", f"  {ask.market.section(section)} (your rating {rating})", "  " + reasons.in_words(ask.market, reason)]
+        lines += ["", f"  {ask.market.section(section)} (your rating {rating})"]
+        lines.append("  " + reasons.in_words(ask.market, reason))
     alone.leave(room, name)
     return lines
 
 
 def reason_of(ask: Ask, room: alone.Room, name: str, section: str) -> reasons.Reason:
-    """The program's answer, in a market of the student alone where that has the student's budget, else in the whole one."""
+    """The program's answer, in a market of the student alone where its budget fits there, else in the whole one."""
     if ask.market.text.budgets[name] <= alone.MOST_BASE:
         answer = alone.explain(room, name, section)
     else:

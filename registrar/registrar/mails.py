@@ -1,8 +1,8 @@
-"""A mail for each student as a file, `.eml`, from a template with fields: it is sent by whoever opens it, and never from here.
+"""A mail for each student as a file, `.eml`, from a template with fields: whoever opens it sends it, nothing else does.
 
-A template has lines `From:`, `Subject:` and, if wished, `Reply-To:`, an empty line, and the text. Fields stand in braces, also
-in the subject. What a student is called can not become a line of the head: blanks and line ends in it are one blank, other
-control signs are a fault, and each mail is read back before it is written.
+A template has lines `From:`, `Subject:` and, if wished, `Reply-To:`, an empty line, and the text. Fields stand in
+braces, also in the subject. What a student is called can not become a line of the head: blanks and line ends in it are
+one blank, other control signs are a fault, and each mail is read back before it is written.
 """
 
 from __future__ import annotations
@@ -93,7 +93,8 @@ def look(template: Template, above: int, made: register.Register) -> None:
             made.faults.add(template.path, None, title, template.head[title], expected)
     for option in ("e-mail", "name"):
         if not made.has(option) and (option == "e-mail" or option in names_of(template)):
-            made.faults.add(made.mapping.path, None, f"[roll] {option}", "", f"the column of the {option}: a mail needs it")
+            expected = f"the column of the {option}: a mail needs it"
+            made.faults.add(made.mapping.path, None, f"[roll] {option}", "", expected)
 
 
 def names_of(template: Template) -> List[str]:
@@ -106,7 +107,7 @@ def names_of(template: Template) -> List[str]:
 
 
 def one_address(text: str) -> Tuple[str, str]:
-    """The name and the address of a text that is one address, with or without a name before it; else two empty texts."""
+    """The name and the address of a text that is one address, with a name or without; else two empty texts."""
     message = EmailMessage(policy=POLICY)
     try:
         message["From"] = text
@@ -124,7 +125,7 @@ def is_address(text: str) -> bool:
 
 
 def look_at_students(post: Post, names: Sequence[str], allowed: Sequence[str] = ()) -> List[str]:
-    """Who has a mail. Adds students without an address, with one that is none, with another's, and names with control signs.
+    """Who has a mail. Adds students without an address, with a wrong one or another's, and names with control signs.
 
     With `no-e-mail` allowed a student without an address has no mail, with `same-e-mail` two may have one address.
     """
@@ -174,7 +175,8 @@ def mail(post: Post, name: str, values: Mapping[str, Callable[[], str]], session
     head = [address_line(title, *who) for title, who in people.items()]
     # By the last line a mail program opens it as a draft.
     head += ["Subject: " + (subject if is_plain(subject) else encoded(subject)), "X-Unsent: 1"]
-    written = "".join(line + "\r\n" for line in head).encode("ascii") + body(text, session, f"{own_names.file_of(made.own, name)}.session")
+    attached = f"{own_names.file_of(made.own, name)}.session"
+    written = "".join(line + "\r\n" for line in head).encode("ascii") + body(text, session, attached)
     fault = read_back(written, {**people, "Subject": subject}, session)
     if fault:
         raise tell.Trouble(f"the mail of {name} is not written: read back, its {fault} is another")
@@ -182,7 +184,7 @@ def mail(post: Post, name: str, values: Mapping[str, Callable[[], str]], session
 
 
 def body(text: str, session: bytes, called: str) -> bytes:
-    """The text and what is attached, with their own heads. Its boundary follows from both, so that it is the same each time."""
+    """The text and what is attached, with their own heads. The boundary follows from both: it is the same each time."""
     message = EmailMessage(policy=POLICY)
     message.set_content(text, cte="quoted-printable")
     message.add_attachment(session, maintype="text", subtype="plain", filename=called)

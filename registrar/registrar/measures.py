@@ -103,7 +103,8 @@ def measured(found: manifest.Manifest, workers: int, audited: bool = True) -> Me
     if audited:
         answer = program.call(manifest.audit_words(found, str(workers)), tell.Life("auditing"))
         if answer.status == 8:
-            raise tell.Trouble(f"{found.text} does not hold: {answer.text.strip()} (`registrar check` says more)", answer.status)
+            told = f"{found.text} does not hold: {answer.text.strip()} (`registrar check` says more)"
+            raise tell.Trouble(told, answer.status)
         wishes.refuse(answer)
         envy = audit.read_audit(answer.lines)
     return Measured(found, market, wanted, best, envy)
@@ -127,7 +128,7 @@ def group(run: Measured, name: str, students: Sequence[str]) -> Group:
 
 
 def parted(groups: Dict[str, str], students: Sequence[str], least: int) -> Dict[str, List[str]]:
-    """The students of each group, groups in the order of their names; those of fewer than `least` are one group, the last."""
+    """The students of each group, groups in the order of their names; those of fewer than `least` are the last one."""
     found: Dict[str, List[str]] = {}
     for student in students:
         found.setdefault(groups.get(student) or BLANK, []).append(student)

@@ -8,10 +8,12 @@ from typing import Optional, Sequence, Tuple
 from registrar import plots
 
 STYLE = (
-    "body{font-family:sans-serif;color:#222;background:#fff;max-width:760px;margin:2em auto;padding:0 1em;line-height:1.4}"
+    "body{font-family:sans-serif;color:#222;background:#fff;max-width:760px;margin:2em auto;padding:0 1em}"
+    "body{line-height:1.4}"
     "table{border-collapse:collapse;margin:.5em 0 1.5em}caption{text-align:left;font-weight:bold;padding:.3em 0}"
     "td,th{border-bottom:1px solid #ccc;padding:.2em .8em;text-align:left;vertical-align:top}"
-    "td.n,th.n{text-align:right}figure{margin:1.5em 0}svg{max-width:100%;height:auto}tr,svg{break-inside:avoid}thead{display:table-header-group}"
+    "td.n,th.n{text-align:right}figure{margin:1.5em 0}svg{max-width:100%;height:auto}tr,svg{break-inside:avoid}"
+    "thead{display:table-header-group}"
     "@media print{body{margin:0;max-width:none}@page{size:A4;margin:18mm}}"
 )
 
@@ -23,7 +25,8 @@ def page(title: str, parts: Sequence[str], style: str = "", language: str = "en"
     """A whole page, `style` being added to the style of all pages."""
     return (
         f'<!DOCTYPE html>\n<html lang="{language}"><head><meta charset="utf-8"><title>{html.escape(title)}</title>'
-        f"<style>{STYLE}{style}</style></head>\n<body><h1>{html.escape(title)}</h1>\n" + "\n".join(parts) + "\n</body></html>\n"
+        f"<style>{STYLE}{style}</style></head>\n<body><h1>{html.escape(title)}</h1>\n"
+        + "\n".join(parts) + "\n</body></html>\n"
     )
 
 
@@ -46,7 +49,8 @@ def table(caption: str, header: Sequence[str], rows: Sequence[Sequence[object]])
     """A table; columns of numbers stand to the right."""
     right = [bool(rows) and all(is_number(row[at]) for row in rows) for at in range(len(header))]
     head = "".join(f'<th scope="col"{NUMBER * right[at]}>{html.escape(name)}</th>' for at, name in enumerate(header))
-    body = "".join("<tr>" + "".join(cell(row[at], at, right[at]) for at in range(len(header))) + "</tr>" for row in rows)
+    filled = ["".join(cell(row[at], at, right[at]) for at in range(len(header))) for row in rows]
+    body = "".join(f"<tr>{cells}</tr>" for cells in filled)
     named = f"<caption>{html.escape(caption)}</caption>" if caption else ""
     return f"<table>{named}<thead><tr>{head}</tr></thead><tbody>{body}</tbody></table>"
 

@@ -1,7 +1,7 @@
-"""What the school's own exports say of students and sections besides what the program takes: names, addresses, programmes, codes.
+"""What the school's own exports say besides what the program takes: names, addresses, programmes, codes of its system.
 
-It is read anew from the register and the timetable by the mapping wherever a list, a mail or a summary needs it. The program
-never sees it, and nothing of it is kept beside what is published.
+It is read anew from the register and the timetable by the mapping wherever a list, a mail or a summary needs it. The
+program never sees it, and nothing of it is kept beside what is published.
 """
 
 from __future__ import annotations
@@ -73,7 +73,7 @@ class Register:
         return self.students.text(student, column) if self.students and column else ""
 
     def by_column(self, title: str) -> Dict[str, str]:
-        """What stands in this column of the register, for each student of the roll; a fault where there is no such column."""
+        """What stands in this column of the register, for each student; a fault where there is no such column."""
         column = self.students.column(title) if self.students else None
         if self.students is None or column is None:
             return {}
@@ -84,12 +84,12 @@ def add_argument(parser: argparse.ArgumentParser, needed: bool = False) -> None:
     """The option by which a command takes a mapping."""
     parser.add_argument(
         "--mapping", metavar="FILE", required=needed,
-        help="the mapping of the import: names and e-mail addresses, as its [roll] has them, and the register's columns",
+        help="the mapping of the import: the register's columns, names and e-mail addresses as its [roll] has them",
     )
 
 
 def read(path: str, catalogue: str, roll: str, faults: Faults) -> Register:
-    """The register and the timetable of this mapping. A student of the roll or a section of the catalogue without a row is a fault."""
+    """The register and the timetable of this mapping. A student or a section without a row there is a fault."""
     try:
         mapping = read_mapping(path, faults)
     except OSError as error:
@@ -147,7 +147,7 @@ def read_or_tell(path: str, catalogue: str, roll: str) -> Register:
 
 
 def of_people(path: str, catalogue: str, roll: str, faults: Faults) -> Optional[Register]:
-    """The register, where the mapping names a column of names or addresses in [roll]; else nothing is read but the mapping."""
+    """The register, where the mapping's [roll] names a column of names or addresses; else nothing."""
     try:
         sources = read_mapping(path, Faults()).of_kind("roll")
     except OSError:

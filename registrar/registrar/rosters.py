@@ -1,4 +1,4 @@
-"""`rosters`: the roster as the school's own system imports it, and what drop and add changed, by a template in the mapping."""
+"""`rosters`: the roster as the school's own system imports it, and what drop and add changed, by the mapping."""
 
 from __future__ import annotations
 
@@ -39,14 +39,16 @@ class Row:
 def add_arguments(parser: argparse.ArgumentParser) -> None:
     """The options of `rosters`."""
     parser.description = (
-        f"{HELP}. Without --hall it is the roster of the published text. With --hall it is the roster after drop and add, and a second "
-        "file, `NAME-changes`, has the difference: first all drops, then all adds, so that no section has too many students at any row."
+        f"{HELP}. Without --hall it is the roster of the published text. With --hall it is the roster after drop and "
+        "add, and a second file, `NAME-changes`, has the difference: first all drops, then all adds, so that no "
+        "section has too many students at any row."
     )
     manifest.add_argument(parser)
     register.add_argument(parser, needed=True)
     parser.add_argument("--hall", metavar="FILE", help="hall.txt, as `registrar hall` wrote it")
     parser.add_argument(
-        "--since", metavar="FILE", help="with --hall: the hall.txt that the system has imported already (default: the published text)"
+        "--since", metavar="FILE",
+        help="with --hall: the hall.txt that the system has imported already (default: the published text)",
     )
     parser.add_argument("--into", metavar="FOLDER", help="where the files are written (default: the mapping's folder)")
     parser.add_argument("--replace", action="store_true", help="write over files that stand there and differ")
@@ -118,7 +120,7 @@ def rows_of(holds: Holds, action: str, template: Template) -> List[Row]:
 
 
 def changes(before: Holds, after: Holds, template: Template) -> List[Row]:
-    """First all drops, then all adds: behind the drops each student holds what it keeps, and each add leads nearer to the end."""
+    """First all drops, then all adds: behind the drops each student holds what it keeps, and no add passes the end."""
     had, has = seats_of(before), seats_of(after)
     drops = [Row(seat, template.word("drop")) for seat in template.in_order(had - has)]
     return drops + [Row(seat, template.word("add")) for seat in template.in_order(has - had)]
@@ -130,11 +132,13 @@ def told(folder: str, template: Template, now: Holds, difference: Optional[List[
     if difference is not None:
         drops = sum(row.action == template.word("drop") for row in difference)
         where = os.path.join(folder, changes_file(template.file))
-        lines.append(f"{where}: {tell.count(drops, 'drop', 'drops')}, then {tell.count(len(difference) - drops, 'add', 'adds')}")
+        adds = tell.count(len(difference) - drops, "add", "adds")
+        lines.append(f"{where}: {tell.count(drops, 'drop', 'drops')}, then {adds}")
     if template.formulas:
         lines.append(
-            f"{tell.count(template.formulas, 'cell begins', 'cells begin')} as a formula does (=, +, -, @) and is written as it stands: "
-            "the school's system takes it so; to look at it in a spreadsheet, import the columns as text"
+            f"{tell.count(template.formulas, 'cell begins', 'cells begin')} as a formula does (=, +, -, @) and is "
+            "written as it stands: the school's system takes it so; to look at it in a spreadsheet, import the "
+            "columns as text"
         )
     for table in (template.register.students, template.register.sections):
         if table is not None and table.strangers:
@@ -144,7 +148,7 @@ def told(folder: str, template: Template, now: Holds, difference: Optional[List[
 
 
 class Template:
-    """The file that [rosters] and [roster columns] describe. What is wrong with them, or blank, is added to the faults."""
+    """The file that [rosters] and [roster columns] describe. What is wrong with them, or blank, is a fault."""
 
     def __init__(self, made: register.Register, found: manifest.Manifest) -> None:
         self.register = made
@@ -191,7 +195,8 @@ class Template:
         """Finds what the fields of a column are filled with."""
         for _, name in fields.fields_of(text):
             if name in ("name", "e-mail") and not self.register.has(name):
-                self.fault(title, f"{{{name}}}", f"`{name} = COLUMN` in [roll], which names no column for it", "roster columns")
+                expected = f"`{name} = COLUMN` in [roll], which names no column for it"
+                self.fault(title, f"{{{name}}}", expected, "roster columns")
             self.values.setdefault(name, self.value_of(name))
 
     def value_of(self, name: str) -> Callable[[Row], str]:
@@ -221,7 +226,7 @@ class Template:
         return self.options[f"{action} word"]
 
     def in_order(self, seats: Set[Seat]) -> List[Seat]:
-        """The seats by section, in the catalogue's order, and by student, in that of the roll; or the other way round."""
+        """The seats by section, in the catalogue's order, and by student, in the roll's; or the other way round."""
         sections = {code: place for place, code in enumerate(self.sections)}
         places = {seat: (sections[seat[0]], self.places[seat[1]]) for seat in seats}
         by_student = self.options["rows by"] == "student"
@@ -245,7 +250,7 @@ class Template:
     def filled(self, rows: Sequence[Row]) -> Iterator[Tuple[str, ...]]:
         """The cells of the rows. A blank where none may be, or a row that another seat has too, is a fault."""
         for number, row in enumerate(rows, 1):
-            cells = tuple(fields.filled(text, lambda name: self.cell(name, row, number)) for text in self.columns.values())
+            cells = self.cells(row, number)
             for title, cell in zip(self.columns, cells):
                 self.formulas += cell.startswith(FORMULA)
                 if not cell.strip() and title not in self.blanks:
@@ -257,6 +262,10 @@ class Template:
                 self.fault("", "", f"columns that tell {self.seat(same)} and {self.seat(row)} apart", "roster columns")
             yield cells
 
+    def cells(self, row: Row, number: int) -> Tuple[str, ...]:
+        """The cells of one row."""
+        return tuple(fields.filled(text, lambda name: self.cell(name, row, number)) for text in self.columns.values())
+
     def cell(self, name: str, row: Row, number: int) -> str:
         """The value of a field in a row."""
         return str(number) if name == "number" else self.values[name](row)
@@ -264,4 +273,5 @@ class Template:
     def seat(self, row: Row) -> str:
         """A seat in words."""
         section, student = row.seat
-        return f"{own_names.spelt(self.register.own, 'student', student)} in {own_names.spelt(self.register.own, 'section', section)}"
+        own = self.register.own
+        return f"{own_names.spelt(own, 'student', student)} in {own_names.spelt(own, 'section', section)}"

@@ -1,8 +1,8 @@
 """How far a rank reaches on a roll, and the greatest spread at which no base reaches the next one.
 
-A budget is base, carry, and `spread` times the rank, which is 0 to the number of students less 1 (docs/FORMATS.md, "Draws"). The
-draw may give the highest rank to anybody: so a base is sure to stay below the next one where its greatest sum of base and carry,
-with the highest rank, is less than the least such sum of the next.
+A budget is base, carry, and `spread` times the rank, which is 0 to the number of students less 1 (docs/FORMATS.md,
+"Draws"). The draw may give the highest rank to anybody: so a base is sure to stay below the next one where its greatest
+sum of base and carry, with the highest rank, is less than the least such sum of the next.
 """
 
 from __future__ import annotations
@@ -60,10 +60,13 @@ def in_words(students: Sequence[tables.Student], spread: int) -> List[str]:
     last = len(students) - 1
     far = reach(students, spread)
     told = [
-        f"spread {spread}: of {len(students)} students the highest rank has {far} tokens more than the lowest ({spread} * {last})"
+        f"spread {spread}: of {len(students)} students the highest rank has {far} tokens more than the lowest "
+        f"({spread} * {last})"
     ]
     for base in bases:
-        sums = f"{base.least}" if base.least == base.greatest else f"{base.least} to {base.greatest} with what is carried over"
+        sums = f"{base.least}"
+        if base.least != base.greatest:
+            sums += f" to {base.greatest} with what is carried over"
         told.append(f"  base {base.tokens}, {base.students} students ({sums}): budgets up to {base.greatest + far}")
     for low, high in crossed(students, spread):
         told.append(f"  a student of base {low.tokens} may have more than one of base {high.tokens}")
@@ -79,5 +82,8 @@ def offer(students: Sequence[tables.Student]) -> List[str]:
     if best is not None:
         return [f"  the greatest spread at which the highest rank of a base stays below the next base: {best}"]
     gap = min(high.least - low.greatest for low, high in zip(bases, bases[1:]))
-    told = f"  no spread from 1 on keeps each base below the next: with 1 the highest rank has {len(students) - 1} tokens more"
-    return [f"{told}, and the nearest two are {gap} apart. Bases that are {len(students)} apart, carry counted, would allow 1"]
+    number = len(students)
+    return [
+        f"  no spread from 1 on keeps each base below the next: with 1 the highest rank has {number - 1} tokens more, "
+        f"and the nearest two are {gap} apart. Bases that are {number} apart, carry counted, would allow 1"
+    ]

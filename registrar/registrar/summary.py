@@ -1,4 +1,4 @@
-"""`summary`: one page of figures and plots from the published text, by the manifest; by groups of students; for a council."""
+"""`summary`: one page of figures and plots from the published text; by groups of students; for a council."""
 
 from __future__ import annotations
 
@@ -7,23 +7,29 @@ import statistics
 from typing import Dict, List, Sequence, Tuple
 
 from registrar import (
-    audit, compare, council, figures, manifest, measures, pages, plots, reasons, register, run_market, tables, tell, work_log,
+    audit, compare, council, figures, manifest, measures, pages, plots, reasons, register, run_market, tables, tell,
+    work_log,
 )
 
 NAME = "summary"
 HELP = (
-    "write a page of figures and plots, each with its table (HTML with SVG): seats, prices, errors, budgets, aftermarket, choices, "
-    "shares of the best bundle, envy; by any column of the register; or one page for a council in the school's own words"
+    "write a page of figures and plots, each with its table (HTML with SVG): seats, prices, errors, budgets, "
+    "aftermarket, choices, shares of the best bundle, envy; by any column of the register; or one page for a council "
+    "in the school's own words"
 )
 
 
 def add_arguments(parser: argparse.ArgumentParser) -> None:
     """The options of `summary`."""
     manifest.add_argument(parser)
-    parser.add_argument("--out", default="summary.html", metavar="FILE", help="where the page goes (default: summary.html)")
+    parser.add_argument(
+        "--out", default="summary.html", metavar="FILE", help="where the page goes (default: summary.html)"
+    )
     register.add_argument(parser)
     compare.add_groups(parser)
-    parser.add_argument("--council", metavar="WORDS", help="write the page that this text describes, in place of the whole summary")
+    parser.add_argument(
+        "--council", metavar="WORDS", help="write the page that this text describes, in place of the whole summary"
+    )
     parser.add_argument("--no-audit", action="store_true", help="leave envy out: `audit` checks the whole text first")
     run_market.add_workers(parser)
 
@@ -75,9 +81,10 @@ def page(run_of: measures.Measured, parts: Sequence[measures.Group], column: str
 
 
 EXPLAINED = (
-    "A share is the utility of what a student holds in the end, in percent of its best bundle if all prices were 0, by its own ratings "
-    "and adjustments; the column has the mean over the students who wished for something. A first choice is a section that the student "
-    "rated highest. What is spent is the sum of the prices of what is held, of which the aftermarket's raise may have paid a part."
+    "A share is the utility of what a student holds in the end, in percent of its best bundle if all prices were 0, "
+    "by its own ratings and adjustments; the column has the mean over the students who wished for something. A first "
+    "choice is a section that the student rated highest. What is spent is the sum of the prices of what is held, of "
+    "which the aftermarket's raise may have paid a part."
 )
 
 
@@ -142,7 +149,9 @@ def market_plots(run_of: measures.Measured) -> List[str]:
         pages.plot_with_table(plots.Axes("Seats used", told, "section", "percent"), fill),
         pages.plot_with_table(plots.Axes("Prices", dearest(dear), "section", "tokens"), dear),
         pages.plot_with_table(plots.Axes("Clearing error by stage", listed(errors), "stage", "error"), errors),
-        pages.plot_with_table(plots.Axes("Changes in the aftermarket", listed(passes), "pass", "turns that changed"), passes),
+        pages.plot_with_table(
+            plots.Axes("Changes in the aftermarket", listed(passes), "pass", "turns that changed"), passes
+        ),
     ]
 
 
@@ -158,7 +167,9 @@ def listed(items: Sequence[Tuple[str, float]]) -> str:
 
 def dearest(prices: List[Tuple[str, float]]) -> str:
     """The dearest section in words."""
-    return f"The dearest section, {prices[0][0]}, costs {prices[0][1]:g} tokens." if prices else "There are no sections."
+    if not prices:
+        return "There are no sections."
+    return f"The dearest section, {prices[0][0]}, costs {prices[0][1]:g} tokens."
 
 
 def student_plots(run_of: measures.Measured) -> List[str]:
@@ -183,7 +194,8 @@ def base_plot(run_of: measures.Measured) -> str:
     for name, student in run_of.market.students.items():
         bases.setdefault(student.budget, []).append(budgets[name])
     rows = [
-        (base, len(found), min(found), f"{statistics.median(found):g}", max(found)) for base, found in sorted(bases.items())
+        (base, len(found), min(found), f"{statistics.median(found):g}", max(found))
+        for base, found in sorted(bases.items())
     ]
     items = [(str(base), float(statistics.median(found))) for base, found in sorted(bases.items())]
     told = "; ".join(f"base {base}: {least} to {most} tokens" for base, _, least, _, most in rows)

@@ -1,6 +1,7 @@
-"""`trial`: what if a section had more seats, the spread or the raise were another, or the seed? Each variant of a file is run.
+"""`trial`: what if a section had more seats, or the spread, the raise or the seed were another? Each variant is run.
 
-No trial is a run that anybody is told of: its manifest says that it is one, and `lists`, `hall`, `next` and `rosters` refuse it.
+No trial is a run that anybody is told of: its manifest says that it is one, and `lists`, `hall`, `next` and `rosters`
+refuse it.
 All trials hear the same commands in the same order, so that they differ by their variants alone.
 """
 
@@ -12,8 +13,8 @@ from dataclasses import dataclass
 from typing import Callable, Dict, List, Optional, Sequence, Tuple
 
 from registrar import (
-    at_work, compare, manifest, measures, own_names, pages, plots, program, published, register, run_market, streams, tables, tell,
-    try_settings, variants, whole, work_log,
+    at_work, compare, manifest, measures, own_names, pages, plots, program, published, register, run_market, streams,
+    tables, tell, try_settings, variants, whole, work_log,
 )
 from registrar.faults import Faults
 from registrar.spelling import spelt
@@ -52,12 +53,14 @@ class Trial:
 def add_arguments(parser: argparse.ArgumentParser) -> None:
     """The words of `trial`."""
     parser.description = (
-        f"{HELP}. VARIANTS is a text with a section for each variant, as `[more seats]` and below it `seats ACCT_101_A = 30`, `spread "
-        "= 3`, `raise = 0`, `turns = 200`, `accept = 40` or `seed = 1, 2, 3` (three trials). The run is that of --manifest, or, before "
-        "there is one, of the files that are given."
+        f"{HELP}. VARIANTS is a text with a section for each variant, as `[more seats]` and below it `seats ACCT_101_A "
+        "= 30`, `spread = 3`, `raise = 0`, `turns = 200`, `accept = 40` or `seed = 1, 2, 3` (three trials). The run "
+        "is that of --manifest, or, before there is one, of the files that are given."
     )
     parser.add_argument("variants", metavar="VARIANTS")
-    parser.add_argument("files", metavar="FILE", nargs="*", help="CATALOGUE ROLL SETTINGS SESSION.., in place of a manifest's")
+    parser.add_argument(
+        "files", metavar="FILE", nargs="*", help="CATALOGUE ROLL SETTINGS SESSION.., in place of a manifest's"
+    )
     manifest.add_argument(parser)
     register.add_argument(parser)
     compare.add_groups(parser)
@@ -107,13 +110,15 @@ def base_of(arguments: argparse.Namespace) -> Base:
 
 def refuse_standing(arguments: argparse.Namespace, base: Base) -> None:
     """Refuses a folder that has something already, but with --replace; and one that has a file which is read."""
-    read = [("catalogue", base.catalogue), ("roll", base.roll), ("settings file", base.settings), ("file of variants", arguments.variants)]
+    read = [("catalogue", base.catalogue), ("roll", base.roll), ("settings file", base.settings)]
+    read.append(("file of variants", arguments.variants))
     read += manifest.files_read(base.found) if base.found else []
     read += [("session", path) for path in arguments.files[3:]]
     here = os.path.abspath(arguments.into)
     inside = [(what, path) for what, path in read if os.path.dirname(os.path.abspath(path)) == here]
     if inside:
-        raise tell.Trouble(f"--into: {arguments.into} has the {inside[0][0]} {inside[0][1]}: give the trials a folder of their own", tell.USAGE)
+        told = f"--into: {arguments.into} has the {inside[0][0]} {inside[0][1]}: give the trials a folder of their own"
+        raise tell.Trouble(told, tell.USAGE)
     there = set(os.listdir(arguments.into)) if os.path.isdir(arguments.into) else set()
     if not arguments.replace and there - {at_work.FILE, work_log.FILE}:
         raise tell.Trouble(f"{arguments.into} has files already: give another --into, or --replace")
@@ -124,7 +129,8 @@ def foresee(base: Base, wanted: Sequence[variants.Variant]) -> None:
     trials = tell.count(len(wanted), "trial", "trials")
     if base.found and base.found.elapsed:
         about = tell.seconds(base.found.elapsed * len(wanted))
-        tell.warn(f"{trials}; the run took {tell.seconds(base.found.elapsed)}, so all of them about {about} if each takes as long")
+        took = tell.seconds(base.found.elapsed)
+        tell.warn(f"{trials}; the run took {took}, so all of them about {about} if each takes as long")
     else:
         tell.warn(trials)
 
@@ -135,10 +141,11 @@ def folder_of(into: str, number: int, variant: variants.Variant) -> str:
 
 
 def first_of(base: Base, arguments: argparse.Namespace) -> Trial:
-    """The run that the trials are compared with: that of the manifest, or the files as they are, which are run as a trial too."""
+    """The run that the trials are compared with: that of the manifest, or the files as they are, run as a trial too."""
     nothing = variants.Variant(BASE, {}, {})
     if base.found:
-        return Trial(nothing, "", base.found.elapsed, measures.measured(base.found, arguments.workers, not arguments.no_audit))
+        run_of = measures.measured(base.found, arguments.workers, not arguments.no_audit)
+        return Trial(nothing, "", base.found.elapsed, run_of)
     return tried(base, nothing, folder_of(arguments.into, 0, nothing), arguments, tell.Life(BASE))
 
 
@@ -174,7 +181,7 @@ def put_inputs(base: Base, variant: variants.Variant, folder: str) -> Tuple[str,
 
 
 def run_into(words: Sequence[str], text: str, trial: str, life: tell.Life) -> Tuple[program.Answer, Optional[int]]:
-    """Runs these words to a text, before which its manifest has its name, with the mark of a trial. The least error of status 5."""
+    """Runs these words to a text, before which its manifest stands, with the mark; the least error of status 5."""
     path = manifest.beside(text)
     for old in (text, path):
         if os.path.exists(old):
@@ -193,7 +200,10 @@ def run_into(words: Sequence[str], text: str, trial: str, life: tell.Life) -> Tu
     return answer, None
 
 
-HEADER = ("trial", "what is other", "time", "error", "seats", "without", "first choice", "share", "spent", "envious", "gained", "lost")
+HEADER = (
+    "trial", "what is other", "time", "error", "seats", "without", "first choice", "share", "spent", "envious",
+    "gained", "lost",
+)  # fmt: skip
 
 
 def rows_of(trials: Sequence[Trial]) -> List[Tuple[str, ...]]:
@@ -201,7 +211,8 @@ def rows_of(trials: Sequence[Trial]) -> List[Tuple[str, ...]]:
     first = trials[0].run
     rows = []
     for trial in trials:
-        begin = (trial.variant.name, trial.variant.in_words() if trial.variant.name != BASE else "", tell.seconds(trial.elapsed))
+        other = trial.variant.in_words() if trial.variant.name != BASE else ""
+        begin = (trial.variant.name, other, tell.seconds(trial.elapsed))
         if trial.run is None:
             rows.append((*begin, f"no prices: least {trial.least}", *[""] * (len(HEADER) - 4)))
             continue
@@ -211,8 +222,8 @@ def rows_of(trials: Sequence[Trial]) -> List[Tuple[str, ...]]:
         seats = f"{whole.seats} of {sum(one.seats for one in text.used.values())}"
         envious = "" if whole.envious is None else str(whole.envious)
         rows.append((
-            *begin, str(text.error), seats, str(whole.without), str(whole.first), pages.percent(whole.mean_share), str(whole.spent),
-            envious, *counts,
+            *begin, str(text.error), seats, str(whole.without), str(whole.first), pages.percent(whole.mean_share),
+            str(whole.spent), envious, *counts,
         ))  # fmt: skip
     return rows
 
@@ -220,7 +231,8 @@ def rows_of(trials: Sequence[Trial]) -> List[Tuple[str, ...]]:
 def counted(one: measures.Measured, other: measures.Measured) -> Tuple[str, str]:
     """How many students gained and lost."""
     changes = compare.beside(one, other).changes.values()
-    return str(sum(each.what == compare.GAINED for each in changes)), str(sum(each.what == compare.LOST for each in changes))
+    gained, lost = (sum(each.what == what for each in changes) for what in (compare.GAINED, compare.LOST))
+    return str(gained), str(lost)
 
 
 def group_rows(trials: Sequence[Trial], groups: Dict[str, str], least: int) -> List[Tuple[str, ...]]:
@@ -247,16 +259,18 @@ def tell_all(trials: Sequence[Trial], groups: Dict[str, str], arguments: argpars
         tell.say()
         for line in tell.table(header, body):
             tell.say(line)
-    tell.say(f"{arguments.into}: {PAGE}, {TABLE}, and {tell.count(len(trials) - 1, 'trial', 'trials')}, which `lists` refuses")
+    made = tell.count(len(trials) - 1, "trial", "trials")
+    tell.say(f"{arguments.into}: {PAGE}, {TABLE}, and {made}, which `lists` refuses")
     return 0
 
 
 def page(trials: Sequence[Trial], rows: Sequence[Tuple[str, ...]], groups: Dict[str, str], least: int) -> str:
     """The page: the table, and a plot of each figure, with its table."""
     text = (
-        "Each row is a trial: the same wishes in the same order, and one thing other. Nobody has these seats. Shares are the utility of "
-        "what a student holds in the end, in percent of its best bundle if all prices were 0. Who gained and who lost is told by the own "
-        f"ratings, beside the run '{BASE}'. Another seed alone moves some students; only what is greater than that is the variant's doing."
+        "Each row is a trial: the same wishes in the same order, and one thing other. Nobody has these seats. Shares "
+        "are the utility of what a student holds in the end, in percent of its best bundle if all prices were 0. Who "
+        f"gained and who lost is told by the own ratings, beside the run '{BASE}'. Another seed alone moves some "
+        "students; only what is greater than that is the variant's doing."
     )
     parts = [pages.paragraph(text), pages.table("Trials", HEADER, rows)]
     if groups:

@@ -12,7 +12,10 @@ from typing import Dict, List, Optional, Sequence, Tuple
 from registrar import before_run, program, published, run_market, ranges, spread, tables, tell, work_log
 
 NAME = "settings"
-HELP = "say how far a rank reaches, try values of accept and turns, show what each gives, and write the settings that are chosen"
+HELP = (
+    "say how far a rank reaches, try values of accept and turns, show what each gives, and write the settings that "
+    "are chosen"
+)
 
 # The greatest values of both settings (docs/FORMATS.md, "Settings").
 MOST_TURNS = 10_000
@@ -40,18 +43,23 @@ def add_arguments(parser: argparse.ArgumentParser) -> None:
     run_market.add_market(parser)
     run_market.add_workers(parser)
     parser.add_argument(
-        "--turns", type=ranges.wholes(0, MOST_TURNS), metavar="N,N,..", help="the numbers of turns to try (default: that of SETTINGS)"
+        "--turns", type=ranges.wholes(0, MOST_TURNS), metavar="N,N,..",
+        help="the numbers of turns to try (default: that of SETTINGS)",
     )
     parser.add_argument(
         "--accept", type=ranges.wholes(0, MOST_ACCEPT), default=[], metavar="N,N,..",
         help="errors to try besides the least that a search sees with accept 0",
     )
     parser.add_argument(
-        "--spread", type=ranges.whole(0, spread.MOST_SPREAD), metavar="N", help="try, and write, with this spread in place of that of SETTINGS"
+        "--spread", type=ranges.whole(0, spread.MOST_SPREAD), metavar="N",
+        help="try, and write, with this spread in place of that of SETTINGS",
     )
-    parser.add_argument("--write", metavar="FILE", help="write the settings of the row of least error, or those of --take, to FILE")
     parser.add_argument(
-        "--take", nargs=2, type=ranges.whole(0, MOST_ACCEPT), metavar=("TURNS", "ACCEPT"), help="try nothing: write these two and the rest of SETTINGS"
+        "--write", metavar="FILE", help="write the settings of the row of least error, or those of --take, to FILE"
+    )
+    parser.add_argument(
+        "--take", nargs=2, type=ranges.whole(0, MOST_ACCEPT), metavar=("TURNS", "ACCEPT"),
+        help="try nothing: write these two and the rest of SETTINGS",
     )
 
 
@@ -101,7 +109,8 @@ def tell_spread(roll: str, value: object) -> None:
 
 def read_beside(arguments: argparse.Namespace) -> List[Tuple[str, str]]:
     """What is read besides the settings, which may be written anew."""
-    return [("catalogue", arguments.catalogue), ("roll", arguments.roll)] + [("session", path) for path in arguments.sessions]
+    sessions = [("session", path) for path in arguments.sessions]
+    return [("catalogue", arguments.catalogue), ("roll", arguments.roll), *sessions]
 
 
 def try_turns(arguments: argparse.Namespace, settings: Dict[str, object], turns: int, trials: List[Trial]) -> int:
@@ -167,7 +176,8 @@ def choose(arguments: argparse.Namespace, settings: Dict[str, object], trials: S
     if arguments.write:
         write(arguments.write, settings, best.turns, best.accept)
     else:
-        tell.say(f"the least error: --take {best.turns} {best.accept}, with --write FILE and the same words, writes these settings")
+        taken = f"--take {best.turns} {best.accept}"
+        tell.say(f"the least error: {taken}, with --write FILE and the same words, writes these settings")
     return 0
 
 

@@ -75,7 +75,8 @@ class Reader:
             return []
         found = [variant for title in parsed.sections() for variant in self.variants(tidy(title), dict(parsed[title]))]
         if not found and not self.faults:
-            self.faults.add(self.path, None, "", "", "a variant, as `[more seats]` and below it `seats ACCT_101_A = 30`")
+            expected = "a variant, as `[more seats]` and below it `seats ACCT_101_A = 30`"
+            self.faults.add(self.path, None, "", "", expected)
         if len(found) > MOST_TRIALS:
             self.faults.add(self.path, None, "", f"{len(found)} trials", f"at most {MOST_TRIALS} trials")
         return found
@@ -88,7 +89,8 @@ class Reader:
             name = self.codes.get(tidy(section), tidy(section))
             if word == "seats" and section:
                 if name in self.seats:
-                    values[f"seats {name}"] = [self.seats_of(title, option, one, self.seats[name]) for one in parts(text)]
+                    now = self.seats[name]
+                    values[f"seats {name}"] = [self.seats_of(title, option, one, now) for one in parts(text)]
                 else:
                     self.fault(title, option, section, f"a section of the catalogue{near(name, self.seats)}")
             elif option in RANGES:

@@ -1,4 +1,4 @@
-"""What students want, as the program tells it: their ratings and adjustments at the end, and what these make bundles worth."""
+"""What students want, as the program tells it: ratings and adjustments at the end, and what bundles are worth."""
 
 from __future__ import annotations
 
