@@ -167,12 +167,13 @@ def row_of(number: int, trial: Trial) -> Sequence[object]:
 
 
 def choose(arguments: argparse.Namespace, settings: Dict[str, object], trials: Sequence[Trial]) -> int:
-    """Writes the settings of the row of least error, or says how to."""
+    """Writes the settings of the row of least error, or says how to. Of equal ones that of most turns: a search ends with the first
+    prices that it accepts, whatever turns it has left."""
     with_prices = [one for one in trials if one.error is not None]
     if not with_prices:
         tell.say("no row has prices: give more turns, or an --accept of at least the least error")
         return tell.FAULTS
-    best = min(with_prices, key=lambda one: (one.error, one.elapsed))
+    best = min(with_prices, key=lambda one: (one.error, -one.turns, one.accept))
     if arguments.write:
         write(arguments.write, settings, best.turns, best.accept)
     else:

@@ -213,13 +213,17 @@ def choice_rows(school: School) -> list[list[str]]:
 
 
 def request_rows(school: School) -> list[list[str]]:
-    """What a few students ask for after publication, by a form."""
+    """What six students ask for after publication, by a form: another section of the course that they rated highest."""
     draw = random.Random(len(school.students))
-    rows = [["Timestamp", "Student ID", "Request", "Section"]]
-    for at, one in enumerate(draw.sample(school.students, min(12, len(school.students)))):
-        code = draw.choice(sorted(one.ratings))
-        rows.append([f"2026-12-01 09:{at:02d}", one.number, ("Add", "Add", "Drop")[at % 3], code])
-    return rows
+    course_of = {section.code: section.course for section in school.sections}
+    asked: list[tuple[str, str, str]] = []
+    for one in draw.sample(school.students, min(6, len(school.students))):
+        best = max(sorted(one.ratings), key=lambda code: one.ratings[code])
+        others = [code for code in course_of if code != best]
+        others = [code for code in others if course_of[code] == course_of[best]] or others
+        asked += [(one.number, "Drop", best), (one.number, "Add", draw.choice(others))]
+    rows = [[f"2026-12-01 09:{at:02d}", *words] for at, words in enumerate(asked)]
+    return [["Timestamp", "Student ID", "Request", "Section"], *rows]
 
 
 def text_of(rows: list[list[str]], separator: str, end: str = "\r\n") -> str:
