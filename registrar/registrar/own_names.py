@@ -25,7 +25,7 @@ UNIT, CREDIT, MEETINGS = "unit", "credit", "meetings"
 # By what names the files of students with drawn names are called: those that they would have without.
 OWN_FILES = "own files"
 
-# Of more names that begin with the same letters none is named.
+# Of more names that begin with the same letters the others are counted.
 MOST_MEANT = 5
 
 
@@ -139,19 +139,21 @@ def meant(own: Own, kind: str, word: str) -> str:
 def nearest(own: Own, kind: str, word: str, names: Iterable[str]) -> str:
     """`; nearest: ÖKON 101`: whom or what a word that is nobody's name may mean, in the school's own spelling.
 
-    Where it is the beginning of a few names, these. Nothing where none is near.
+    Where it is the beginning of some names, these. Nothing where none is near.
     """
     known = list(names)
     letters = letters_of(word)
     spellings = [(name, {letters_of(spelt(own, kind, name)), letters_of(name)}) for name in known]
     found = [name for name, all_letters in spellings if letters in all_letters]
-    if not found and letters:
+    if not found and len(letters) > 1:
         found = [name for name, all_letters in spellings if any(one.startswith(letters) for one in all_letters)]
-    if not 0 < len(found) <= MOST_MEANT:
+    if not found:
         by_spelling = {spelt(own, kind, name): name for name in known}
         near = by_spelling.get(Meant(by_spelling).near(word)) or Meant(known).near(word)
         found = [near] if near else []
-    return f"; nearest: {', '.join(shown(own, kind, name) for name in found)}" if found else ""
+    more = [f"and {len(found) - MOST_MEANT} more"] if len(found) > MOST_MEANT else []
+    told = [*(shown(own, kind, name) for name in found[:MOST_MEANT]), *more]
+    return f"; nearest: {', '.join(told)}" if found else ""
 
 
 def shown(own: Own, kind: str, name: str) -> str:

@@ -6,7 +6,7 @@ import shutil
 import unittest
 from unittest import mock
 
-from registrar import audit, explain, findings, manifest, program, reasons, tell
+from registrar import audit, explain, findings, manifest, own_names, program, reasons, tell
 from tests.support import IN_SPITE, SCARCE_WORDS, TERM, InFolder, call, needs_program
 
 FILES = ["catalogue.csv", "roll.csv", "settings.json", "published.txt", "a.session", "b.session"]
@@ -188,6 +188,9 @@ class Explain(InFolder):
             self.assertEqual(told.status, 9)
             self.assertIn(f"has the name '{word}'. Capital letters count; nearest: ÖKON 101 (X)\n", told.err)
         self.assertIn("nearest: Émile (u)", call("explain", "Emile", "X").err)
+        many = {f"O{number}": f"ÖKON {number}" for number in range(1, 8)}
+        hint = own_names.nearest({"section": many}, "section", "OKON", many)
+        self.assertEqual(hint, "; nearest: ÖKON 1 (O1), ÖKON 2 (O2), ÖKON 3 (O3), ÖKON 4 (O4), ÖKON 5 (O5), and 2 more")
         told = call("explain", "Émile", "ÖKON 101")
         self.assertEqual(told.status, 0)
         self.assertRegex(told.out, "(You have ÖKON 101|ÖKON 101 costs)")
