@@ -13,8 +13,8 @@ from dataclasses import dataclass
 from typing import Callable, Dict, List, Optional, Sequence, Tuple
 
 from registrar import (
-    at_work, compare, manifest, measures, own_names, pages, plots, program, published, register, run_market, streams,
-    tables, tell, try_settings, variants, whole, work_log,
+    at_work, compare, manifest, measures, own_names, pages, plots, program, pseudonyms, published, register, run_market,
+    streams, tables, tell, try_settings, variants, whole, work_log,
 )
 from registrar.faults import Faults
 from registrar.spelling import spelt
@@ -170,14 +170,24 @@ def put_inputs(base: Base, variant: variants.Variant, folder: str) -> Tuple[str,
         header, *records = [one.fields for one in tables.records(base.catalogue)]
         rows = [(*fields[:2], variant.seats.get(fields[0], fields[2]), *fields[3:]) for fields in records]
         tables.write_whole(catalogue, tables.csv_text([header, *rows]).encode())
-        names = os.path.join(os.path.dirname(base.catalogue), own_names.FILE)
-        if os.path.exists(names):
-            tables.write_whole(os.path.join(folder, own_names.FILE), tables.read_bytes(names))
+        put_names(os.path.dirname(base.catalogue), folder)
     if variant.settings:
         settings = os.path.join(folder, "settings.json")
         values = {**tables.read_settings(base.settings), **variant.settings}
         try_settings.write_settings(settings, values, values["turns"], values["accept"])
     return catalogue, settings
+
+
+def put_names(beside: str, folder: str) -> None:
+    """Puts the `names.csv` of the run's catalogue beside that of a trial, which finds the key of drawn names too."""
+    path = os.path.join(beside, own_names.FILE)
+    if not os.path.exists(path):
+        return
+    rows = [[tables.unguarded(cell) for cell in one.fields] for one in tables.records(path)]
+    for row in rows:
+        if row[0] == pseudonyms.KIND:
+            row[1] = os.path.relpath(os.path.join(beside, row[1]), folder).replace(os.sep, "/")
+    tables.write_csv(os.path.join(folder, own_names.FILE), rows)
 
 
 def run_into(words: Sequence[str], text: str, trial: str, life: tell.Life) -> Tuple[program.Answer, Optional[int]]:

@@ -10,7 +10,7 @@ import unittest
 import xml.etree.ElementTree
 from unittest import mock
 
-from registrar import program, tell
+from registrar import own_names, program, tell, trial
 from tests.support import SCARCE_WORDS, InFolder, call, needs_program
 
 VARIANTS = (
@@ -128,6 +128,26 @@ class Trials(WithRun):
         found = [line.split() for line in told.out.splitlines()]
         self.assertIn(["trial", "1", "2", "all"], found)
         self.assertIn(["more", "<seats>", *["100.0", "%"] * 3], found)
+
+
+class Names(InFolder):
+    """The school's own spelling goes with a trial's catalogue."""
+
+    def test_names_and_the_key_of_drawn_ones(self) -> None:
+        os.makedirs("office")
+        os.makedirs("term/trials/01")
+        self.put("office/pseudonyms.csv", "student,name,pseudonym\n0012,0012,abcdefgh\n")
+        self.put(
+            "term/names.csv",
+            "kind,original,name\nsection,'=X(),X\nunit,0.5,credit\npseudonyms,../office/pseudonyms.csv,student\n",
+        )
+        trial.put_names("term", "term/trials/01")
+        self.assertEqual(own_names.read("term/trials/01/names.csv"), {
+            **own_names.read("term/names.csv"), "pseudonyms": {"student": "../../../office/pseudonyms.csv"},
+        })  # fmt: skip
+        self.assertEqual(own_names.spelt(own_names.read("term/trials/01/names.csv"), "section", "X"), "=X()")
+        trial.put_names("office", "term/trials")
+        self.assertFalse(os.path.exists("term/trials/names.csv"))
 
 
 @needs_program
