@@ -26,7 +26,8 @@ class Archive(unittest.TestCase):
         for words in (["init", "-q"], ["add", "-A"], ["-c", "user.name=a", "-c", "user.email=a@b", "commit", "-qm", "all"]):
             subprocess.run(["git", *words], cwd=self.top, check=True)
         (self.top / "page/out").mkdir()
-        (self.top / "page/out/course-match.html").write_text("a page")
+        for name in ("course-match.html", "course-match.wasm"):
+            (self.top / "page/out" / name).write_text("a page")
         origin = {"commit": "1234567", "kit": "a kit", "proved": False, "module": "0" * 64, "page": "0" * 64}
         (self.top / "page/out/course-match.json").write_text(json.dumps(origin))
         (self.top / "program").write_text("#!/bin/sh\n")
