@@ -226,7 +226,8 @@ class NoProgram(InFolder):
 
     def test_a_text_that_does_not_hold(self) -> None:
         """What was written is checked before it takes the text's name; the finding is told."""
-        self.other('case "$1" in run) echo course-match 1;; check) echo "finding: line 2 missing"; exit 8;; esac')
+        answers = 'run) echo course-match 1;; check) echo "finding: line 2 missing"; exit 8;; *) exit 3;;'
+        self.other(f'case "$1" in {answers} esac')
         told = call("run", *SCARCE_WORDS)
         self.assertEqual((told.status, told.err.splitlines()), (tell.FAULTS, [
             "what the run wrote does not hold, and is not kept: run again",
