@@ -85,6 +85,8 @@ def run(arguments: argparse.Namespace) -> int:
     register.refuse(faults, arguments.mapping)
     takes_all = "lost-seat" in arguments.allow
     settled = swaps.Settled(tuple(asked), answer, ()) if takes_all else swaps.settle(found, asked, answer)
+    if settled.answer.status:
+        return tell_refusal(found, settled.answer)
     return written(arguments, found, settled, people)
 
 

@@ -4,7 +4,7 @@ from __future__ import annotations
 
 import os
 import tempfile
-from typing import Iterable, List, Sequence
+from typing import Iterable, List, Optional, Sequence
 
 from registrar import findings, manifest, program, published, tables, tell
 from registrar.forms import Request
@@ -21,12 +21,12 @@ def as_stream(asked: Iterable[Request]) -> str:
     return HEAD + "".join(request.line + "\n" for request in asked)
 
 
-def ask(found: manifest.Manifest, text: str) -> program.Answer:
-    """Calls `hall` of the program with one stream."""
+def ask(found: manifest.Manifest, text: str, life: Optional[tell.Life] = None) -> program.Answer:
+    """Calls `hall` of the program with one stream; `life` is the line of life of a command that calls it often."""
     with tempfile.TemporaryDirectory() as folder:
         path = os.path.join(folder, "hall.requests")
         tables.write_whole(path, text.encode("utf-8", "replace"))
-        return program.call(manifest.hall_words(found, [path]), tell.Life("taking requests"))
+        return program.call(manifest.hall_words(found, [path]), life or tell.Life("taking requests"))
 
 
 def replies_of(lines: Sequence[str]) -> List[str]:

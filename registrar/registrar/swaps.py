@@ -10,7 +10,7 @@ from __future__ import annotations
 from dataclasses import dataclass
 from typing import Dict, List, Sequence, Tuple
 
-from registrar import hall_desk, manifest, own_names, program
+from registrar import hall_desk, manifest, own_names, program, tell
 from registrar.forms import Request
 
 @dataclass(frozen=True)
@@ -45,19 +45,25 @@ class Settled:
 def settle(found: manifest.Manifest, asked: Sequence[Request], answer: program.Answer) -> Settled:
     """Leaves out each swap that would lose a seat, the first one first; `answer` is the answer to all requests.
 
+    Where the program ends with another status than 0, the answer has it.
+
     Each time the program is asked anew: where a swap is left out its seat is not free, and others wait further in
     front. So two students who exchange their seats both stay in, and whoever would lose a seat by it is left out in
     turn.
     """
     kept = tuple(asked)
     left_out: Tuple[Swap, ...] = ()
+    life = tell.Life("")
     while True:
-        loser = next((swap for swap in swaps_of(kept, hall_desk.replies_of(answer.lines)) if swap.loses()), None)
+        found_now = [] if answer.status else swaps_of(kept, hall_desk.replies_of(answer.lines))
+        loser = next((swap for swap in found_now if swap.loses()), None)
         if loser is None:
             return Settled(kept, answer, left_out)
         left_out += (loser,)
         kept = tuple(request for request in kept if request not in (loser.drop, loser.add))
-        answer = hall_desk.ask(found, hall_desk.as_stream(kept))
+        life.what = f"looking for swaps that would lose a seat: {len(left_out)} found"
+        life.tick()
+        answer = hall_desk.ask(found, hall_desk.as_stream(kept), life)
 
 
 def swaps_of(asked: Sequence[Request], replies: Sequence[str]) -> List[Swap]:
