@@ -9,7 +9,7 @@ import argparse
 from collections import Counter
 from typing import List
 
-from registrar import look, program, tell
+from registrar import look, program, tables, tell
 
 #: The kinds that stop a run.
 STOPPING = ("export", "empty", "twice", "few-wishes", "two-sessions", "close")
@@ -31,13 +31,19 @@ def add_argument(parser: argparse.ArgumentParser) -> None:
 
 
 def found_in(arguments: argparse.Namespace) -> List[look.Finding]:
-    """What stops a run of these files; nothing where the program refuses them, since it says itself why."""
+    """What stops a run of these files.
+
+    Nothing where the program refuses them or does not answer each command: the run itself says why.
+    """
     words = ["prefer", arguments.catalogue, arguments.roll, *arguments.sessions]
     answer = program.call(words, tell.Life("looking at the commands"))
     if answer.status:
         return []
     is_one = len(arguments.sessions) == 1
-    found = look.findings(look.read(arguments, answer.lines))
+    seen = look.read(arguments, answer.lines)
+    if len(seen.entries) != sum(map(len, tables.read_sessions(arguments.sessions))):
+        return []
+    found = look.findings(seen)
     return [one for one in found if one.kind in STOPPING and not (is_one and one.kind in OF_ORDER)]
 
 
