@@ -28,11 +28,18 @@ def there() -> Dict[str, str]:
     return {**os.environ, "PYTHONPATH": path, "PYTHONDONTWRITEBYTECODE": "1", "COURSE_MATCH_PROGRAM": program.find_program()}
 
 
+def heed_all() -> None:
+    """Lets each signal end the process that is started: under `nohup`, or behind `&`, some are passed over."""
+    for number in (signal.SIGTERM, signal.SIGHUP, signal.SIGINT, signal.SIGQUIT, signal.SIGUSR1):
+        signal.signal(number, signal.SIG_DFL)
+
+
 def start(*words: str) -> subprocess.Popen[str]:
     """Starts a command as a process of its own."""
     return subprocess.Popen(
-        [sys.executable, "-m", "registrar", *words], env=there(), stdout=subprocess.PIPE, stderr=subprocess.PIPE, universal_newlines=True
-    )
+        [sys.executable, "-m", "registrar", *words], env=there(), stdout=subprocess.PIPE, stderr=subprocess.PIPE,
+        universal_newlines=True, preexec_fn=heed_all,
+    )  # fmt: skip
 
 
 def child_of(process: subprocess.Popen[str]) -> Optional[int]:
@@ -73,6 +80,7 @@ class AtOnce(InFolder):
     def begun(self, *words: str) -> tuple[subprocess.Popen[str], int]:
         """A run that was started, and the program that it has called."""
         process = start("run", *TERM_WORDS, "--workers", "1", *words)
+        self.addCleanup(process.kill)
         until = time.monotonic() + PATIENCE
         while time.monotonic() < until:
             child = child_of(process)
