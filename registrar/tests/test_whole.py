@@ -65,7 +65,7 @@ def is_there(number: int) -> bool:
 
 
 @needs_program
-@unittest.skipUnless(os.path.exists("/proc/self/task"), "children are found by /proc of Linux")
+@unittest.skipUnless(os.path.exists(f"/proc/self/task/{os.getpid()}/children"), "children are found by /proc of Linux")
 class AtOnce(InFolder):
     """Commands that run while others do."""
 
