@@ -56,7 +56,10 @@ TITLE, CHOSEN, LANGUAGE, CALLED, WORD = "Title", "Columns", "Language", "Column 
 #: Words of tables and plots that the text may say otherwise.
 WORDS = ("all", "small groups", "percent", "percent of the students", "sections", "tokens")
 
-STYLE = "svg{max-height:75mm;width:auto}@media print{h1{margin-top:0}svg{max-height:60mm}}"
+STYLE = (
+    "svg{max-height:75mm;width:auto}@media print{body{font-size:10pt}h1{margin-top:0;font-size:16pt}"
+    "svg{max-height:55mm}figure,table{margin:.6em 0}@page{margin:15mm}}"
+)
 
 
 @dataclass(frozen=True)
@@ -241,9 +244,12 @@ def table(words: Words, run: measures.Measured, parts: Sequence[measures.Group],
 
 
 def plot(words: Words, name: str, parts: Sequence[measures.Group], column: str) -> str:
-    """A plot by group in the school's words, with its table."""
+    """A plot by group in the school's words, with its table, unless the page's table has these values."""
     title, up, figure = PLOTS[name]
     items = [(words.called(one.name), figure(one)) for one in parts]
     told = "; ".join(f"{group}: {number:g}" for group, number in items)
     axes = plots.Axes(words.columns.get(name) or title, told, words.group or column or "group", words.word(up))
+    if name in words.columns and any(text == "{table}" for _, text in words.paragraphs):
+        # The table of groups has the same values.
+        return f"<figure>{plots.bars(axes, items)}</figure>"
     return pages.plot_with_table(axes, items)

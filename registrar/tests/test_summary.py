@@ -118,7 +118,7 @@ class Council(WithGroups):
         self.assertIn(["Studienjahr", "students", "Anteil am Wunsch", "with a first choice"], rows)
         self.assertIn("alle", [row[0] for row in rows])
         self.assertNotIn("all", [row[0] for row in rows])
-        self.assertEqual(page.count("<svg"), 1)
+        self.assertEqual((page.count("<svg"), page.count("<table>")), (1, 1))
         xml.etree.ElementTree.fromstring(page.split("\n", 1)[1].replace('<meta charset="utf-8">', ""))
 
     def test_faults(self) -> None:
@@ -138,6 +138,11 @@ class Council(WithGroups):
                 self.assertIn(wanted, told.out)
                 with self.assertRaises(FileNotFoundError):
                     self.read("council.html")
+
+    def test_a_plot_has_its_table_where_the_page_has_none(self) -> None:
+        told = self.council(WORDS.replace("{table}\n\n", "").replace("{plot share}", "{plot first}"))
+        self.assertEqual(told.status, 0, told.out)
+        self.assertIn("</svg><table>", self.read("council.html"))
 
     def test_envy_without_an_audit(self) -> None:
         told = self.council(WORDS.replace("{students} S", "{envious} S"))
