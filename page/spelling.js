@@ -2,6 +2,7 @@
 
 import { decoded } from './bytes.js';
 import { records } from './tables.js';
+import { visible } from './wording.js';
 
 /**
  * The spelling where no school told one.
@@ -27,7 +28,7 @@ export function spellingOf(bytes) {
     if (!kinds.get(kind).has(name)) kinds.get(kind).set(name, original);
   }
   return {
-    shown: (kind, name) => kinds.get(kind)?.get(name) ?? name,
+    shown: (kind, name) => visible(kinds.get(kind)?.get(name) ?? name),
     meant: (kind, typed) => meantOf(kinds.get(kind) ?? new Map(), typed.trim()),
     count: [...kinds.values()].reduce((sum, it) => sum + it.size, 0),
   };

@@ -15,6 +15,13 @@ test('a name is shown as the school spells it', () => {
   assert.equal(spelling.count, 3);
 });
 
+test('signs that no screen shows are written out, and what runs from right to left is kept apart', () => {
+  const names = 'kind,original,name\nstudent,\u05d3\u05d5\u05d3,david\nstudent,a\u202eb,ab\n';
+  const { shown } = spellingOf(new TextEncoder().encode(names));
+  assert.equal(shown('student', 'david'), '\u2068\u05d3\u05d5\u05d3\u2069');
+  assert.doesNotMatch(shown('student', 'ab'), /\u202e/);
+});
+
 test('a spelling leads back to the name, exact ones first', () => {
   assert.deepEqual(spelling.meant('student', 'José Núñez'), ['Jose_Nunez']);
   assert.deepEqual(spelling.meant('student', ' josé '), ['Jose_Nunez']);
