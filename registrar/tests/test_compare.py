@@ -52,7 +52,8 @@ class Compare(TwoRuns):
             told.out,
             (
                 "  X: seats 1 in A, 2 in B\n",
-                "By their own ratings 1 of 2 students gained, 0 lost, and for 1 it is worth as much (0 of them hold other sections).",
+                "By their own ratings 1 of 2 students gained, 0 lost, and for 1 it is worth as much (0 of them hold "
+                "other sections).",
                 f"gained: {self.loser} from {self.alone} to {self.both}: nothing for X\n",
                 "out: compare.html, students.csv, sections.csv, groups.csv",
             ),
@@ -71,9 +72,11 @@ class Compare(TwoRuns):
         self.assertEqual((rows[self.loser]["sections A"], rows[self.loser]["sections B"]), ("Y", "X; Y"))
         self.assertEqual(rows[self.winner]["change"], "as before")
         sections = self.rows("out/sections.csv")
-        self.assertEqual([(row["section"], row["seats A"], row["seats B"], row["used A"], row["used B"]) for row in sections],
+        named = ("section", "seats A", "seats B", "used A", "used B")
+        self.assertEqual([tuple(row[name] for name in named) for row in sections],
                          [("X", "1", "2", "1", "2"), ("Y", "2", "2", "2", "2")])  # fmt: skip
-        xml.etree.ElementTree.fromstring(self.read("out/compare.html").split("\n", 1)[1].replace('<meta charset="utf-8">', ""))
+        page = self.read("out/compare.html").split("\n", 1)[1]
+        xml.etree.ElementTree.fromstring(page.replace('<meta charset="utf-8">', ""))
 
     def test_who_lost(self) -> None:
         told = call("compare", "more/manifest.json", "manifest.json")
@@ -119,7 +122,8 @@ class Compare(TwoRuns):
             (
                 "1 student is in A alone, 1 in B alone",
                 "1 student has other wishes in B than in A",
-                "0 of 1 student gained, 0 lost, and for 0 it is worth as much (0 of them hold other sections); 1 with other wishes",
+                "0 of 1 student gained, 0 lost, and for 0 it is worth as much (0 of them hold other "
+                "sections); 1 with other wishes",
             ),
         )
 
@@ -147,7 +151,8 @@ class Compare(TwoRuns):
         text = self.read("published.txt").replace(f"final {self.winner} [X,Y]", f"final {self.winner} [Y]")
         self.put("published.txt", text)
         kept = self.read("manifest.json")
-        self.put("manifest.json", kept.replace(manifest.read("manifest.json", verify=False).text_sum, program.sha256("published.txt")))
+        before = manifest.read("manifest.json", verify=False).text_sum
+        self.put("manifest.json", kept.replace(before, program.sha256("published.txt")))
         told = call("compare", "manifest.json", "more/manifest.json")
         self.assertEqual(told.status, 8)
         self.assertIn("published.txt does not hold", told.err)
@@ -180,7 +185,8 @@ class Groups(unittest.TestCase):
 
     def test_parted(self) -> None:
         groups = {"a": "2", "b": "10", "c": "Law", "d": "2", "e": ""}
-        self.assertEqual(measures.parted(groups, list("abcde"), 1), {"2": ["a", "d"], "10": ["b"], "Law": ["c"], "(blank)": ["e"]})
+        each = {"2": ["a", "d"], "10": ["b"], "Law": ["c"], "(blank)": ["e"]}
+        self.assertEqual(measures.parted(groups, list("abcde"), 1), each)
         self.assertEqual(
             measures.parted(groups, list("abcde"), 2), {"2": ["a", "d"], "(groups of fewer than 2)": ["b", "c", "e"]}
         )

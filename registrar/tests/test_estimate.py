@@ -98,9 +98,8 @@ class HowFar(InFolder):
         self.assertEqual(far(0), "by an estimate at turn 0 of at most 30")
         self.assertEqual(far(100), "by an estimate behind the 30 turns of the search")
         life = tell.Life("running the market", [12], far=far)
-        self.assertEqual(
-            life.line(11), "running the market: 11 s; by an estimate at turn 20 of at most 30; the last runs of this size took 12 s"
-        )
+        far_and_before = "by an estimate at turn 20 of at most 30; the last runs of this size took 12 s"
+        self.assertEqual(life.line(11), f"running the market: 11 s; {far_and_before}")
         self.assertEqual(tell.times_of(".", SIZE), [])
 
     def test_no_pace_that_fits(self) -> None:

@@ -193,8 +193,9 @@ class Attacks(WithMails):
 
     def test_addresses_that_are_none(self) -> None:
         for address in (
-            "n.jones", "n.jones@", "@school.example", "n jones@school.example", "a@b.example,c@d.example", "n..j@school.example",
-            "N <n@school.example>", '"n@school.example\nBcc: x@y.example"', "n@school", "ñ@school.example", "n@" + "x." * 130 + "de",
+            "n.jones", "n.jones@", "@school.example", "n jones@school.example", "a@b.example,c@d.example",
+            "n..j@school.example", "N <n@school.example>", '"n@school.example\nBcc: x@y.example"', "n@school",
+            "ñ@school.example", "n@" + "x." * 130 + "de",
         ):  # fmt: skip
             with self.subTest(address):
                 told = self.faults(f"n.jones;N Jones;{address};Law")
@@ -217,7 +218,8 @@ class Templates(WithMails):
 
     def test_faults(self) -> None:
         self.refused("Subject: Hello\n\nDear\n", "a line `From: ..` above the first empty line")
-        self.refused(TEMPLATE.replace("Subject", "Bcc"), 'mail.txt row 3: "Bcc: Your sections, {name}"', "`Subject: ..`, once")
+        wanted = ('mail.txt row 3: "Bcc: Your sections, {name}"', "`Subject: ..`, once")
+        self.refused(TEMPLATE.replace("Subject", "Bcc"), *wanted)
         self.refused(TEMPLATE.replace("{sections}", "{section}"), 'mail.txt row 7: "{section}"', "nearest: sections")
         self.refused(TEMPLATE.replace("{sections}", "{sections"), 'mail.txt row 7: "{"')
         self.refused(TEMPLATE.replace("{name}\n", "{nome}\n"), 'mail.txt, column Subject: "{nome}"')
@@ -241,7 +243,7 @@ class Addresses(unittest.TestCase):
     def test_one_address(self) -> None:
         for text in ("a@b.example", "A B <a@b.example>", '"B, A" <a@b.example>', "a+c/d=e@b-c.example"):
             self.assertTrue(mails.one_address(text)[1], text)
-        for text in ("", "a", "a@b.example, c@d.example", "A <a@b.example> <c@d.example>", "a@b.example\nBcc: c@d.example"):
+        for text in ("", "a", "a@b.example, c@d.example", "A <a@b.example> <c@d.example>", "a@b.example\nBcc: c@d.org"):
             self.assertEqual(mails.one_address(text), ("", ""), text)
 
 

@@ -1,4 +1,4 @@
-"""`rosters`: the school's system imports what is written, and no row of a difference has a section with too many students."""
+"""`rosters`: the school's system imports what is written, and no row of a difference gives a section too many."""
 
 from __future__ import annotations
 
@@ -19,7 +19,8 @@ MAPPING = (
     "[roll]\nfile = register.csv\nstudent = Number\nname = Name\ne-mail = Mail\n"
     "[requests form]\nfile = form.csv\nstudent = Who\nrequest = What\nsection = Section\n"
     "[rosters]\nfile = system.txt\nseparator = tab\nline end = lf\nadd word = A\ndrop word = D\nenrolled word = E\n"
-    "[roster columns]\nTERM = 2027S\nCRN = {timetable CRN}\nSID = {student}\nNAME = {name}\nMAIL = {e-mail}\nWHAT = {action}\n"
+    "[roster columns]\nTERM = 2027S\nCRN = {timetable CRN}\nSID = {student}\nNAME = {name}\nMAIL = {e-mail}\n"
+    "WHAT = {action}\n"
 )
 # At the desk: two take what is free, a full section goes from one student to another, a third changes its mind.
 FORM = (
@@ -43,9 +44,13 @@ class WithTerm(InFolder):
         manifest.write("manifest.json", words, "published.txt", 1.0)
         students = [one.name for one in tables.read_roll("roll.csv")]
         self.sections = {one.code: one for one in tables.read_catalogue("catalogue.csv")}
-        rows = [f"{name};{name.upper()} Ünal;{name}@school.example;{'Law' if at % 3 else 'Art'}\n" for at, name in enumerate(students)]
+        rows = [
+            f"{name};{name.upper()} Ünal;{name}@school.example;{'Law' if at % 3 else 'Art'}\n"
+            for at, name in enumerate(students)
+        ]
         self.write("register.csv", REGISTER + "".join(rows) + "gone.one;Gone One;gone@school.example;Law\n")
-        self.write("timetable.csv", TIMETABLE + "".join(f"{code},{5000 + at},R{at}\n{code},,R9\n" for at, code in enumerate(self.sections)))
+        rooms = [f"{code},{5000 + at},R{at}\n{code},,R9\n" for at, code in enumerate(self.sections)]
+        self.write("timetable.csv", TIMETABLE + "".join(rooms))
         self.crn = {code: str(5000 + at) for at, code in enumerate(self.sections)}
         self.write("mapping.ini", MAPPING)
         self.write("form.csv", FORM)
@@ -89,7 +94,8 @@ class Rosters(WithTerm):
         self.assertFalse(os.path.exists("out/system-changes.txt"))
 
     def test_rows_by_student_without_a_header(self) -> None:
-        self.write("mapping.ini", MAPPING.replace("separator = tab", "separator = semicolon\nheader = no\nrows by = student"))
+        options = "separator = semicolon\nheader = no\nrows by = student"
+        self.write("mapping.ini", MAPPING.replace("separator = tab", options))
         self.assertEqual(say("rosters", "--mapping", "mapping.ini", "--into", "out")[0], 0)
         rows = [line.split(";") for line in self.read("out/system.txt").splitlines()]
         order = [one.name for one in tables.read_roll("roll.csv")]
@@ -114,7 +120,7 @@ class Rosters(WithTerm):
         self.assertEqual({(row[1], row[2]) for row in self.rows("out/system.txt")}, self.held("hall/hall.txt"))
 
     def assert_seats_kept(self, held: set[tuple[str, str]], changes: list[list[str]]) -> None:
-        """Makes the changes row by row: no seat is given twice or taken from nobody, and no section has too many students."""
+        """Makes the changes row by row: no seat is given twice or taken from nobody, no section has too many."""
         seats = {self.crn[code]: one.seats for code, one in self.sections.items()}
         for row in changes:
             seat = (row[1], row[2])
@@ -127,8 +133,8 @@ class Rosters(WithTerm):
         self.hall("first")
         self.write("form.csv", FORM + "y.lee,add,LGST-611-A\nn.jones,drop,FNCE-717-A\n")
         self.hall("hall")
-        words = ("rosters", "--mapping", "mapping.ini", "--hall", "hall/hall.txt", "--since", "first/hall.txt", "--into", "out")
-        status, told = say(*words)
+        words = ("--hall", "hall/hall.txt", "--since", "first/hall.txt", "--into", "out")
+        status, told = say("rosters", "--mapping", "mapping.ini", *words)
         self.assertEqual(status, 0, told)
         changes = self.rows("out/system-changes.txt")
         self.assertIn((self.crn["FNCE-717-A"], "n.jones", "D"), [(row[1], row[2], row[5]) for row in changes])
@@ -187,8 +193,13 @@ class Faults(WithTerm):
         self.assertFalse(os.path.exists("out"))
 
     def test_unknown_fields_and_columns(self) -> None:
-        text = MAPPING.replace("{student}", "{studnet}").replace("{timetable CRN}", "{timetable CRM}").replace("{name}", "{name")
-        self.write("mapping.ini", text.replace("file = system.txt", "file = ../system.txt\nmay be blank = CRM\nencoding = klingon"))
+        text = MAPPING
+        for old, new in (
+            ("{student}", "{studnet}"), ("{timetable CRN}", "{timetable CRM}"), ("{name}", "{name"),
+            ("file = system.txt", "file = ../system.txt\nmay be blank = CRM\nencoding = klingon"),
+        ):  # fmt: skip
+            text = text.replace(old, new)
+        self.write("mapping.ini", text)
         self.refused(
             '[roster columns] SID: "{studnet}" where this was expected: one of the fields student, section,',
             "nearest: student", '[roster columns] NAME: "{" where this was expected: a field as {name}',
@@ -247,7 +258,8 @@ class Imported(WithSchool):
         wanted = "Code = {section}\nC = {credits}\nP = {register Programme}\nN = {number}\n"
         self.write("mapping.ini", self.read("mapping.ini").replace(columns, columns + wanted))
         self.settle("credit unit", "0.5")
-        self.write("settings.json", '{"seed":1,"spread":7,"accept":1000000,"turns":1,"tabu":30,"patience":25,"steps":[3],"raise":10}')
+        settings = '{"seed":1,"spread":7,"accept":1000000,"turns":1,"tabu":30,"patience":25,"steps":[3],"raise":10}'
+        self.write("settings.json", settings)
         sessions = ["out/web.session", "out/desk.session", "out/choices.session"]
         self.assertEqual(say("run", "out/catalogue.csv", "out/roll.csv", "settings.json", *sessions)[0], 0)
         status, told = say("rosters", "--mapping", "mapping.ini", "--into", "out")
