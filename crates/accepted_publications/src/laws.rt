@@ -18,9 +18,9 @@ pub fn published_is_accepted()
 {}
 
 /// Every text is accepted or has a first finding, where the catalogue and the roll are in their
-/// ranges: it cannot be neither, whatever memory there is. So it has no finding exactly where it is
-/// accepted, and otherwise one alone (`no_finding_in_accepted` and `one_first_finding` of
-/// `certificate_checker`).
+/// ranges: it cannot be neither, whatever memory there is. So a text without a finding cannot be
+/// one that is not accepted; an accepted one has none, and any other has not two
+/// (`no_finding_in_accepted` and `one_first_finding` of `certificate_checker`).
 pub fn accepted_or_found()
     ensures { AcceptedOrFound }
 {

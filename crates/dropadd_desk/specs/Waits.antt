@@ -47,7 +47,7 @@ pub record KeepsOrder (before after : List ℕ) (queued left : ℕ → Bool)
   pub last : (j : ℕ) → queued j ≡ true → after ≡ before ++ j ∷ []
   -- he who leaves waits no longer
   pub leaves : (j : ℕ) → left j ≡ true → has after j ≡ false
-  -- whoever else waits no longer has lapsed or has the seat that was given up
+  -- whoever else waits no longer goes in a step in which a seat of the section was given up
   pub goes : (j : ℕ) → has before j ≡ true → has after j ≡ false
       → (left j ≡ true) ⊎ (dropped ≡ true)
 

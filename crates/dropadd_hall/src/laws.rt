@@ -18,9 +18,10 @@ pub fn told_hall_is_conserved()
 
 /// In a printed hall the waiting list of a section keeps the order of those who wait. Whoever is
 /// queued waits as the last one, behind all who wait already, and nobody else comes to wait. Whoever
-/// waits no longer has left, or has lapsed or been given the seat where one was given up. As long as
-/// the earlier of two waits, the later waits behind, unless the later leaves: so the earlier is
-/// never given the seat or taken off after the later.
+/// waits no longer has left, or goes where a seat of the section was given up
+/// (`told_hall_is_conserved` says who lapsed then, and who has the seat). As long as the earlier of
+/// two waits, the later waits behind, unless the later leaves: so the earlier is never given the
+/// seat or taken off after the later.
 pub fn told_hall_waits_in_order()
     ensures { ToldHallWaitsInOrder }
 {}

@@ -25,8 +25,9 @@ pub fn exit_code<R: Threads + Wait + Sync, W: Words, H: Shelf, K: Sink>(
     sink: &mut K,
     gate: &(dyn Gate + Sync),
 ) -> ExitCode
-    // The words are had as text, or they are not for a reason that they tell; and the process ends
-    // with the number of a status that is answered to that.
+    // The words are had as text; or a word is not UTF-8, where they are told; or memory is said to
+    // want for them, of which no cause is said. The process ends with the number of a status that is
+    // answered to that.
     ensures { (given : Result (Vec (String Global) Global) NoWords)
         × AreHad (W.tells words.now) given
         × (status : Status) × (exit_status result ≡ number_of status)
