@@ -3,7 +3,7 @@
 
 import { code, el, opening, p } from './elements.js';
 import { tableOf } from './grid.js';
-import { TAKES, boundOf, closedBy, losesTies, nodesOf } from './reckoning.js';
+import { TAKES, boundOf, closedBy, firstUndue, losesTies, nodesOf } from './reckoning.js';
 import { leftWords, points } from './signs.js';
 import { listed, plural } from './wording.js';
 
@@ -140,10 +140,15 @@ const keyOf = text => el('ul', { class: 'plain quiet', 'aria-label': 'What the s
   KEY.filter(([it]) => text.includes(it)).map(([it, words]) => el('li', {}, sign(it), ` ${words}`)));
 
 /**
- * The whole drawing, with the tree's text and the table of its places.
+ * The whole drawing, with the tree's text and the table of its places. What is drawn agrees with each sign of the tree.
  * @param {Walk} walk @param {string} text
  */
 export function drawingOf(walk, text) {
+  const root = nodesOf(text), undue = firstUndue(walk, root);
+  if (undue) {
+    return [p(`The page does not draw this tree: by what it works out itself another sign is due at byte ${undue.at}. What `
+      + 'the program says of the tree counts, and not what the page works out.'), el('p', { class: 'tree-text' }, code(text))];
+  }
   const places = tableOf('The places of the tree', [
     { head: 'Place', of: it => it.place },
     { head: 'Section', of: it => it.name, isText: true },
@@ -154,7 +159,7 @@ export function drawingOf(walk, text) {
     p('Read from the top down. A line that opens takes its section, and shows what follows; the next line does without '
       + `it. At first ${leftWords(walk, [])}.`),
     keyOf(text),
-    levelOf(walk, [], 0, nodesOf(text)),
+    levelOf(walk, [], 0, root),
     opening('The tree as it is published, and its places', () => [el('p', { class: 'tree-text' }, code(text)), places]),
   ];
 }

@@ -55,7 +55,7 @@ export const part = (title, ...children) => el('section', {}, el('h3', {}, title
  */
 export function namesCell(names) {
   if (!names.length) return 'nothing';
-  return el('span', { class: 'names' }, names.flatMap((it, at) => [at ? ', ' : '', el('span', {}, it)]));
+  return el('span', { class: 'names' }, names.flatMap((it, at) => [at ? ', ' : '', el('bdi', {}, it)]));
 }
 
 /**

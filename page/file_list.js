@@ -75,6 +75,6 @@ export class FileList {
       { class: 'small', 'aria-label': `Move ${file.name} before the session above it` });
     const remove = button('Remove', () => this.remove(file),
       { class: 'small', 'aria-label': `Remove ${file.name}` });
-    return el('li', { class: file.kind }, el('span', { class: 'name' }, file.name), kind, up, remove);
+    return el('li', { class: file.kind }, el('bdi', { class: 'name' }, file.name), kind, up, remove);
   }
 }

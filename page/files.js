@@ -1,7 +1,7 @@
 // Tells files by what stands in them, and puts those of one market together.
 
 import { decoded, hashOf } from './bytes.js';
-import { listed, shortList } from './wording.js';
+import { listed, shortList, visible } from './wording.js';
 
 /**
  * What a file can be taken for, in words.
@@ -24,7 +24,7 @@ export const NEEDED = {
 /** What is missing where there are no sessions, in words. */
 export const SESSIONS = 'the sessions (what the students wished)';
 
-const LONGEST = 2 ** 27, MOST_SESSIONS = 64;
+const LONGEST = 2 ** 27, LONGEST_MANIFEST = 2 ** 20, MOST_SESSIONS = 64;
 
 /** @type {[RegExp, Kind][]} */
 const BY_NAME = [
@@ -48,6 +48,7 @@ const OF_OTHERS = ['add', 'drop', 'leave', 'entry', 'settled', 'order', 'final',
  * @returns {{ role: Kind, file: string, sha256?: string }[] | null}
  */
 function entriesIn(bytes) {
+  if (bytes.length > LONGEST_MANIFEST) return null;
   try {
     const { inputs, text } = JSON.parse(decoded(bytes));
     return [...inputs, ...text ? [{ ...text, role: 'text' }] : []].filter(it => Object.hasOwn(KINDS, it.role));
@@ -146,7 +147,8 @@ async function entriesBelow(folder) {
  * @param {BrowserFile} of
  * @returns {Promise<GivenFile>}
  */
-export async function loaded({ name, file }) {
+export async function loaded({ name: given, file }) {
+  const name = visible(given);
   const bytes = file.size > LONGEST ? null : await file.arrayBuffer().then(it => new Uint8Array(it), () => null);
   if (!bytes) return { name, bytes: new Uint8Array(), kind: 'unknown', isUnread: true };
   return { name, bytes, kind: kindOf(name, bytes) };
@@ -171,7 +173,7 @@ async function byManifest(manifest, files) {
     faults.push(`${manifest.name} is taken for a manifest and is none: remove it, or choose in the list what it is.`);
   }
   for (const { role, file, sha256 } of entries ?? []) {
-    const base = baseName(file);
+    const base = visible(baseName(file));
     const named = files.find(it => it.name === base) ?? files.find(it => baseName(it.name) === base);
     if (!named && role === 'session' && hasOwn) continue;
     if (!named) {

@@ -209,3 +209,33 @@ export function losesTies(walk, chosen, from) {
   }
   return false;
 }
+
+/**
+ * Whether the symbol of a node is the one that is due by what the page works out.
+ * @param {Walk} walk @param {number[]} chosen @param {number} place @param {TreeNode} node
+ */
+export function isDue(walk, chosen, place, node) {
+  const isEnd = place >= walk.menu.places.length;
+  if (node.symbol === 'x') return closedBy(walk, chosen, walk.forced) !== null;
+  if (node.symbol === '!') return place === walk.forced;
+  if (node.symbol === '*') return isEnd && String(chosen) === String(walk.champion);
+  if (node.symbol === '-') return !isEnd && closedBy(walk, chosen, place) !== null;
+  if (node.symbol === '+') return !isEnd && closedBy(walk, chosen, place) === null;
+  return boundOf(walk, chosen, place, node).bound < 1000 * (walk.worth + (losesTies(walk, chosen, place) ? 1 : 0));
+}
+
+/**
+ * The first node of a tree whose symbol is not the one that is due by what the page works out; null where all are.
+ * @param {Walk} walk @param {TreeNode} root
+ * @returns {TreeNode | null}
+ */
+export function firstUndue(walk, root) {
+  const waiting = [{ chosen: /** @type {number[]} */ ([]), place: 0, node: root }];
+  while (waiting.length) {
+    const { chosen, place, node } = waiting.pop();
+    if (!isDue(walk, chosen, place, node)) return node;
+    if (node.without) waiting.push({ chosen, place: place + 1, node: node.without });
+    if (node.with) waiting.push({ chosen: [...chosen, place], place: place + 1, node: node.with });
+  }
+  return null;
+}

@@ -26,6 +26,9 @@ const USUAL = {
  */
 export const usual = name => USUAL[name];
 
+/** How long a text is that is read for the form; no settings are longer. */
+const LONGEST_SETTINGS = 2 ** 20;
+
 /**
  * What the browser says of a text that is not JSON; nothing of one that is.
  * @param {string} text @returns {string}
@@ -56,7 +59,7 @@ export function jsonPlace(text) {
  * @param {string} text
  */
 export function settingsLacks(text) {
-  const found = isJson(text) ? JSON.parse(text) : null;
+  const found = text.length <= LONGEST_SETTINGS && isJson(text) ? JSON.parse(text) : null;
   const isObject = found !== null && typeof found === 'object' && !Array.isArray(found);
   const names = isObject ? Object.keys(found) : [];
   return {

@@ -6,7 +6,7 @@ import { join } from 'node:path';
 import test from 'node:test';
 import { explanationOf } from '../../one_student.js';
 import {
-  boundOf, clashOf, closedBy, errorOf, losesTies, menuOf, nodesOf, priceOf, raisedBudget, walkOf, worthOf,
+  clashOf, errorOf, firstUndue, isDue, menuOf, nodesOf, priceOf, raisedBudget, walkOf, worthOf,
 } from '../../reckoning.js';
 import { catalogueOf } from '../../tables.js';
 import { turnsOf } from '../../texts.js';
@@ -17,18 +17,6 @@ const OF_TERM = {
   catalogue: 'catalogue.csv', roll: 'roll.csv', settings: 'settings.json', text: 'published.txt',
   sessions: ['desk.session', 'web.session'],
 };
-
-/** Whether the symbol of a node is that which the page's own reckoning makes due; `worth` is that of the bundle. */
-function isDue(walk, chosen, place, node) {
-  const isEnd = place >= walk.menu.places.length;
-  if (node.symbol === 'x') return closedBy(walk, chosen, walk.forced) !== null;
-  if (node.symbol === '!') return place === walk.forced;
-  if (node.symbol === '*') return isEnd && chosen.join() === walk.champion.join();
-  if (node.symbol === '-') return !isEnd && closedBy(walk, chosen, place) !== null;
-  if (node.symbol === '+') return !isEnd && closedBy(walk, chosen, place) === null;
-  const { bound } = boundOf(walk, chosen, place, node);
-  return bound < 1000 * (walk.worth + (losesTies(walk, chosen, place) ? 1 : 0));
-}
 
 /** Walks a tree; answers how many nodes it has. */
 function walked(walk, tree, label) {
@@ -41,6 +29,7 @@ function walked(walk, tree, label) {
     }
   };
   go([], 0, nodesOf(tree));
+  assert.equal(firstUndue(walk, nodesOf(tree)), null);
   return count;
 }
 
@@ -119,4 +108,12 @@ test('a bundle is worth its ratings and its adjustments, and costs its prices', 
 test('the clearing error squares seats too many, and free ones where the price is not 0', () => {
   const catalogue = catalogueOf('section,course,seats,credits,meetings\nX,X,3,1,\nY,Y,3,1,\nZ,Z,3,1,\n');
   assert.equal(errorOf(new Map([['X', 5], ['Y', 1], ['Z', 1]]), catalogue, [0, 9, 0]), 4 + 4);
+});
+
+test('a sign that is not due is found', () => {
+  const market = marketIn(TERM, OF_TERM), { at } = market.roll.find(it => it.name === 'n.jones');
+  const { names, tree } = market.text.bundles[at], walk = walkOf(market, at, { budget: market.text.budgets[at], champion: names });
+  assert.equal(firstUndue(walk, nodesOf(tree)), null);
+  assert.equal(firstUndue(walk, nodesOf(tree.replace('*', 'n'))).at, tree.indexOf('*'));
+  assert.equal(firstUndue({ ...walk, budget: walk.budget - 700 }, nodesOf(tree)) === null, false);
 });
