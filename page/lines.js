@@ -17,6 +17,7 @@ export const hasMark = (bytes, from) => bytes[from] === 0xef && bytes[from + 1] 
  */
 export function eachCommand(bytes, take) {
   for (let from = hasMark(bytes, 0) ? 3 : 0, number = 1; from < bytes.length; number++) {
+    if (bytes[from] === LINE_FEED) { from++; continue; } // (a text of line feeds alone is passed in no time)
     const feed = bytes.indexOf(LINE_FEED, from), to = feed < 0 ? bytes.length : feed;
     let at = from;
     while (at < to && (bytes[at] === SPACE || bytes[at] === TAB)) at++;
