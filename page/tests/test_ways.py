@@ -568,7 +568,8 @@ class Ways(unittest.TestCase):
                 self.submit(accept="100000", turns="0", steps="3 12", **{"raise": "10"})
                 self.tab.wait("document.querySelector('#run-answer h3')?.textContent === 'The market has prices'")
                 self.assertIn("steps 3, 12;", self.words("#run-answer"))
-                self.assertEqual(0, self.tab.evaluate("document.querySelectorAll('[aria-invalid], .fault').length"))
+                faults = "document.querySelectorAll('#registrar [aria-invalid], #registrar .fault').length"
+                self.assertEqual(0, self.tab.evaluate(faults))
         self.submit(seed="9" * 400)
         self.tab.wait("document.querySelector('#run-answer h3')?.textContent === 'A file is refused'")
 
