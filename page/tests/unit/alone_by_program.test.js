@@ -20,8 +20,11 @@ after(() => rmSync(room, { recursive: true }));
 
 /** What the program answers to words; those that begin with a kind of file stand for that file of the parts. */
 function ask(/** @type {string[]} */ words, /** @type {any} */ parts) {
-  const files = [['CATALOGUE', parts.catalogue], ['ROLL', parts.roll], ['SETTINGS', parts.settings], ['TEXT', parts.text],
-    ['PRICES', parts.prices], ...parts.sessions.map((/** @type {any} */ it, /** @type {number} */ at) => [`SESSION${at}`, it])];
+  const { catalogue, roll, settings, text, prices, sessions } = parts;
+  const files = [
+    ['CATALOGUE', catalogue], ['ROLL', roll], ['SETTINGS', settings], ['TEXT', text], ['PRICES', prices],
+    ...sessions.map((/** @type {any} */ it, /** @type {number} */ at) => [`SESSION${at}`, it]),
+  ];
   for (const [name, file] of files) if (file) writeFileSync(join(room, name), file.bytes);
   const ran = spawnSync(PROGRAM, words, { cwd: room, encoding: 'utf8' });
   return { status: ran.status, text: ran.stdout };
@@ -38,7 +41,7 @@ function stagesOf(market, at) {
 
 const CHECK = ['check', 'CATALOGUE', 'ROLL', 'SETTINGS', 'TEXT', 'SESSION0'];
 
-test('each bundle of an accepted text, also at each turn, is accepted in the market of its student alone', options, () => {
+test('each bundle of an accepted text, also of a turn, is accepted in the market of its student', options, () => {
   const markets = [term(), ...cases('check').filter(it => it.status === 0).map(marketOfCase)];
   let count = 0;
   for (const market of markets) {
@@ -74,7 +77,8 @@ test('explain answers in the market of one as in the whole one', options, () => 
 
 test('demand at the printed prices takes the printed bundle', options, () => {
   const market = term(), at = market.roll.findIndex(it => it.name === 'n.jones'), [second] = stagesOf(market, at);
-  const { text } = ask(['demand', '1', 'CATALOGUE', 'ROLL', 'SETTINGS', 'PRICES', 'SESSION0'], roomOf(market.catalogue, second));
+  const words = ['demand', '1', 'CATALOGUE', 'ROLL', 'SETTINGS', 'PRICES', 'SESSION0'];
+  const { text } = ask(words, roomOf(market.catalogue, second));
   assert.match(text, /^bundle n\.jones \[ACCT-611-B,FNCE-601-A,HCMG-841-A\]$/m);
 });
 

@@ -60,8 +60,8 @@ test('reasons are short for a line and long below it; a tie is said to be one', 
   assert.match(why, /whose prices together are 3,914\. Of its budget of 4,542 that leaves 628/);
   assert.match(best, /prices together 4,103\), worth 188 by the ratings of n\.jones.*worth 260, 72 more\./);
   const tie = { ...told, worth: 260, lost: 0 };
-  assert.match(shortReason(market, student, stages[0], 'FNCE-717-A', tie), /\(a tie: with it the best is worth as much\)/);
-  assert.match(longReason(market, student, stages[0], 'FNCE-717-A', tie)[1], /as much: a tie; of bundles of equal worth/);
+  assert.match(shortReason(market, student, stages[0], 'FNCE-717-A', tie), /\(a tie: with it the best is worth as/);
+  assert.match(longReason(market, student, stages[0], 'FNCE-717-A', tie)[1], /as much: a tie; of bundles of equal/);
 });
 
 test('of a turn the reason speaks of the raised budget and of what was held', () => {

@@ -24,7 +24,8 @@ test('nothing is found in the text of the example term', () => {
 });
 
 test('caps and clashes are kept without a look at ratings', () => {
-  const market = /** @type {any} */ (term()), at = market.roll.findIndex((/** @type {any} */ it) => it.name === 'n.jones');
+  const market = /** @type {any} */ (term());
+  const at = market.roll.findIndex((/** @type {any} */ it) => it.name === 'n.jones');
   market.text.bundles[at] = { ...market.text.bundles[at], names: ['ACCT-611-A', 'ACCT-611-B'] };
   assert.equal(findingWithoutRatings(market), 'student n.jones infeasible');
 });

@@ -54,8 +54,9 @@ test('a forced tree of explain is walked to its end', () => {
     const [first, best, , tree] = it.stdout.split('\n');
     if (!tree?.startsWith('tree ')) continue;
     const market = marketOfCase(it), [name, forced] = first.split(' ');
-    const student = market.roll.findIndex(that => that.name === name), champion = best.split(' ')[1].slice(1, -1).split(',');
-    const walk = walkOf(/** @type {any} */ (market), student, { budget: market.text.budgets[student], champion, forced });
+    const student = market.roll.findIndex(that => that.name === name), budget = market.text.budgets[student];
+    const champion = best.split(' ')[1].slice(1, -1).split(',');
+    const walk = walkOf(/** @type {any} */ (market), student, { budget, champion, forced });
     assert.equal(lastStep(walk, tree.slice(5)).kind, 'end', it.name);
     assert.deepEqual(championOf(tree.slice(5)), { champion: walk.champion, forced: walk.forced });
     count++;
@@ -64,7 +65,8 @@ test('a forced tree of explain is walked to its end', () => {
 });
 
 test('the signs of n.jones are read as the guide reads them', () => {
-  const market = /** @type {any} */ (term()), student = market.roll.findIndex((/** @type {any} */ it) => it.name === 'n.jones');
+  const market = /** @type {any} */ (term());
+  const student = market.roll.findIndex((/** @type {any} */ it) => it.name === 'n.jones');
   const { names, tree } = market.text.bundles[student];
   const steps = [...stepsOf(walkOf(market, student, { budget: 4542, champion: names }), tree)];
   assert.deepEqual(steps.map(it => it.sign), ['+', '+', '--------', '+', '*', 'n', 'b5', 'b1', '']);
@@ -72,13 +74,15 @@ test('the signs of n.jones are read as the guide reads them', () => {
   assert.match(steps[2].words, /Place 2, FNCE-601-B, may not be taken: it is of the same course as FNCE-601-A/);
   assert.match(steps[4].words, /ACCT-611-B, FNCE-601-A and HCMG-841-A, worth 260/);
   assert.match(steps[5].words, /worth 188.*Nothing else can come to it\. So at most 188, less than the 260/);
-  assert.match(steps[6].words, /2989 tokens bring 109, 0\.036 each.* = 260\.508\. So at most 260, as much as the bundle/);
+  assert.match(steps[6].words, /2989 tokens bring 109, 0\.036 each.* = 260\.508\. So at most 260, as much as/);
   assert.match(steps[7].words, / = 247\.429\. So at most 247, less than the 260/);
 });
 
 test('signs that do not fit name what is due', () => {
-  const market = /** @type {any} */ (term()), student = market.roll.findIndex((/** @type {any} */ it) => it.name === 'n.jones');
-  const { names, tree } = market.text.bundles[student], walk = walkOf(market, student, { budget: 4542, champion: names });
+  const market = /** @type {any} */ (term());
+  const student = market.roll.findIndex((/** @type {any} */ it) => it.name === 'n.jones');
+  const { names, tree } = market.text.bundles[student];
+  const walk = walkOf(market, student, { budget: 4542, champion: names });
   assert.match(lastStep(walk, tree.replace('b5', 'b6')).words, /“b6” stands here.*“b5” is due/);
   assert.match(lastStep(walk, tree + 'n').words, /“n” stands here.*nothing more is due/);
   assert.match(lastStep(walk, tree.slice(0, -2)).words, /the signs end here.*“b1” is due/);
@@ -89,7 +93,8 @@ test('signs that do not fit name what is due', () => {
 });
 
 test('what is pasted is a line of the text, of explain, or signs alone', () => {
-  assert.deepEqual(pastedSigns('bundle ann [A,B] ++*nn\n'), { tree: '++*nn', bundle: ['A', 'B'], student: 'ann', pass: undefined });
+  assert.deepEqual(pastedSigns('bundle ann [A,B] ++*nn\n'),
+    { tree: '++*nn', bundle: ['A', 'B'], student: 'ann', pass: undefined });
   assert.deepEqual(pastedSigns('turn 2 ann [] *'), { tree: '*', bundle: [], student: 'ann', pass: 2 });
   assert.deepEqual(pastedSigns('tree ++x+x!n'), { tree: '++x+x!n' });
   assert.deepEqual(pastedSigns(' ++*\nnn '), { tree: '++*nn' });

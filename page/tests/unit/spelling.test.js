@@ -3,8 +3,8 @@ import { test } from 'node:test';
 
 import { AS_NAMED, spellingOf } from '../../spelling.js';
 
-const NAMES = '\ufeffkind,original,name\nsection,"GÉNI 102 B",GENI_102_B\nstudent,José Núñez,Jose_Nunez\nstudent,Ann,ann\n'
-  + 'student,,bob\nstudent,Other,ann\n';
+const NAMES = '\ufeffkind,original,name\nsection,"GÉNI 102 B",GENI_102_B\nstudent,José Núñez,Jose_Nunez\n'
+  + 'student,Ann,ann\nstudent,,bob\nstudent,Other,ann\n';
 const spelling = spellingOf(new TextEncoder().encode(NAMES));
 
 test('a name is shown as the school spells it', () => {

@@ -3,7 +3,8 @@ import { test } from 'node:test';
 
 import { halfWords, weekOf } from '../../timetable.js';
 
-const section = (/** @type {string} */ name, /** @type {string[]} */ times, /** @type {string} */ parts = '12') => /** @type {any} */ ({
+/** @param {string} name @param {string[]} times @param {string} [parts] @returns {any} */
+const section = (name, times, parts = '12') => ({
   name, parts, meetings: times.map(it => ({ day: it[0], from: it.slice(1, 5), to: it.slice(6) })),
 });
 

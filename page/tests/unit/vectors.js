@@ -33,10 +33,12 @@ export function cases(form) {
  */
 export function wishesAfter(text) {
   const wishes = new Map();
-  const of = (/** @type {string} */ name) => wishes.get(name) ?? wishes.set(name, { ratings: new Map(), pairs: new Map() }).get(name);
+  const nothing = () => ({ ratings: new Map(), pairs: new Map() });
+  const of = (/** @type {string} */ name) => wishes.get(name) ?? wishes.set(name, nothing()).get(name);
   for (const { words: [word, name, ...rest] } of commandLines(new TextEncoder().encode(text))) {
     if (word === 'clear') wishes.delete(name);
-    if (word === 'rate') Number(rest[1]) ? of(name).ratings.set(rest[0], Number(rest[1])) : of(name).ratings.delete(rest[0]);
+    if (word === 'rate' && Number(rest[1])) of(name).ratings.set(rest[0], Number(rest[1]));
+    else if (word === 'rate') of(name).ratings.delete(rest[0]);
     if (word === 'pair') of(name).pairs.set([rest[0], rest[1]].sort().join(' '), Number(rest[2]));
   }
   return new Map([...wishes].map(([name, { ratings, pairs }]) =>
@@ -70,7 +72,7 @@ export function marketOfCase({ words, files }) {
 export function term() {
   const read = (/** @type {string} */ it) => new Uint8Array(readFileSync(join(TERM, it)));
   return marketIn({
-    catalogue: read('catalogue.csv'), roll: read('roll.csv'), settings: read('settings.json'), text: read('published.txt'),
-    sessions: [read('desk.session'), read('web.session')],
+    catalogue: read('catalogue.csv'), roll: read('roll.csv'), settings: read('settings.json'),
+    text: read('published.txt'), sessions: [read('desk.session'), read('web.session')],
   });
 }

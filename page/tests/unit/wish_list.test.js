@@ -1,7 +1,9 @@
 import assert from 'node:assert/strict';
 import { test } from 'node:test';
 
-import { adjust, adjustmentOf, emptyList, isName, notesOf, quoteOf, rate, ratingOf, sessionFile } from '../../wish_list.js';
+import {
+  adjust, adjustmentOf, emptyList, isName, notesOf, quoteOf, rate, ratingOf, sessionFile,
+} from '../../wish_list.js';
 import { cases } from './vectors.js';
 
 const section = (/** @type {number} */ at, /** @type {string} */ name, /** @type {any} */ more = {}) =>
@@ -13,14 +15,16 @@ const CATALOGUE = [
 
 test('a rating is a whole number within its range', () => {
   assert.deepEqual(['0', ' 100 ', '', '007'].map(ratingOf), [0, 100, 0, 7].map(points => ({ points })));
-  for (const it of ['101', '-1', '1.5', '1e1', 'x', '１']) assert.match(/** @type {any} */ (ratingOf(it)).fault, /0 to 100/);
+  const faultOf = (/** @type {string} */ it) => /** @type {any} */ (ratingOf(it)).fault;
+  for (const it of ['101', '-1', '1.5', '1e1', 'x', '１']) assert.match(faultOf(it), /0 to 100/);
   assert.deepEqual(['-200', '+5', '-0'].map(adjustmentOf), [-200, 5, 0].map(points => ({ points })));
   for (const it of ['201', '-201']) assert.match(/** @type {any} */ (adjustmentOf(it)).fault, /-200 to 200/);
 });
 
 test('the file takes back what was said before, and says all in the order of the catalogue', () => {
   const list = emptyList('ann');
-  for (const [name, points] of /** @type {[string, number][]} */ ([['C', 3], ['A', 9], ['B', 4], ['B', 0]])) rate(list, name, points);
+  const typed = /** @type {[string, number][]} */ ([['C', 3], ['A', 9], ['B', 4], ['B', 0]]);
+  for (const [name, points] of typed) rate(list, name, points);
   adjust(list, CATALOGUE[2], CATALOGUE[0], -7);
   adjust(list, CATALOGUE[0], CATALOGUE[1], 5);
   const text = new TextDecoder().decode(sessionFile(list, CATALOGUE));
@@ -43,7 +47,8 @@ test('clashes and what passes a cap alone are told', () => {
   for (const it of CATALOGUE) rate(list, it.name, 1);
   const { clashes, tooLarge, credits } = notesOf(list, CATALOGUE, { credits: 4, courses: 2 });
   assert.deepEqual(clashes, [
-    { one: 'A', other: 'D', why: 'is of the same course as' }, { one: 'B', other: 'C', why: 'meets at the same time as' },
+    { one: 'A', other: 'D', why: 'is of the same course as' },
+    { one: 'B', other: 'C', why: 'meets at the same time as' },
   ]);
   assert.deepEqual([tooLarge, credits], [['B'], 8]);
 });
