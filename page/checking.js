@@ -8,9 +8,9 @@ import { read, work } from './work.js';
 const MOST_ORDERS = 24;
 
 /**
- * Checks the text, with the sessions in the orders that the text allows, the most that are tried, until one is accepted.
- * @param {Parts} parts @param {number[] | null} sizes how many commands each session has; null where a manifest says the
- * order
+ * Checks the text, with the sessions in the orders that the text allows, until one is accepted or the most are tried.
+ * @param {Parts} parts
+ * @param {number[] | null} sizes how many commands each session has; null where a manifest says the order
  * @returns {Promise<Checked>}
  */
 export async function checked(parts, sizes) {
@@ -36,7 +36,8 @@ const STOPPED_ANSWER = { status: 'stopped', text: '', out: new Uint8Array(), ms:
  * @param {Parts} parts
  * @returns {Checked}
  */
-export const stopped = parts => ({ answer: STOPPED_ANSWER, call: { form: '', words: [], inputs: [], files: [] }, parts });
+export const stopped = parts =>
+  ({ answer: STOPPED_ANSWER, call: { form: '', words: [], inputs: [], files: [] }, parts });
 
 /**
  * What the views need of a text that holds.

@@ -146,8 +146,11 @@ const keyOf = text => el('ul', { class: 'plain quiet', 'aria-label': 'What the s
 export function drawingOf(walk, text) {
   const root = nodesOf(text), undue = firstUndue(walk, root);
   if (undue) {
-    return [p(`The page does not draw this tree: by what it works out itself another sign is due at byte ${undue.at}. What `
-      + 'the program says of the tree counts, and not what the page works out.'), el('p', { class: 'tree-text' }, code(text))];
+    return [
+      p(`The page does not draw this tree: by what it works out itself another sign is due at byte ${undue.at}. `
+        + 'What the program says of the tree counts, and not what the page works out.'),
+      el('p', { class: 'tree-text' }, code(text)),
+    ];
   }
   const places = tableOf('The places of the tree', [
     { head: 'Place', of: it => it.place },

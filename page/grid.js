@@ -52,8 +52,8 @@ export function tableOf(caption, columns, rows, options = {}) {
 const ROWS_AT_ONCE = 60;
 
 /**
- * Draws the first rows, and more as the last one comes into view. What is drawn anew draws no more of what it was. All are
- * drawn by the body's `fill`, which is called before the page is printed.
+ * Draws the first rows, and more as the last one comes into view. What is drawn anew draws no more of what it was. All
+ * are drawn by the body's `fill`, which is called before the page is printed.
  * @template Row
  * @param {HTMLElement} body @param {Row[]} rows @param {Column<Row>[]} columns
  */

@@ -11,8 +11,8 @@ const LINE_FEED = 10, RETURN = 13, SPACE = 32, TAB = 9, HASH = 35;
 export const hasMark = (bytes, from) => bytes[from] === 0xef && bytes[from + 1] === 0xbb && bytes[from + 2] === 0xbf;
 
 /**
- * Tells each command of a session (FORMATS, "Sessions"): from where to where its line stands, without the line feed, and
- * the line's number, from 1. A byte order mark at the beginning belongs to no line.
+ * Tells each command of a session (FORMATS, "Sessions"): from where to where its line stands, without the line feed,
+ * and the line's number, from 1. A byte order mark at the beginning belongs to no line.
  * @param {Uint8Array} bytes @param {(from: number, to: number, number: number) => void} take
  */
 export function eachCommand(bytes, take) {

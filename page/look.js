@@ -6,8 +6,8 @@ import { catalogueIn, rollIn } from './tables.js';
 import { preferencesOf, repliesOf } from './wishes.js';
 
 /**
- * What the desk replies, how many commands there are, who wants nothing and what nobody wants, and whom several sessions
- * name.
+ * What the desk replies, how many commands there are, who wants nothing and what nobody wants, and whom several
+ * sessions name.
  * @param {string} answer what `prefer` printed @param {Parts} parts
  * @returns {Look}
  */

@@ -1,4 +1,4 @@
-// What the worker reads and works out, so that the page is not held up by a long text. What comes back are plain values.
+// What the worker reads and works out, so that no long text holds the page up. What comes back are plain values.
 
 import { namedIn } from './alone.js';
 import { lookOf } from './look.js';

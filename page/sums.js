@@ -29,10 +29,11 @@ async function unpacked(id) {
  */
 export async function held() {
   const bytes = {
-    module: await unpacked('module'), example: await unpacked('example-files'), worker: encoded($('worker').textContent),
+    module: await unpacked('module'), example: await unpacked('example-files'),
+    worker: encoded($('worker').textContent),
   };
-  const { module, example, worker } = bytes;
-  return { bytes, sums: { module: await hashOf(module), example: await hashOf(example), worker: await hashOf(worker) } };
+  const [module, example, worker] = await Promise.all([bytes.module, bytes.example, bytes.worker].map(hashOf));
+  return { bytes, sums: { module, example, worker } };
 }
 
 /**
@@ -61,8 +62,8 @@ export function comparedWords(typed, sum) {
   if (!typed.trim()) return '';
   if (!found) return 'This is no SHA-256, which has 64 digits from 0 to 9 and a to f.';
   if (found === sum) return 'It is the sum of the module of this page.';
-  return 'It is not the sum of the module of this page. (The sum of the whole page, course-match.html, is compared outside '
-    + 'of it: the guide says how.)';
+  return 'It is not the sum of the module of this page. (The sum of the whole page, course-match.html, is compared '
+    + 'outside of it: the guide says how.)';
 }
 
 /**
@@ -71,8 +72,8 @@ export function comparedWords(typed, sum) {
  */
 export function showSums({ sums }) {
   if (!sums.module) {
-    $('sums').replaceChildren(p('This browser computes no sum of a page that came by http: open it by https, or from the '
-      + 'disk.'));
+    $('sums').replaceChildren(
+      p('This browser computes no sum of a page that came by http: open it by https, or from the disk.'));
     return;
   }
   const said = el('span', { role: 'status' });
@@ -81,6 +82,6 @@ export function showSums({ sums }) {
     p('SHA-256, computed when the page was opened: of the module ', el('code', { id: 'module-sum' }, sums.module),
       ', of the example term ', el('code', {}, sums.example), '.'),
     el('p', { class: 'ask' }, el('label', { for: 'published-sum' }, 'The sum of the module that was published: '),
-      el('input', { id: 'published-sum', autocomplete: 'off', autocapitalize: 'off', spellcheck: 'false', oninput }), ' ',
-      said));
+      el('input', { id: 'published-sum', autocomplete: 'off', autocapitalize: 'off', spellcheck: 'false', oninput }),
+      ' ', said));
 }

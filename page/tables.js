@@ -44,8 +44,8 @@ function plainField(text, at) {
 }
 
 /**
- * A field that begins with a quote, and where it ends: what stands behind its last quote is of it too. One whose quote is
- * not closed ends with the text.
+ * A field that begins with a quote, and where it ends: what stands behind its last quote is of it too. One whose quote
+ * is not closed ends with the text.
  * @param {string} text @param {number} at
  */
 function quotedField(text, at) {

@@ -34,7 +34,8 @@ export function turnCount(lineAt, from) {
  */
 export function publishedOf(text, catalogue, roll) {
   const lines = text.split('\n'), [students, sections] = [roll.length, catalogue.length];
-  const turns = turnCount(it => lines[it - 1], linesOf(students, sections, 0).turns), at = linesOf(students, sections, turns);
+  const turns = turnCount(it => lines[it - 1], linesOf(students, sections, 0).turns);
+  const at = linesOf(students, sections, turns);
   const words = (/** @type {number} */ from, /** @type {number} */ count) =>
     lines.slice(from - 1, from - 1 + count).map(it => it.split(' '));
   const numbers = (/** @type {number} */ from, /** @type {number} */ count) =>

@@ -1,7 +1,8 @@
 // The types of the page's values, for JSDoc.
 
 /** What a file is taken for. */
-type Kind = 'catalogue' | 'roll' | 'settings' | 'text' | 'session' | 'manifest' | 'own' | 'names' | 'prices' | 'other' | 'unknown';
+type Kind = 'catalogue' | 'roll' | 'settings' | 'text' | 'session' | 'manifest' | 'own' | 'names' | 'prices' | 'other'
+  | 'unknown';
 
 /** A file that was given. One that could not be read has no bytes. `sum` is its SHA-256, once it is known. */
 interface GivenFile {

@@ -11,7 +11,7 @@ import { inPrintedOrder, packed, preferencesOf } from './wishes.js';
 const MOST_IN_A_CALL = 64;
 
 /**
- * What the views need of a text that holds, but for the files themselves; what the students want comes from the program.
+ * What the views need of a text that holds, but for its files; what the students want comes from the program.
  * @param {import('./one_student.js').Ask} ask
  * @param {Parts} parts with the sessions in the order of the text
  * @returns {Promise<{ market?: ReadMarket, refusal?: Checked }>}

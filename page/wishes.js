@@ -107,8 +107,7 @@ function sameWords(sessions) {
 }
 
 /**
- * All commands in the order of the text, byte for byte, in as many sessions as have the length of one; these are heard one
- * after the other.
+ * All commands in the order of the text, byte for byte, in as few sessions as hold them, heard one after the other.
  * @param {number[]} order @param {Uint8Array[]} sessions
  * @returns {Uint8Array[]}
  */
@@ -124,7 +123,7 @@ export function inPrintedOrder(order, sessions) {
 }
 
 /**
- * Lines in as few sessions as have the length of one. No line stands where a byte order mark of its own would be dropped.
+ * Lines in as few sessions as hold them. No line stands where a byte order mark of its own would be dropped.
  * @param {Uint8Array[]} lines
  * @returns {Uint8Array[]}
  */
@@ -194,8 +193,8 @@ export function repliesOf(answer, sessions) {
     if (word !== 'entry') continue;
     const number = Number(session) - 1, { row, said } = left[number][at[number]++];
     if (reply === 'done') continue;
-    const words = command[0] === 'unreadable' ? visible(decoded(said.subarray(0, MOST_SHOWN)).trim()) : command.join(' ');
-    found.push({ file: sessions[number].name, row, reply, command: words });
+    const isUnread = command[0] === 'unreadable', shown = () => visible(decoded(said.subarray(0, MOST_SHOWN)).trim());
+    found.push({ file: sessions[number].name, row, reply, command: isUnread ? shown() : command.join(' ') });
   }
   return found;
 }

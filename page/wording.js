@@ -42,12 +42,13 @@ const RIGHT_TO_LEFT = /[\u0590-\u08ff\ufb1d-\ufdff\ufe70-\ufeff]/;
 const hiddenSign = sign => {
   const direction = DIRECTIONS.get(sign), number = sign.charCodeAt(0).toString(16).padStart(2, '0');
   if (direction) return `‹${direction}›`;
-  return { '\0': '\\0', '\t': '\\t', '\n': '\\n', '\r': '\\r' }[sign] ?? (sign > '\xff' ? `\\u${number}` : `\\x${number}`);
+  const known = { '\0': '\\0', '\t': '\\t', '\n': '\\n', '\r': '\\r' }[sign];
+  return known ?? (sign > '\xff' ? `\\u${number}` : `\\x${number}`);
 };
 
 /**
- * A text of a file as it can be shown in a sentence: signs that no screen shows are written out (`\0`, marks of direction
- * by their names), and a text that runs from right to left does not turn what stands beside it.
+ * A text of a file as it can be shown in a sentence: signs that no screen shows are written out (`\0`, marks of
+ * direction by their names), and a text that runs from right to left does not turn what stands beside it.
  * @param {string} text
  */
 export function visible(text) {

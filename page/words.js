@@ -244,8 +244,8 @@ export function excerptOf(words, parts) {
   }
   const from = Math.max(0, Math.min(sign - SHOWN_BEFORE, text.length));
   return {
-    line, column: sign + 1, before: visible((from ? '.. ' : '') + text.slice(from, sign)), marked: visible(text[sign] ?? ' '),
-    behind: visible(text.slice(sign + 1, sign + SHOWN_BEHIND)),
+    line, column: sign + 1, before: visible((from ? '.. ' : '') + text.slice(from, sign)),
+    marked: visible(text[sign] ?? ' '), behind: visible(text.slice(sign + 1, sign + SHOWN_BEHIND)),
   };
 }
 
@@ -336,6 +336,7 @@ export function answerWords(answer, call) {
 export function refusalOf({ answer, call, parts, isCut }) {
   const told = answerWords(answer, call), { finding } = told;
   if (!finding) return { told, excerpt: null, causes: [] };
-  const unsure = isCut && !/^line/.test(finding) ? { title: 'This text was not found to hold', help: OTHER_ORDERS } : {};
+  const isUnsure = isCut && !/^line/.test(finding);
+  const unsure = isUnsure ? { title: 'This text was not found to hold', help: OTHER_ORDERS } : {};
   return { told: { ...told, ...unsure }, excerpt: excerptOf(finding, parts), causes: causesOf(finding, parts) };
 }

@@ -11,8 +11,8 @@ from common import PAGE, TERM, open_page
 
 FILES = ["catalogue.csv", "roll.csv", "settings.json", "published.txt", "desk.session", "web.session"]
 
-# The page copies a text to its worker, so it may be held up as long as some copies take; a machine that does other work too
-# is slower in both. (A text that is read in the page itself holds it up for a minute.)
+# The page copies a text to its worker, so it may be held up as long as some copies take; a machine that does other work
+# too is slower in both. (A text that is read in the page itself holds it up for a minute.)
 COPIES, LEAST_LIMIT = 15, 2000
 COPY = """(it => {
   const begun = performance.now();

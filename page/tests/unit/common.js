@@ -22,7 +22,7 @@ export function casesOf(form) {
 /** A file of a folder as the page has it. */
 export const fileOf = (folder, name, kind) => ({ name, kind, bytes: new Uint8Array(readFileSync(join(folder, name))) });
 
-/** What the desk does with sessions in the order of a text, by FORMATS, "Sessions"; only of lines that it carries out. */
+/** What the desk does with sessions in the order of a text (FORMATS, "Sessions"); only of lines that it carries out. */
 export function wishesAfter(order, sessions, students, sections) {
   const left = sessions.map(it => decoded(it.bytes).split('\n').map(line => line.trim().split(/[ \t]+/))
     .filter(([word]) => word && !word.startsWith('#')));

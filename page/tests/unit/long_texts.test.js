@@ -1,4 +1,4 @@
-// Long and strange inputs: lines keep their bytes, nothing is made of what is not asked for, and what is shown can be seen.
+// Long and strange inputs: lines keep their bytes, nothing is made of what is not asked for, what is shown can be seen.
 
 import assert from 'node:assert/strict';
 import test from 'node:test';
@@ -36,8 +36,9 @@ test('more than a session may have comes in several, and a mark within stays wha
 });
 
 test('where one call has not room for all sessions, each student has its own lines', () => {
-  const line = encoded('rate a X 1' + ' '.repeat(2 ** 23)), said = new Map([['a', { bytes: encoded('# own\nrate a X 1\n') }]]);
-  const calls = wishedIn(Array.from({ length: 65 }, (_, at) => at + 1), Array(65).fill(line), said, [{ name: 'a' }, { name: 'b' }]);
+  const line = encoded('rate a X 1' + ' '.repeat(2 ** 23)), order = Array.from({ length: 65 }, (_, at) => at + 1);
+  const said = new Map([['a', { bytes: encoded('# own\nrate a X 1\n') }]]);
+  const calls = wishedIn(order, Array(65).fill(line), said, [{ name: 'a' }, { name: 'b' }]);
   assert.deepEqual(calls.map(it => it.map(decoded)), [['# own\nrate a X 1\n']]);
 });
 
@@ -45,7 +46,9 @@ test('a reply is told with its line, and what cannot be read as it can be shown'
   const sessions = [given('a', 'session', '# x\nrate\0 a\nclear a\n')];
   assert.deepEqual(repliesOf('entry 1 unreadable unreadable\nentry 1 done clear a\n', sessions),
     [{ file: 'a', row: 2, reply: 'unreadable', command: 'rate\\0 a' }]);
-  const parts = { sessions, catalogue: given('c', 'catalogue', 'section,\nX,\n'), roll: given('r', 'roll', 'student,\na,\n') };
+  const parts = {
+    sessions, catalogue: given('c', 'catalogue', 'section,\nX,\n'), roll: given('r', 'roll', 'student,\na,\n'),
+  };
   const look = lookOf('entry 1 unreadable unreadable\nentry 1 done clear a\n', parts);
   assert.deepEqual([look.all, look.silent, look.unwanted, look.several], [2, ['a'], ['X'], []]);
 });
@@ -73,12 +76,13 @@ test('a finding is shown in its line', () => {
   const parts = {
     catalogue: given('c', 'catalogue', 'section,course,seats,credits,meetings\nX,X,1,1,\n'),
     roll: given('r', 'roll', 'student,budget,credits,courses\nann,100,5,5\n'), sessions: [],
-    text: given('t', 'text', 'course-match 1\norder 1\nbudget ann 100\nstart X 0\nerror 0\nprice X 0\nbundle ann [X] +*n\n'
-      + 'turn 1 ann [X] +*n\nfinal ann [X]\nused X 1 1\nend\n'),
+    text: given('t', 'text', 'course-match 1\norder 1\nbudget ann 100\nstart X 0\nerror 0\nprice X 0\n'
+      + 'bundle ann [X] +*n\nturn 1 ann [X] +*n\nfinal ann [X]\nused X 1 1\nend\n'),
   };
   assert.deepEqual(excerptOf('student ann tree leaf at 2', parts),
     { line: 7, column: 18, before: 'bundle ann [X] +*', marked: 'n', behind: '' });
-  assert.deepEqual(excerptOf('used X', parts), { line: 10, column: null, before: 'used X 1 1', marked: '', behind: '' });
+  assert.deepEqual(excerptOf('used X', parts),
+    { line: 10, column: null, before: 'used X 1 1', marked: '', behind: '' });
   assert.equal(excerptOf('turn 1 order', parts).line, 8);
   const answer = { status: 8, text: 'finding: line 3 form\n' }, call = { inputs: [] };
   const text = given('t', 'text', 'course-match 1\norder 1\nbudget \0bob 100\n');

@@ -108,5 +108,6 @@ test('a published sum is compared in each of the ways in which it is pasted', ()
   const about = { sums: { module: sum, example: sum, worker: sum } };
   assert.deepEqual(changesIn({ sums: { module: sum, example: sum, worker: sum } }, about), []);
   assert.deepEqual(changesIn({ sums: { module: null, example: null, worker: null } }, about), []);
-  assert.match(changesIn({ sums: { module: sum, example: '', worker: sum } }, about)[0], /^The example term of this page/);
+  const [change] = changesIn({ sums: { module: sum, example: '', worker: sum } }, about);
+  assert.match(change, /^The example term of this page/);
 });

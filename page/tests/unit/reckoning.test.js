@@ -112,7 +112,8 @@ test('the clearing error squares seats too many, and free ones where the price i
 
 test('a sign that is not due is found', () => {
   const market = marketIn(TERM, OF_TERM), { at } = market.roll.find(it => it.name === 'n.jones');
-  const { names, tree } = market.text.bundles[at], walk = walkOf(market, at, { budget: market.text.budgets[at], champion: names });
+  const { names, tree } = market.text.bundles[at], budget = market.text.budgets[at];
+  const walk = walkOf(market, at, { budget, champion: names });
   assert.equal(firstUndue(walk, nodesOf(tree)), null);
   assert.equal(firstUndue(walk, nodesOf(tree.replace('*', 'n'))).at, tree.indexOf('*'));
   assert.equal(firstUndue({ ...walk, budget: walk.budget - 700 }, nodesOf(tree)) === null, false);
