@@ -204,8 +204,8 @@ export class Registrar {
 }
 
 /**
- * What is known of how long a run takes: it tells nothing before its end. (Measured in Chromium with one worker: 100
- * students less than a second, 500 students and 100 sections 3 s, 2,000 students and 400 contested sections 20 s.)
+ * What is known of how long a run takes: it tells nothing before its end. (With one worker the native program takes some
+ * 5 s for 2,000 students and 400 contested sections; a page takes about twice that, and a phone longer.)
  * @param {number} students @param {GivenFile} settings
  */
 function timeWords(students, settings) {
