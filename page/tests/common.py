@@ -46,7 +46,8 @@ def native(words: list[str], files: dict[str, bytes], room: Path, refuse: Path) 
 # The page's own program, called from outside: files come in base64, answers go so.
 ASK = """(async ([words, files, limit]) => {
   const bytes = files.map(([name, text]) => [name, Uint8Array.from(atob(text), it => it.charCodeAt(0))]);
-  const { status, out, ms } = await program.ask({ words, files: bytes }, limit);
+  program.limit = limit;
+  const { status, out, ms } = await program.ask({ words, files: bytes }).finally(() => { program.limit = 0; });
   let text = '';
   for (let at = 0; at < out.length; at += 32768) text += String.fromCharCode(...out.subarray(at, at + 32768));
   return [status, btoa(text), ms];
