@@ -145,6 +145,7 @@ class Drawn(InFolder):
     @needs_program
     def test_mails_and_rosters_have_the_student_s_own_name(self) -> None:
         """The register is joined by the key; in the mail's attachment stands the drawn name, by which it is checked."""
+        self.write("office/c.csv", "s,c,n\nÖK 1,ÖK,1\nB-1,B,3\n")  # (a seat for each, whatever names are drawn)
         self.write("office/r.csv", "id,who,mail\n" + "".join(f"{own},N{at},s{at}@school.edu\n" for at, own in enumerate(OWN)))
         rosters = "[rosters]\nfile = system.csv\nencoding = utf-8\n[roster columns]\nID = {student}\nNAME = {name}\nSEC = {section}\n"
         self.write("office/mapping.ini", MAPPING.replace("[survey w]", "name = who\ne-mail = mail\n[survey w]") + rosters)
