@@ -1,3 +1,4 @@
+pub mod DayFacts
 pub mod Guesses
 pub mod PartsText
 pub mod Pieces

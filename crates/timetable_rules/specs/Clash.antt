@@ -1,5 +1,5 @@
 -- Sections that clash.
-use Rattle.std.specs.Prelude.{ℕ, ◌≡◌, ◌≢◌, ◌<◌, ◌⊎◌, ◌↔◌, IsTrue, Bool, ◌&&◌, ◌||◌, ◌==◌, not, List, [], length, slice_index, slice_index_or}
+use Rattle.std.specs.Prelude.{ℕ, ◌≡◌, ◌≢◌, ◌<◌, ◌⊎◌, ◌↔◌, IsTrue, Bool, ◌&&◌, ◌||◌, ◌==◌, not, List, [], length, slice_index, slice_index_or, nat_lt}
 use Rattle.std.specs.Ordering.{nat_cmp}
 use Rattle.std.specs.FinSet as set
 use Rattle.timetable_rules.specs.declared.meeting.Meeting.{Meeting}
@@ -27,6 +27,13 @@ clashes meetings courses parts a b =
 -- what a table says of two sections: the second is in the set of the first
 abbrev pub tells : List (set.FinSet nat_cmp) → ℕ → ℕ → Bool
 tells table a b = set.contains (slice_index_or table a set.empty) b
+
+-- the rows of the sections before one tell which of them clash
+pub record AreEarlierRows (meetings : List (List Meeting)) (courses : List ℕ) (parts : List Parts)
+    (section : ℕ) (rows : List (set.FinSet nat_cmp)) : Type 0 where
+  pub count : length rows ≡ section
+  pub told : (a b : ℕ) → a < section
+      → tells rows a b ≡ (nat_lt b section && clashes meetings courses parts a b)
 
 -- The table is the relation of clashes of these sections.
 pub record IsClashTable (meetings : List (List Meeting)) (courses : List ℕ) (parts : List Parts)

@@ -1,4 +1,5 @@
 pub mod Clash
+pub mod Days
 pub mod Laws
 pub mod Meeting
 pub mod Meetings

@@ -2,7 +2,7 @@
 ghost use Rattle.std.specs.Prelude.{◌≡◌, ◌≤◌, ◌<◌, IfOk, length, map};
 ghost use Rattle.timetable_rules.specs.{Clash.IsClashTable, Clash.tells, Meetings.meetings_of};
 
-use crate::rows::{Timetable, clashing};
+use crate::pairs::{Timetable, do_clash};
 use crate::{Meetings, Parts};
 use market_units::{MAX_SECTIONS, NoMemory, SectionNo, SectionSet};
 use std::alloc::Global;
@@ -50,9 +50,17 @@ impl ClashTable {
             courses,
             parts,
         };
-        let mut rows = Vec::with_capacity(alloc, courses.len())?;
+        let mut rows: Vec<SectionSet> = Vec::with_capacity(alloc, courses.len())?;
         for section in 0..courses.len() {
-            rows.push(clashing(&timetable, section))?;
+            let mut row = SectionSet::empty();
+            // A clash is mutual: each pair is looked at once, and written into both rows.
+            for earlier in 0..section {
+                if do_clash(&timetable, section, earlier) {
+                    row = row.with(SectionNo(earlier as u16));
+                    rows[earlier] = rows[earlier].with(SectionNo(section as u16));
+                }
+            }
+            rows.push(row)?;
         }
         Ok(ClashTable { rows })
     }

@@ -8,10 +8,10 @@ pub mod laws;
 mod meeting;
 mod meetings;
 mod overlaps;
+mod pairs;
 mod parts;
 mod parts_text;
 mod reading;
-mod rows;
 
 pub use clashes::ClashTable;
 pub use meeting::Meeting;

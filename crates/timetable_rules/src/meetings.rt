@@ -1,6 +1,7 @@
 // The meetings of a section, in a room of fixed size.
 ghost use Rattle.std.specs.Prelude.{◌≤◌, All, take};
 ghost use Rattle.market_units.specs.declared.limits.TheConstants.{MAX_MEETINGS};
+ghost use Rattle.timetable_rules.specs.Days.{AreOnDays};
 ghost use Rattle.timetable_rules.specs.Meeting.{IsMeeting};
 
 use crate::Meeting;
@@ -11,9 +12,13 @@ use market_units::MAX_MEETINGS;
 pub struct Meetings {
     places: [Meeting; MAX_MEETINGS],
     len: usize,
+    // The days of the meetings, as bits, so that those of two sections are mostly told apart by one
+    // test.
+    days: u8,
     ghost few: { len ≤ MAX_MEETINGS },
     // The ranges stand here, so that a `Meeting` is plain data, which definitions can write down.
     ghost each: { All IsMeeting (take len places) },
+    ghost on_days: { AreOnDays days (take len places) },
 }
 
 impl Meetings {
@@ -32,6 +37,7 @@ impl Meetings {
         Meetings {
             places: [nowhere; MAX_MEETINGS],
             len: 0,
+            days: 0,
         }
     }
 
@@ -42,6 +48,13 @@ impl Meetings {
         ensures each { All IsMeeting (meetings_of self.now) }
     {
         &self.places[..self.len]
+    }
+
+    /// The days of the meetings, as bits from Monday (bit 0) to Sunday (bit 6).
+    pub(crate) fn days(&self) -> u8
+        ensures { AreOnDays result (meetings_of self.now) }
+    {
+        self.days
     }
 
     /// These meetings and then one more.
@@ -56,6 +69,7 @@ impl Meetings {
         Meetings {
             places,
             len: self.len + 1,
+            days: self.days | 1 << meeting.day,
         }
     }
 }

@@ -12,6 +12,9 @@ pub fn overlap(a: &Meetings, b: &Meetings) -> bool
     ensures relation { IsTrue result ↔ SomeOverlap (meetings_of a.now) (meetings_of b.now) }
     ensures test { result ≡ some_overlap (meetings_of a.now) (meetings_of b.now) }
 {
+    if a.days() & b.days() == 0 {
+        return false;
+    }
     some_meet(a.as_slice(), b.as_slice())
 }
 

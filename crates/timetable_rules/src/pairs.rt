@@ -1,12 +1,10 @@
-// One row of the table of clashes.
-ghost use Rattle.std.specs.Prelude.{◌≡◌, ◌≤◌, ◌<◌, ◌&&◌, ℕ, length, map, nat_lt};
-ghost use Rattle.std.specs.FinSet as set;
+// Two sections that clash.
+ghost use Rattle.std.specs.Prelude.{◌≡◌, ◌≤◌, ◌<◌, length, map};
 ghost use Rattle.market_units.specs.declared.limits.TheConstants.{MAX_SECTIONS};
 ghost use Rattle.timetable_rules.specs.{Clash.clashes, Meetings.meetings_of};
 
 use crate::parts_text::share_part;
 use crate::{Meetings, Parts, overlap};
-use market_units::{SectionNo, SectionSet};
 
 /// When each section meets, its course number and its parts of the term, by ordinal. There are at
 /// most 400 sections.
@@ -20,24 +18,8 @@ pub(crate) struct Timetable<'a> {
     ghost few: { length courses.now ≤ MAX_SECTIONS },
 }
 
-/// The sections that clash with this one.
-pub(crate) fn clashing(timetable: &Timetable, section: usize) -> SectionSet
-    requires { section < length timetable.now.courses.now }
-    ensures { (other : ℕ) → set.contains result other
-        ≡ (nat_lt other (length timetable.now.courses.now)
-        && clashes (map meetings_of timetable.now.meetings.now) timetable.now.courses.now
-        timetable.now.parts.now section other) }
-{
-    let mut row = SectionSet::empty();
-    for other in 0..timetable.courses.len() {
-        if do_clash(timetable, section, other) {
-            row = row.with(SectionNo(other as u16));
-        }
-    }
-    row
-}
-
-fn do_clash(timetable: &Timetable, a: usize, b: usize) -> bool
+/// Whether two sections clash.
+pub(crate) fn do_clash(timetable: &Timetable, a: usize, b: usize) -> bool
     requires first { a < length timetable.now.courses.now }
     requires second { b < length timetable.now.courses.now }
     ensures { result
@@ -51,5 +33,5 @@ fn do_clash(timetable: &Timetable, a: usize, b: usize) -> bool
     } = *timetable;
     a != b
         && (courses[a] == courses[b]
-            || (share_part(parts[a], parts[b]) && overlap(&meetings[a], &meetings[b])))
+            || (overlap(&meetings[a], &meetings[b]) && share_part(parts[a], parts[b])))
 }
