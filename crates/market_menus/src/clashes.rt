@@ -1,10 +1,10 @@
 // Which places of a menu clash.
-ghost use Rattle.std.specs.Prelude.{◌≡◌, ◌<◌, IfOk, length};
+ghost use Rattle.std.specs.Prelude.{◌≡◌, ◌<◌, IfOk, true};
 ghost use Rattle.bundle_rules.specs.Ranking.{word_with};
-ghost use Rattle.market_menus.specs.ClashWords.{AreClashWords, IsClashWord};
+ghost use Rattle.market_menus.specs.ClashWords.{AreClashWords};
 
 use crate::places::Places;
-use market_units::{NoMemory, SectionNo};
+use market_units::NoMemory;
 use std::alloc::Global;
 
 /// The word of each place: its bit t tells whether the catalogue lets the place's section clash
@@ -14,29 +14,27 @@ pub(crate) fn clashes_of(alloc: Global, places: &Places) -> Result<Vec<u64>, NoM
     ensures { IfOk result
         (λ words. AreClashWords places.now.catalog.now.sections places.now.rated.now words.items) }
 {
-    let mut words = Vec::with_capacity(alloc, places.rated.len())?;
-    'places: for rated in places.rated {
-        words.push(clash_word(places, rated.section))?;
+    let count = places.rated.len();
+    let mut words: Vec<u64> = Vec::with_capacity(alloc, count)?;
+    for place in 0..count {
+        let section = places.rated[place].section;
+        let mut word = 0;
+        // A clash is mutual: each pair is looked at once, and written into both words.
+        for earlier in 0..place {
+            if places.catalog.clash(section, places.rated[earlier].section) {
+                word = with_bit(word, earlier);
+                words[earlier] = with_bit(words[earlier], place);
+            }
+        }
+        words.push(word)?;
     }
     Ok(words)
 }
 
-// The word of a section: its bit t tells whether it clashes with the section of place t.
-fn clash_word(places: &Places, section: SectionNo) -> u64
-    requires { section.0 < length places.now.catalog.now.sections }
-    ensures { IsClashWord places.now.catalog.now.sections places.now.rated.now section.0 result }
-{
-    let mut word = 0;
-    'others: for (place, rated) in places.rated.iter().enumerate() {
-        word = with_bit(word, place, places.catalog.clash(section, rated.section));
-    }
-    word
-}
-
-// The word with one more bit set, where that is asked.
-fn with_bit(word: u64, bit: usize, is_set: bool) -> u64
+// The word with one more bit set.
+fn with_bit(word: u64, bit: usize) -> u64
     requires { bit < 64 }
-    ensures { result ≡ word_with word bit is_set }
+    ensures { result ≡ word_with word bit true }
 {
-    if is_set { word | 1 << bit } else { word }
+    word | 1 << bit
 }
