@@ -152,3 +152,28 @@ plain_without p ps sum here sum_is here_is =
     let is = sum_without (over_price Count 0) p ps 0 sum here (let goal : sum ≡ 0 + whole = omega arith in goal) here_is in
     let left : sum - here ≡ 0 + later = is.left in
     record { fits = is.fits; left = (let goal : sum - here ≡ later = omega arith in goal) ∙ ap (λ f. by_course f ps) plain_over }
+
+-- one more is added in front, of a course that has none behind it
+pub added_new : (f : Prospect → ℕ) (ps : List Prospect) (i sum more : ℕ) (d : Prospect) → i < length ps → sum ≡ by_course f (drop (i + 1) ps)
+    → more ≡ f (get_or ps i d) → has_course (drop (i + 1) ps) (get_or ps i d).course ≡ false → sum + more ≡ by_course f (drop i ps)
+added_new f ps i sum more d low sum_is more_is none =
+    let nothing : greatest f (get_or ps i d).course (drop (i + 1) ps) ≡ 0 = greatest_none f (drop (i + 1) ps) (get_or ps i d).course none in
+    let whole : ℕ = f (get_or ps i d) in
+    let most : ℕ = greatest f (get_or ps i d).course (drop (i + 1) ps) in
+    let more_is' : more ≡ whole = more_is in
+    let nothing' : most ≡ 0 = nothing in
+    added_front f ps i sum more d low sum_is (let goal : more ≡ whole - most = omega arith in goal)
+
+-- it is the highest of its course
+pub peak_new : (f : Prospect → ℕ) (ps : List Prospect) (i own : ℕ) (d : Prospect) → i < length ps → own ≡ f (get_or ps i d)
+    → has_course (drop (i + 1) ps) (get_or ps i d).course ≡ false → own ≡ greatest f (get_or ps i d).course (drop i ps)
+peak_new f ps i own d low own_is none =
+    let nothing : greatest f (get_or ps i d).course (drop (i + 1) ps) ≡ 0 = greatest_none f (drop (i + 1) ps) (get_or ps i d).course none in
+    let most : own ≡ max own 0 = omega arith in
+    peak_front f ps i own 0 own d low own_is (sym nothing) most
+
+-- one more of a course that is there already
+pub courses_same : (courses : ℕ) (ps : List Prospect) (i : ℕ) (d : Prospect) → i < length ps → bit_at courses (get_or ps i d).course ≡ 1
+    → ((course : ℕ) → (bit_at courses course == 1) ≡ has_course (drop (i + 1) ps) course)
+    → (course : ℕ) → (bit_at courses course == 1) ≡ has_course (drop i ps) course
+courses_same courses ps i d low here there = courses_more courses courses ps i (get_or ps i d).course d low refl here (λ other apart. refl) there

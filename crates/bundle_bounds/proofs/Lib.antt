@@ -20,6 +20,7 @@ pub mod Adding
 pub mod Without
 pub mod Hopes
 pub mod Prefixes
+pub mod Ample
 pub mod StayingOpen
 pub mod Stemming
 pub mod StemSteps

@@ -30,33 +30,31 @@ fn up_to_course(more: &[Prospect], course: u8) -> usize
     0
 }
 
-/// The plain sum of the open places behind the first, and their tangents, from those of all, with
-/// the same rests. The plain sum has of each course 1000 times the greatest worth.
+/// The plain sum of the open places behind the first, from that of all, with the same rests; the
+/// tangents become theirs. The plain sum has of each course 1000 times the greatest worth.
 #[inline(always)]
-pub(crate) fn leave(all: &Prospects, plain: u64, tangents: Tangents) -> (u64, Tangents)
+pub(crate) fn leave(all: &Prospects, plain: u64, tangents: &mut Tangents) -> u64
     requires some { 1 ≤ length all.now.list.now }
     requires plain { plain ≡ by_course (λ p. 1000 * p.worth) all.now.list.now }
     requires tangents { (budget : ℕ)
         × ((credit_rest : ℕ)
         × ((course_rest : ℕ)
-        × AreTangents budget credit_rest course_rest all.now.list.now tangents)) }
-    ensures plain { result.0 ≡ by_course (λ p. 1000 * p.worth) (drop 1 all.now.list.now) }
-    ensures less { result.0 ≤ plain }
+        × AreTangents budget credit_rest course_rest all.now.list.now tangents.old)) }
+    ensures plain { result ≡ by_course (λ p. 1000 * p.worth) (drop 1 all.now.list.now) }
+    ensures less { result ≤ plain }
     ensures tangents { (budget credit_rest course_rest : ℕ)
-        → AreTangents budget credit_rest course_rest all.now.list.now tangents
-        → AreTangents budget credit_rest course_rest (drop 1 all.now.list.now) result.1 }
+        → AreTangents budget credit_rest course_rest all.now.list.now tangents.old
+        → AreTangents budget credit_rest course_rest (drop 1 all.now.list.now) tangents.new }
 {
     match all.list {
-        [] => (plain, tangents),
+        [] => plain,
         [one, more @ ..] => {
             let firsts = &more[..up_to_course(more, one.course)];
             let front = Front { one, more, firsts };
-            let later = Tangents {
-                money: later(tangents.money, Resource::Money, &front),
-                credits: later(tangents.credits, Resource::Credits, &front),
-                courses: later(tangents.courses, Resource::Count, &front),
-            };
-            (plain_later(plain, &front), later)
+            later(&mut tangents.money, Resource::Money, &front);
+            later(&mut tangents.credits, Resource::Credits, &front);
+            later(&mut tangents.courses, Resource::Count, &front);
+            plain_later(plain, &front)
         }
     }
 }
@@ -76,30 +74,28 @@ fn plain_later(plain: u64, front: &Front) -> u64
     plain - added_twice(front, free).0
 }
 
-// The tangent of a resource without it.
+// The tangent of a resource becomes that without it.
 #[inline(always)]
-fn later(tangent: Option<Tangent>, resource: Resource, front: &Front) -> Option<Tangent>
+fn later(tangent: &mut Option<Tangent>, resource: Resource, front: &Front)
     requires tangent { (rest : ℕ)
-        × IfSome tangent (IsTangent rest resource (front.now.one.now ∷ front.now.more.now)) }
+        × IfSome tangent.old (IsTangent rest resource (front.now.one.now ∷ front.now.more.now)) }
     ensures { (rest : ℕ)
-        → IfSome tangent (IsTangent rest resource (front.now.one.now ∷ front.now.more.now))
-        → IfSome result (IsTangent rest resource front.now.more.now) }
+        → IfSome tangent.old (IsTangent rest resource (front.now.one.now ∷ front.now.more.now))
+        → IfSome tangent.new (IsTangent rest resource front.now.more.now) }
 {
-    match tangent {
-        Some(tangent) => {
-            let rate = Rate {
-                resource,
-                price: tangent.price,
-            };
-            let (here, after) = added_twice(front, rate);
-            Some(Tangent {
-                price: tangent.price,
-                sum: tangent.sum - here,
-                next: tangent.next - after,
-            })
-        }
-        None => None,
-    }
+    let Some(kept) = *tangent else {
+        return;
+    };
+    let rate = Rate {
+        resource,
+        price: kept.price,
+    };
+    let (here, after) = added_twice(front, rate);
+    *tangent = Some(Tangent {
+        price: kept.price,
+        sum: kept.sum - here,
+        next: kept.next - after,
+    });
 }
 
 // How much the first open place adds to the sum of each course's greatest `over_price`: what it has

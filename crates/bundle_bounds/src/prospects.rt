@@ -1,8 +1,8 @@
 // What is known of open places, and what one of each course can add at most.
-ghost use Rattle.std.specs.Prelude.{◌≡◌, ◌≤◌, ◌<◌, ◌^◌, ◌*◌, ◌+◌, ◌-◌, ◌==◌, if◌then◌else◌, max, false, IsTrue, length, All};
+ghost use Rattle.std.specs.Prelude.{◌≡◌, ◌≤◌, ◌<◌, ◌^◌, ◌*◌, ◌+◌, ◌-◌, ◌==◌, if◌then◌else◌, max, length, All};
 ghost use Rattle.market_units.specs.declared.limits.TheConstants.{MAX_RATINGS};
 ghost use Rattle.bundle_bounds.specs.Bounds.{over_price, at_price};
-ghost use Rattle.bundle_bounds.specs.Courses.{takes_of, has_course, greatest, by_course};
+ghost use Rattle.bundle_bounds.specs.Courses.{takes_of, greatest, by_course};
 ghost use Rattle.bundle_bounds.specs.{Modest.IsModest, Peaks.IsPeak};
 
 use crate::words::{is_in, with};
@@ -133,35 +133,32 @@ fn add_up_twice(all: &Prospects, rate: Rate) -> (u64, u64)
     let mut next = 0;
     for index in (0..list.len()).rev() {
         let prospect = &list[index];
-        let more = &list[index + 1..];
-        let is_new = !is_in(courses, prospect.course);
-        let most = peak_behind(more, rate, prospect.course, is_new, last);
         let own = peak_of(prospect, rate);
+        if !is_in(courses, prospect.course) {
+            sum += own.here;
+            next += own.after;
+            last = own;
+            courses = with(courses, prospect.course);
+            continue;
+        }
+        let more = &list[index + 1..];
+        let most = peak_behind(more, rate, prospect.course, last);
         sum += own.here.saturating_sub(most.here);
         next += own.after.saturating_sub(most.after);
         last = higher(own, most);
-        courses = with(courses, prospect.course);
     }
     (sum, next)
 }
 
 // The peak of a course among those behind a prospect, where that of the first one's course is at
-// hand. Of a new course there are none. Sections of one course mostly stand side by side.
+// hand. Sections of one course mostly stand side by side.
 #[inline(always)]
-fn peak_behind(more: &[Prospect], rate: Rate, course: u8, is_new: bool, last: Peak) -> Peak
-    requires none { IsTrue is_new → has_course more.now course ≡ false }
-    requires last { IsPeak rate.resource rate.price last.course more.now last }
+fn peak_behind(more: &[Prospect], rate: Rate, course: u8, last: Peak) -> Peak
+    requires { IsPeak rate.resource rate.price last.course more.now last }
     ensures { IsPeak rate.resource rate.price course more.now result }
 {
     if course == last.course {
         return last;
-    }
-    if is_new {
-        return Peak {
-            course,
-            here: 0,
-            after: 0,
-        };
     }
     peak_among(more, rate, course)
 }

@@ -1,6 +1,7 @@
 // The bounds of the resources, and the first below a limit.
 ghost use Rattle.std.specs.Prelude.{ℕ, List, ◌≡◌, ◌<◌, ◌≤◌, ◌≤ℤ◌, ◌↔◌, ◌++◌, ◌*◌, ◌/◌, ◌+ℤ◌, ◌<ℤ◌, ◌&&◌, ◌==◌, ℤ, nat_lt, true, pos, IsTrue, IfSome, IfNone, All};
 ghost use Rattle.bundle_bounds.specs.Bounds.{leaf_of, at_price, resource_bounds, all_bounds, HasBound};
+ghost use Rattle.market_units.specs.Totals.{total};
 ghost use Rattle.bundle_bounds.specs.{Courses.takes_of, Courses.by_course, Known.IsKnown};
 ghost use Rattle.bundle_bounds.specs.{Limits.NoneBelow, Limits.IsFirstBelow, Modest.IsModest};
 ghost use Rattle.bundle_bounds.specs.Tangents.{IsTangent, AreTangents};
@@ -126,7 +127,20 @@ fn known_by(base: Base, limit: i64, last: &Option<Tangent>) -> Known
     known
 }
 
-// The leaf of the first of all that has a bound below the limit.
+// Whether all of these together take no more than so much of the resource.
+fn fits(some: &[Prospect], resource: Resource, rest: u64) -> bool
+    ensures { IsTrue result → total (takes_of resource) some.now ≤ rest }
+{
+    match some {
+        [] => true,
+        [one, more @ ..] => {
+            let taken = takes(one, resource);
+            taken <= rest && fits(more, resource, rest - taken)
+        }
+    }
+}
+
+// The leaf of the first of all that has a bound below the limit, where the plain bound is not.
 #[inline(always)]
 fn first_of_resource(
     base: Base,
@@ -135,6 +149,8 @@ fn first_of_resource(
     all: &Prospects,
     last: &mut Option<Tangent>,
 ) -> Option<Leaf>
+    requires plain { limit
+        ≤ℤ (base.number +ℤ pos (by_course (λ p. 1000 * p.worth) all.now.list.now)) }
     requires last { IfSome last.old (IsTangent left.rest left.resource all.now.list.now) }
     ensures first { IfSome result
         (IsFirstBelow limit
@@ -144,6 +160,9 @@ fn first_of_resource(
         (resource_bounds base.number left.rest left.resource all.now.list.now all.now.list.now)) }
     ensures last { IfSome last.new (IsTangent left.rest left.resource all.now.list.now) }
 {
+    if fits(all.list, left.resource, u64::from(left.rest)) {
+        return None;
+    }
     let mut known = known_by(base, limit, last);
     for prospect in all.list {
         if known.is_all() {

@@ -161,8 +161,8 @@ impl Stem {
         }
         let list = &self.room[self.start..];
         let all = Prospects { list };
-        let (plain, tangents) = leave(&all, self.plain, self.tangents);
-        self.plain = plain;
+        let mut tangents = self.tangents;
+        self.plain = leave(&all, self.plain, &mut tangents);
         self.tangents = tangents;
         self.start += 1;
         self.limit = limit;

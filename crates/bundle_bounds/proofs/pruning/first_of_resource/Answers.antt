@@ -1,9 +1,17 @@
-use Rattle.std.proofs.Common.{◌≡◌, arith, sym, ◌∙◌, to_z, of_z, w64}
+use Rattle.std.proofs.Common.{◌≡◌, ◌≤◌, subst, arith, sym, ◌∙◌, to_z, of_z, w64}
 use Rattle.std.proofs.lemmas.Int.{ints}
 use Rattle.std.proofs.lemmas.Bool.{true≢false}
+use Rattle.market_units.specs.Totals.{total}
+use Rattle.bundle_bounds.specs.Courses.{takes_of}
 use Rattle.bundle_bounds.proofs.Steps.{no_prospect}
 use Rattle.bundle_bounds.proofs.Prefixes.{none_more, first_at, none_where_known}
+use Rattle.bundle_bounds.proofs.Ample.{none_where_ample}
 use Rattle.bundle_bounds.proofs.pruning.first_of_resource.Goals as goal
+
+pub returns-then-fits-clause-none : goal.returns-then-fits-clause-none
+returns-then-fits-clause-none c =
+    none_where_ample c.args.base.number c.args.limit c.args.left.rest c.args.left.resource c.args.all.now.list.now c.requires.plain
+    (subst (λ n. total (takes_of c.args.left.resource) c.args.all.now.list.now ≤ n) c.from.ensures (c.fits.ensures c.if-fits.true)) c.args.all.now.modest
 
 pub returns-then-is_all-clause-none : goal.returns-then-is_all-clause-none
 returns-then-is_all-clause-none c =

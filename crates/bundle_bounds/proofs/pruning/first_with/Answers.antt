@@ -1,5 +1,5 @@
 use Rattle.std.proofs.Common.{ℕ, ◌≡◌, ◌≤◌, ◌∙◌, ◌*◌, length, Bool, true, false, true≢false, to_z, of_z, w64, sym, subst, arith, inr, Some}
-use Rattle.std.specs.Prelude.{ℤ, pos, ◌+ℤ◌, ◌<ℤ◌}
+use Rattle.std.specs.Prelude.{ℤ, pos, ◌+ℤ◌, ◌<ℤ◌, ◌≤ℤ◌}
 use Rattle.std.proofs.lemmas.Int.{ints}
 use Rattle.bundle_bounds.specs.declared.nodes.Leaf.{Leaf}
 use Rattle.bundle_bounds.specs.declared.nodes.Leaf.TheVariants.{Plain}
@@ -12,6 +12,9 @@ use Rattle.bundle_bounds.proofs.pruning.first_with.Goals as goal
 not_below : (base limit : ℤ) (plain sum : ℕ) (told : Bool) → plain ≡ sum → ((base +ℤ pos plain) <ℤ limit → told ≡ true) → told ≡ false
     → ¬ ((base +ℤ pos sum) <ℤ limit)
 not_below base limit plain sum told same tells not = λ low. true≢false (sym (tells (subst (λ n. (base +ℤ pos n) <ℤ limit) (sym same) low)) ∙ not)
+
+at_least : (a limit : ℤ) → ¬ (a <ℤ limit) → limit ≤ℤ a
+at_least a limit not = grind (arith, ints)
 
 pub is_plain_below-requires : goal.is_plain_below-requires
 is_plain_below-requires c =
@@ -64,3 +67,24 @@ returns-in-None-first_of_resource-clause-none c =
     if_none-next c.args.limit plain _ last.result not
     (if_none-append c.args.limit _ _ last.result (rw l at c.in-None.ensures.none)
     (if_none-append c.args.limit _ _ last.result (rw l at c.in-None-first_of_resource.ensures.none) (rw l at last.ensures.none)))
+
+pub first_of_resource-requires-clause-plain : goal.first_of_resource-requires-clause-plain
+first_of_resource-requires-clause-plain c =
+    let l : to_z w64 (of_z w64 c.args.limit) ≡ c.args.limit = omega (arith, ints) in
+    rw l (at_least _ c.args.limit
+    (not_below c.args.base.number c.args.limit c.args.plain (by_course (λ p. 1000 * p.worth) c.args.all.now.list.now) c.is_plain_below.result c.requires.plain
+    (rw l at c.is_plain_below.ensures.1) c.if-is_plain_below.false))
+
+pub first_of_resource-requires-in-None-clause-plain : goal.first_of_resource-requires-in-None-clause-plain
+first_of_resource-requires-in-None-clause-plain c =
+    let l : to_z w64 (of_z w64 c.args.limit) ≡ c.args.limit = omega (arith, ints) in
+    rw l (at_least _ c.args.limit
+    (not_below c.args.base.number c.args.limit c.args.plain (by_course (λ p. 1000 * p.worth) c.args.all.now.list.now) c.is_plain_below.result c.requires.plain
+    (rw l at c.is_plain_below.ensures.1) c.if-is_plain_below.false))
+
+pub first_of_resource-requires-in-None-first_of_resource-clause-plain : goal.first_of_resource-requires-in-None-first_of_resource-clause-plain
+first_of_resource-requires-in-None-first_of_resource-clause-plain c =
+    let l : to_z w64 (of_z w64 c.args.limit) ≡ c.args.limit = omega (arith, ints) in
+    rw l (at_least _ c.args.limit
+    (not_below c.args.base.number c.args.limit c.args.plain (by_course (λ p. 1000 * p.worth) c.args.all.now.list.now) c.is_plain_below.result c.requires.plain
+    (rw l at c.is_plain_below.ensures.1) c.if-is_plain_below.false))

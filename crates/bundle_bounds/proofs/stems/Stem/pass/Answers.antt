@@ -8,8 +8,8 @@ use Rattle.bundle_bounds.proofs.BelowLimit.{few_of_room, rest_of_room}
 use Rattle.bundle_bounds.proofs.StemSteps.{stem_shut, stem_open, lent_some, next_limit}
 use Rattle.bundle_bounds.proofs.stems.Stem.pass.Goals as goal
 
-pub leave-plain-requires-clause-some : goal.leave-plain-requires-clause-some
-leave-plain-requires-clause-some c = lent_some _ _ _ _ _ c.requires.stem c.requires.left (sym c.is_next_open.ensures ∙ c.if-not-is_next_open.false)
+pub leave-self-requires-clause-some : goal.leave-self-requires-clause-some
+leave-self-requires-clause-some c = lent_some _ _ _ _ _ c.requires.stem c.requires.left (sym c.is_next_open.ensures ∙ c.if-not-is_next_open.false)
 
 pub invariant_of-all : goal.invariant_of-all
 invariant_of-all c =
@@ -19,13 +19,13 @@ invariant_of-all c =
       few = few_of_room c.args.self.now.room c.args.self.now.start whole;
     }
 
-pub leave-plain-requires-clause-plain : goal.leave-plain-requires-clause-plain
-leave-plain-requires-clause-plain c =
+pub leave-self-requires-clause-plain : goal.leave-self-requires-clause-plain
+leave-self-requires-clause-plain c =
     c.requires.stem.keeps.plain_is
     ∙ ap (by_course (λ p. 1000 * p.worth)) (sym (rest_of_room c.args.self.now.room c.args.self.now.start c.requires.stem.keeps.whole))
 
-pub leave-plain-requires-clause-tangents : goal.leave-plain-requires-clause-tangents
-leave-plain-requires-clause-tangents c =
+pub leave-self-requires-clause-tangents : goal.leave-self-requires-clause-tangents
+leave-self-requires-clause-tangents c =
     let rests = c.args.self.now.rests in
     let room = rest_of_room c.args.self.now.room c.args.self.now.start c.requires.stem.keeps.whole in (
       rests.budget,
@@ -56,7 +56,7 @@ returns c =
     let l : to_z w64 (of_z w64 c.limit_after-limit.result) ≡ c.limit_after-limit.result = omega (arith, ints) in
     let limit = next_limit _ _ _ _ _ c.requires.stem _ _ _ _ m l c.limit_after-limit.ensures c.as_slice-champions.ensures.value in
     stem_open _ _ _ _ _ c.requires.stem c.requires.left (sym c.is_next_open.ensures ∙ c.if-not-is_next_open.false)
-    (to_z w64 (of_z w64 c.limit_after-limit.result)) c.leave-plain.result.0 c.leave-plain.result.1 limit
-    (c.leave-plain.ensures.plain ∙ ap (λ ps. by_course (λ p. 1000 * p.worth) (drop 1 ps)) room) c.leave-plain.ensures.less
-    (subst (λ ps. AreTangents rests.budget rests.credits rests.courses (drop 1 ps) c.leave-plain.result.1) room
-    (c.leave-plain.ensures.tangents rests.budget rests.credits rests.courses (subst (λ ps. AreTangents rests.budget rests.credits rests.courses ps c.args.self.now.tangents) (sym room) c.requires.stem.keeps.tangents_are)))
+    (to_z w64 (of_z w64 c.limit_after-limit.result)) c.leave-self.result c.leave-self.new.tangents limit
+    (c.leave-self.ensures.plain ∙ ap (λ ps. by_course (λ p. 1000 * p.worth) (drop 1 ps)) room) c.leave-self.ensures.less
+    (subst (λ ps. AreTangents rests.budget rests.credits rests.courses (drop 1 ps) c.leave-self.new.tangents) room
+    (c.leave-self.ensures.tangents rests.budget rests.credits rests.courses (subst (λ ps. AreTangents rests.budget rests.credits rests.courses ps c.args.self.now.tangents) (sym room) c.requires.stem.keeps.tangents_are)))
