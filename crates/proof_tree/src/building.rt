@@ -10,7 +10,7 @@ ghost use Rattle.proof_tree.specs.Texts.{IsTreeText};
 
 use crate::claim::Claim;
 use crate::symbols::spell;
-use crate::walk::{PLACES, Step, Walk};
+use crate::walk::{PLACES, Step, Walk, root_stem};
 use bundle_bounds::Offer;
 use bundle_rules::{Bundle, Menu};
 use market_units::{NoMemory, SectionNo, SectionSet, Tokens};
@@ -93,7 +93,7 @@ fn written(alloc: Global, claim: &Claim) -> Result<Vec<u8>, NoMemory>
         text.items) }
 {
     let mut text = Vec::new(alloc);
-    let mut walk = Walk::start(claim);
+    let mut walk = Walk::start(&root_stem(claim));
     'nodes: loop {
         match walk.step(claim) {
             Step::Signed(sign) => {
@@ -159,7 +159,7 @@ pub fn build_into(
         champion,
     };
     let mut count = 0;
-    let mut walk = Walk::start(&claim);
+    let mut walk = Walk::start(&root_stem(&claim));
     'nodes: loop {
         match walk.step(&claim) {
             Step::Signed(sign) => {

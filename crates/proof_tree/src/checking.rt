@@ -16,7 +16,7 @@ use crate::claim::Claim;
 use crate::defects::TreeDefect;
 use crate::signs::Sign;
 use crate::symbols::read_symbol;
-use crate::walk::{PLACES, Step, Walk};
+use crate::walk::{PLACES, Step, Walk, root_stem};
 use bundle_bounds::Offer;
 use bundle_rules::{Bundle, Menu};
 use market_units::{SectionNo, SectionSet, Tokens};
@@ -136,7 +136,7 @@ fn follow(claim: &Claim, text: &[u8]) -> Result<(), TreeDefect>
         (λ defect. claim.now.required ≡ None
         → IsDefect (offer_in claim.now) (champion_in claim.now) text.now defect) }
 {
-    let mut walk = Walk::start(claim);
+    let mut walk = Walk::start(&root_stem(claim));
     let mut rest = text;
     'nodes: loop {
         let at = offset_of(text, rest);

@@ -1,6 +1,6 @@
 // The walk of a tree: its nodes one after another, each with its canonical sign.
-ghost use Rattle.std.specs.Prelude.{◌≡◌, ◌≢◌, ◌<◌, ◌≤◌, ◌+◌, ◌++◌, ◌∷◌, [], ℕ, IfSome, IfNone, OnSome, length, slice_index_or};
-ghost use Rattle.bundle_bounds.specs.{Offers.OfferData, declared.nodes.Node.Node};
+ghost use Rattle.std.specs.Prelude.{◌≡◌, ◌≢◌, ◌<◌, ◌≤◌, ◌+◌, ◌++◌, ◌∷◌, [], ℕ, List, IfSome, IfNone, OnSome, length, slice_index_or};
+ghost use Rattle.bundle_bounds.specs.{Offers.OfferData, Stems.IsStem, declared.nodes.Node.Node};
 ghost use Rattle.bundle_rules.specs.Menus.{MenuData};
 ghost use Rattle.proof_tree.specs.Claims.{offer_in, champion_in, champions_places};
 ghost use Rattle.proof_tree.specs.Standing.{HaveStems};
@@ -31,6 +31,14 @@ pub(crate) enum Step {
     Ended,
 }
 
+/// The stem of the root of a claim's tree. It is made apart from the walk: what begins a walk is
+/// then short enough to be inlined, and a walk of 8 KB is made where it stands, and not moved there.
+pub(crate) fn root_stem(claim: &Claim) -> Stem
+    ensures { IsStem (offer_in claim.now) (champion_in claim.now) 0 [] result }
+{
+    Stem::root(claim.offer, claim.champion)
+}
+
 /// The nodes of a tree that wait to be visited, the next one last.
 #[derive(Drop)]
 pub(crate) struct Walk {
@@ -42,12 +50,14 @@ pub(crate) struct Walk {
 impl Walk {
     ghost use Rattle.proof_tree.specs.Steps.{waiting_of, spots_of};
 
-    /// The walk that begins at the root: no place is decided, and no section is chosen.
+    /// The walk that begins at the root, which has this stem: no place is decided, and no section
+    /// is chosen.
     #[inline(always)]
-    pub(crate) fn start(claim: &Claim) -> Walk
+    pub(crate) fn start(stem: &Stem) -> Walk
         ensures waiting { (menu : MenuData) → spots_of menu (waiting_of result) ≡ (0, []) ∷ [] }
         ensures may_wait { (offer : OfferData) → AreWaiting offer result }
-        ensures stems { HaveStems (offer_in claim.now) (champion_in claim.now) result }
+        ensures stems { (offer : OfferData) (champion : List ℕ)
+            → IsStem offer champion 0 [] stem.now → HaveStems offer champion result }
     {
         let root = Node {
             place: 0,
@@ -55,7 +65,7 @@ impl Walk {
         };
         Walk {
             waiting: [root; ROOM],
-            stems: [Stem::root(claim.offer, claim.champion); ROOM],
+            stems: [*stem; ROOM],
             count: 1,
         }
     }

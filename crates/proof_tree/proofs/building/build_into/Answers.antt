@@ -30,7 +30,7 @@ nodes-init c =
     let offer = offer_of c.rows-menu.result.now c.args.prices.now c.args.budget.0 c.args.allowed.now in
     record {
       waiting = c.start-walk.ensures.may_wait offer;
-      stems = c.start-walk.ensures.stems;
+      stems = c.start-walk.ensures.stems _ _ c.root_stem.ensures;
       written =
           subst (IsWritten offer None (sections_of c.args.champion.now) []) (sym (c.start-walk.ensures.waiting c.rows-menu.result.now))
           (nothing_written offer None (sections_of c.args.champion.now)

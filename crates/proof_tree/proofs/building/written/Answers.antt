@@ -10,7 +10,7 @@ nodes-init c =
     let offer = offer_in c.args.claim.now in
     record {
       waiting = c.start-walk.ensures.may_wait offer;
-      stems = c.start-walk.ensures.stems;
+      stems = c.start-walk.ensures.stems _ _ c.root_stem.ensures;
       written =
           subst (λ t. IsWritten offer c.args.claim.now.required (champion_in c.args.claim.now) t (spots_of (offer_in c.args.claim.now).menu (waiting_of c.start-walk.result)))
           (sym c.new-text.ensures.items)

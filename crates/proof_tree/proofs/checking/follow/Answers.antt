@@ -13,7 +13,7 @@ nodes-init c =
     let offer = offer_in c.args.claim.now in
     record {
       waiting = c.start-walk.ensures.may_wait offer;
-      stems = c.start-walk.ensures.stems;
+      stems = c.start-walk.ensures.stems _ _ c.root_stem.ensures;
       come =
           subst (λ ns. HasCome offer c.args.claim.now.required (champion_in c.args.claim.now) c.args.text.now ns c.args.text.now)
           (sym (c.start-walk.ensures.waiting (offer_in c.args.claim.now).menu)) (come_first offer c.args.claim.now.required (champion_in c.args.claim.now) c.args.text.now);
