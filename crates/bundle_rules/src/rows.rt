@@ -110,10 +110,17 @@ impl Rows {
     }
 
     /// The adjustments of pairs.
-    pub(crate) fn pairs(&self) -> &[(u8, u8, i16)]
+    pub fn pairs(&self) -> &[(u8, u8, i16)]
         ensures { result.now ≡ self.now.pairs }
     {
         &self.pairs
+    }
+
+    /// The word of each place, whose bit q tells whether it clashes with place q.
+    pub fn clashes(&self) -> &[u64]
+        ensures { result.now ≡ self.now.clashes }
+    {
+        &self.clashes
     }
 
     /// The number of places.
