@@ -1,45 +1,38 @@
 -- What holds in the search below a node, from place to place.
-use Rattle.std.proofs.Common.{◌≡◌, ◌<◌, ◌≤◌, ◌+◌, ◌-◌, ◌*◌, ◌%◌, ◌^◌, ◌++◌, ◌⊎◌, ℕ, Some, List, [], ◌∷◌, length, drop, ap, inl, inr, arith, w64}
+use Rattle.std.proofs.Common.{◌≡◌, ◌<◌, ◌≤◌, ◌+◌, ◌-◌, ◌*◌, ◌%◌, ◌^◌, ◌++◌, ℕ, Some, List, [], ◌∷◌, length, drop, inl, inr, arith, w64}
 use Rattle.std.specs.Prelude.{bit_and, slice_index}
-use Rattle.std.specs.Int.{bit_not, trailing_zeros}
+use Rattle.std.specs.Int.{bit_at, bit_not, trailing_zeros}
 use Rattle.std.proofs.lemmas.Bool.{cases_lt}
 use Rattle.std.proofs.lemmas.Nat.Bits.{bit_at-zero}
-use Rattle.bundle_rules.specs.Menus.{section_at, credits_at, wishes_of}
+use Rattle.bundle_rules.specs.Menus.{section_at, credits_at}
 use Rattle.bundle_rules.specs.Places.{menu_sections}
 use Rattle.bundle_bounds.specs.Laws.{IsTakable, IsNode}
 use Rattle.bundle_bounds.specs.Offers.{OfferData, price_at}
 use Rattle.bundle_bounds.proofs.Openings.{node_later, node_with, node_without}
 use Rattle.demand_oracle.specs.declared.summed_node.SummedNode.{SummedNode}
 use Rattle.demand_oracle.specs.declared.question.Question.{Question}
-use Rattle.demand_oracle.specs.Champions.{IsChampion}
+use Rattle.demand_oracle.specs.declared.leaders.Leaders.{Leaders}
+use Rattle.demand_oracle.specs.Champions.{AreLeaders, kept_of}
 use Rattle.demand_oracle.specs.OpenWords.{Clashes, IsWordOf, StaysOpen, IsOpenWord}
 use Rattle.demand_oracle.specs.Questions.{IsQuestion, offer_asked, aim_of}
-use Rattle.demand_oracle.specs.Search.{IsBetter, IsSearched, MayBePruned}
+use Rattle.demand_oracle.specs.Search.{Kept, IsSearched, MayBePruned}
 use Rattle.demand_oracle.specs.SummedNodes.{chosen_of, IsSummed}
-use Rattle.demand_oracle.proofs.OpenPlaces.{passed_here, shut_where_clear, allowed_alone, next_open, clear_before, word_falls, word_after, word_apart}
+use Rattle.demand_oracle.proofs.OpenPlaces.{passed_here, shut_where_clear, word_within, allowed_alone, next_open, clear_before, word_falls, word_after, word_apart}
 use Rattle.demand_oracle.proofs.Openings.{takable_where_open_at, open_at_where_takable}
 use Rattle.demand_oracle.proofs.SummedNodes.{full_to_end, ended_here, pruned_here, shut_here, open_here}
 use Rattle.demand_oracle.proofs.Wanting.{none_wanted, lacks_passed}
 
 -- the places before one of them are decided, without their sections: the word has the open ones from there on, and the search from there is the rest of that
 -- of the node
-pub record GoesOn (question : Question) (summed first : SummedNode) (word : ℕ) (champion : SummedNode) : Type 0 where
+pub record GoesOn (question : Question) (summed : SummedNode) (first : Leaders) (word : ℕ) (champion : Leaders) : Type 0 where
   pub from : ℕ
   pub later : summed.node.place ≤ from
   pub is_word : IsOpenWord (offer_asked question) from (chosen_of summed) word
-  pub is_champion : IsChampion (offer_asked question) champion
-  pub same_result : (result : List ℕ)
-      → IsSearched (offer_asked question) (aim_of question) from (chosen_of summed) (drop from (menu_sections question.offer.now.menu.now)) (chosen_of champion) result
+  pub are_leaders : AreLeaders (offer_asked question) (aim_of question).name champion
+  pub same_result : (result : Kept)
+      → IsSearched (offer_asked question) (aim_of question) from (chosen_of summed) (drop from (menu_sections question.offer.now.menu.now)) (kept_of champion) result
       → IsSearched (offer_asked question) (aim_of question) summed.node.place (chosen_of summed)
-      (drop summed.node.place (menu_sections question.offer.now.menu.now)) (chosen_of first) result
-
--- what is compared at the end, of the sections that the nodes have chosen
-pub compared : (question : Question) (summed champion result : SummedNode)
-    → (IsBetter (wishes_of question.offer.now.menu.now) (aim_of question) (chosen_of summed) (chosen_of champion) × (result ≡ summed))
-    ⊎ ((IsBetter (wishes_of question.offer.now.menu.now) (aim_of question) (chosen_of summed) (chosen_of champion) → ⊥) × (result ≡ champion))
-    → (k : ℕ) → IsSearched (offer_asked question) (aim_of question) k (chosen_of summed) [] (chosen_of champion) (chosen_of result)
-compared question summed champion result (inl more) k = inl (more.0, ap chosen_of more.1)
-compared question summed champion result (inr none) k = inr (none.0, ap chosen_of none.1)
+      (drop summed.node.place (menu_sections question.offer.now.menu.now)) (kept_of first) result
 
 module _ (question : Question) (asked : IsQuestion question) (summed : SummedNode)
     (is_summed : IsSummed question.offer.now.menu.now (offer_asked question).price summed) (node : IsNode (offer_asked question) summed.node.place (chosen_of summed)) where
@@ -49,39 +42,56 @@ module _ (question : Question) (asked : IsQuestion question) (summed : SummedNod
   abbrev chosen : List ℕ
   chosen = chosen_of summed
 
-  abbrev Searched : ℕ → List ℕ → List ℕ → Type 0
+  abbrev Searched : ℕ → Kept → Kept → Type 0
   Searched k champion result = IsSearched (offer_asked question) (aim_of question) k (chosen_of summed) (drop k (menu_sections question.offer.now.menu.now)) champion result
 
   -- as many sections are chosen as may be taken
-  pub whole_searched : (champion result : List ℕ) → question.offer.now.menu.now.courses ≤ length (chosen_of summed)
+  pub whole_searched : (champion result : Kept) → question.offer.now.menu.now.courses ≤ length (chosen_of summed)
       → IsSearched (offer_asked question) (aim_of question) summed.node.place (chosen_of summed) [] champion result
       → Searched summed.node.place champion result
   whole_searched champion result full ended =
       full_to_end offer (aim_of question) summed.node.place chosen (drop summed.node.place (menu_sections question.offer.now.menu.now)) champion result full ended
 
   -- the node is pruned
-  pub lost_searched : (champion : List ℕ) → summed.node.place < length question.offer.now.menu.now.places
+  pub lost_searched : (champion : Kept) → summed.node.place < length question.offer.now.menu.now.places
       → MayBePruned (offer_asked question) (aim_of question) summed.node.place (chosen_of summed) champion → Searched summed.node.place champion champion
   lost_searched champion low may = pruned_here offer (aim_of question) summed.node.place chosen low champion may
 
-  module _ (first : SummedNode) (word : ℕ) (champion : SummedNode) (on : GoesOn question summed first word champion) where
+  -- at first no more places are decided, and the word has no place that what is left can not pay for
+  pub begun_goes_on : (first : Leaders) → AreLeaders (offer_asked question) (aim_of question).name first → (word affordable : ℕ)
+      → IsOpenWord (offer_asked question) summed.node.place (chosen_of summed) word
+      → ((place : ℕ) → place < length question.offer.now.menu.now.places → price_at (offer_asked question) place ≤ (offer_asked question).budget - summed.paid
+      → bit_at affordable place ≡ 1)
+      → GoesOn question summed first (bit_and word affordable) first
+  begun_goes_on first are word affordable is has_all = record {
+    from = summed.node.place;
+    later = omega arith;
+    is_word =
+        word_within offer summed.node.place chosen word affordable is
+        (λ p later on takable.
+        has_all p on (open_at_where_takable offer asked.menu summed is_summed summed.node.place node p later on takable).price);
+    are_leaders = are;
+    same_result = λ result searched. searched;
+  }
+
+  module _ (first : Leaders) (word : ℕ) (champion : Leaders) (on : GoesOn question summed first word champion) where
     pub node_from : IsNode (offer_asked question) on.from (chosen_of summed)
     node_from = node_later offer summed.node.place on.from chosen on.later node
 
     -- no place is open
-    pub end_searched : (result : SummedNode) → word ≡ 0
-        → ((k : ℕ) → IsSearched (offer_asked question) (aim_of question) k (chosen_of summed) [] (chosen_of champion) (chosen_of result))
-        → Searched summed.node.place (chosen_of first) (chosen_of result)
+    pub end_searched : (result : Leaders) → word ≡ 0
+        → ((k : ℕ) → IsSearched (offer_asked question) (aim_of question) k (chosen_of summed) [] (kept_of champion) (kept_of result))
+        → Searched summed.node.place (kept_of first) (kept_of result)
     end_searched result none ended =
         let n : ℕ = length question.offer.now.menu.now.places in
-        on.same_result (chosen_of result) (elim (cases_lt on.from (length question.offer.now.menu.now.places)) [
+        on.same_result (kept_of result) (elim (cases_lt on.from (length question.offer.now.menu.now.places)) [
           | inl before ↦
               passed_here offer (aim_of question) chosen on.from n (omega arith) (omega arith)
               (λ p at below.
-              shut_where_clear offer asked.menu on.from chosen node_from word on.is_word p at below (rw none (bit_at-zero p)))
-              (chosen_of champion) (chosen_of result)
-              (ended_here offer (aim_of question) n chosen (chosen_of champion) (chosen_of result) (omega arith) (ended n))
-          | inr past ↦ ended_here offer (aim_of question) on.from chosen (chosen_of champion) (chosen_of result) past (ended on.from)
+              shut_where_clear offer on.from chosen word on.is_word p at below (rw none (bit_at-zero p)))
+              (kept_of champion) (kept_of result)
+              (ended_here offer (aim_of question) n chosen (kept_of champion) (kept_of result) (omega arith) (ended n))
+          | inr past ↦ ended_here offer (aim_of question) on.from chosen (kept_of champion) (kept_of result) past (ended on.from)
         ])
 
     module _ (fits : word < 2 ^ 64) (some : 0 < word) where
@@ -110,19 +120,19 @@ module _ (question : Question) (asked : IsQuestion question) (summed : SummedNod
       node_next = node_later offer summed.node.place place chosen next_later node
 
       -- what the search from there gives is what that of the node gives
-      from_next : (result : List ℕ) → Searched place (chosen_of champion) result → Searched summed.node.place (chosen_of first) result
+      from_next : (result : Kept) → Searched place (kept_of champion) result → Searched summed.node.place (kept_of first) result
       from_next result searched =
           on.same_result result
           (passed_here offer (aim_of question) chosen on.from place opened.undecided (omega (arith, next_on_menu))
           (λ p at below.
-          shut_where_clear offer asked.menu on.from chosen node_from word on.is_word p at (omega (arith, next_on_menu))
-          (clear_before offer asked.menu on.from chosen word fits some on.is_word p below)) (chosen_of champion) result searched)
+          shut_where_clear offer on.from chosen word on.is_word p at (omega (arith, next_on_menu))
+          (clear_before offer asked.menu on.from chosen word fits some on.is_word p below)) (kept_of champion) result searched)
 
       -- the node is pruned there
-      pub prune_searched : MayBePruned (offer_asked question) (aim_of question) (trailing_zeros w64 word) (chosen_of summed) (chosen_of champion)
-          → Searched summed.node.place (chosen_of first) (chosen_of champion)
+      pub prune_searched : MayBePruned (offer_asked question) (aim_of question) (trailing_zeros w64 word) (chosen_of summed) (kept_of champion)
+          → Searched summed.node.place (kept_of first) (kept_of champion)
       prune_searched may =
-          from_next (chosen_of champion) (pruned_here offer (aim_of question) place chosen next_on_menu (chosen_of champion) may)
+          from_next (kept_of champion) (pruned_here offer (aim_of question) place chosen next_on_menu (kept_of champion) may)
 
       -- its section is within what is left exactly where it may be taken
       pub fits_where_takable : IsTakable (offer_asked question) (chosen_of summed ++ section_at question.offer.now.menu.now.places (trailing_zeros w64 word) ∷ [])
@@ -152,8 +162,8 @@ module _ (question : Question) (asked : IsQuestion question) (summed : SummedNod
         from = place + 1;
         later = omega (arith, next_later);
         is_word = word_later;
-        is_champion = on.is_champion;
-        same_result = λ result searched. from_next result (shut_here offer (aim_of question) place chosen next_on_menu (chosen_of champion) result shut searched);
+        are_leaders = on.are_leaders;
+        same_result = λ result searched. from_next result (shut_here offer (aim_of question) place chosen next_on_menu (kept_of champion) result shut searched);
       }
 
       module _ (takable : IsTakable (offer_asked question) (chosen_of summed ++ section_at question.offer.now.menu.now.places (trailing_zeros w64 word) ∷ [])) where
@@ -170,19 +180,19 @@ module _ (question : Question) (asked : IsQuestion question) (summed : SummedNod
             (chosen_of summed ++ section_at question.offer.now.menu.now.places (trailing_zeros w64 word) ∷ [])
             (bit_and (bit_and word (bit_not w64 (1 * 2 ^ trailing_zeros w64 word % 2 ^ 64))) (bit_not w64 clashes))
         word_taken clashes clashes_fit are =
-            word_apart offer asked.menu (place + 1) place chosen next_on_menu cleared clashes (omega (arith, falls)) clashes_fit word_later are
+            word_apart offer asked.menu (place + 1) place chosen next_on_menu cleared clashes (omega (arith, falls)) clashes_fit word_later are node_taken
           where
             falls : cleared < word
             falls = word_falls offer asked.menu on.from chosen word fits some on.is_word
 
-        module _ (new : SummedNode) (is_new : IsChampion (offer_asked question) new)
+        module _ (new : Leaders) (is_new : AreLeaders (offer_asked question) (aim_of question).name new)
             (searched : IsSearched (offer_asked question) (aim_of question) (trailing_zeros w64 word + 1)
             (chosen_of summed ++ section_at question.offer.now.menu.now.places (trailing_zeros w64 word) ∷ [])
-            (drop (trailing_zeros w64 word + 1) (menu_sections question.offer.now.menu.now)) (chosen_of champion) (chosen_of new)) where
-          open_searched : (result : List ℕ) → Searched (place + 1) (chosen_of new) result → Searched summed.node.place (chosen_of first) result
+            (drop (trailing_zeros w64 word + 1) (menu_sections question.offer.now.menu.now)) (kept_of champion) (kept_of new)) where
+          open_searched : (result : Kept) → Searched (place + 1) (kept_of new) result → Searched summed.node.place (kept_of first) result
           open_searched result without =
               from_next result
-              (open_here offer (aim_of question) place chosen next_on_menu (chosen_of champion) (chosen_of new) result takable searched without)
+              (open_here offer (aim_of question) place chosen next_on_menu (kept_of champion) (kept_of new) result takable searched without)
 
           -- it was taken, and is then left out
           pub taken_goes_on : GoesOn question summed first (bit_and word (bit_not w64 (1 * 2 ^ trailing_zeros w64 word % 2 ^ 64))) new
@@ -190,14 +200,14 @@ module _ (question : Question) (asked : IsQuestion question) (summed : SummedNod
             from = place + 1;
             later = omega (arith, next_later);
             is_word = word_later;
-            is_champion = is_new;
+            are_leaders = is_new;
             same_result = open_searched;
           }
 
           -- it is the given one: without it nothing is wanted
-          pub given_searched : question.given ≡ Some (trailing_zeros w64 word) → Searched summed.node.place (chosen_of first) (chosen_of new)
+          pub given_searched : question.given ≡ Some (trailing_zeros w64 word) → Searched summed.node.place (kept_of first) (kept_of new)
           given_searched given =
-              open_searched (chosen_of new)
-              (none_wanted offer (aim_of question) (place + 1) chosen (drop (place + 1) (menu_sections question.offer.now.menu.now)) (chosen_of new)
+              open_searched (kept_of new)
+              (none_wanted offer (aim_of question) (place + 1) chosen (drop (place + 1) (menu_sections question.offer.now.menu.now)) (kept_of new)
               (node_without offer place chosen node_next)
               (λ bundle may completes. rw given (lacks_passed offer asked.menu place next_on_menu chosen node_next bundle may completes)))

@@ -1,6 +1,7 @@
 -- What a node keeps after one more section.
-use Rattle.std.proofs.Common.{◌≡◌, ◌<◌, ◌≤◌, ◌+◌, ◌*◌, ◌++◌, ℕ, true, List, [], ◌∷◌, length, map, take, set, refl, sym, ◌∙◌, ap, subst, inl, inr, arith, length-append, to_z, of_z, w32}
-use Rattle.std.specs.Prelude.{ℤ, pos, ◌+ℤ◌, neg_ℤ, ◌≤ℤ◌}
+use Rattle.std.proofs.Common.{◌≡◌, ◌<◌, ◌≤◌, ◌+◌, ◌*◌, ◌%◌, ◌^◌, ◌++◌, ◌↔◌, ℕ, true, List, [], ◌∷◌, length, map, take, set, refl, sym, ◌∙◌, ap, subst, inl, inr, arith, length-append, to_z, of_z, w32}
+use Rattle.std.specs.Int.{bit_at}
+use Rattle.std.specs.Prelude.{ℤ, bit_or, pos, ◌+ℤ◌, neg_ℤ, ◌≤ℤ◌}
 use Rattle.std.proofs.lemmas.Int.{ints}
 use Rattle.std.proofs.lemmas.Grind.{take-set_at}
 use Rattle.std.proofs.lemmas.List.{length-map, map-append}
@@ -22,6 +23,7 @@ use Rattle.demand_oracle.specs.declared.summed_node.SummedNode.{SummedNode}
 use Rattle.demand_oracle.specs.SummedNodes.{chosen_of, with_place_of, AreSmallSums, IsSummed}
 use Rattle.bundle_bounds.proofs.Openings.{ascending-last}
 use Rattle.market_units.proofs.Memberships.{has_push}
+use Rattle.demand_oracle.proofs.Words.{one_more}
 
 -- what is added up to the utility with one more section is small
 pub record AreSmallParts (u adjustments : ℤ) (n rating : ℕ) : Type 0 where
@@ -125,6 +127,15 @@ module _ (m : MenuData) (menu : IsMenu m) (price : ℕ → ℕ) (summed : Summed
       ∙ ap (λ p. places_of m chosen ++ p ∷ []) (sym place_of_next)
       ∙ sym (map-append (place_in m.places) chosen (section_at m.places place ∷ []))
 
+  pub word_next : (p : ℕ) → (bit_at (bit_or summed.word (1 * 2 ^ place % 2 ^ 64)) p ≡ 1) ↔ (has (places_of m (with_place_of m summed place)) p ≡ true)
+  word_next p =
+      let chosen = chosen_of summed in
+      let few : length m.places ≤ 60 = menu.places.few in
+      let all : places_of m chosen ++ place ∷ [] ≡ places_of m (with_place_of m summed place) =
+      ap (λ k. places_of m chosen ++ k ∷ []) (sym place_of_next) ∙ sym (map-append (place_in m.places) chosen (section_at m.places place ∷ [])) in
+      subst (λ l. (bit_at (bit_or summed.word (1 * 2 ^ place % 2 ^ 64)) p ≡ 1) ↔ (has l p ≡ true)) all
+      (one_more place (places_of m chosen) summed.word (omega (arith, few, low)) is.word p)
+
   pub paid_next : total price (with_place_of m summed place) ≡ summed.paid + price (section_at m.places place)
   paid_next =
       let t : ℕ = total price (chosen_of summed) in
@@ -160,17 +171,19 @@ module _ (m : MenuData) (menu : IsMenu m) (price : ℕ → ℕ) (summed : Summed
       omega (arith, ints)
 
   -- the node with one more section
-  pub next_summed : (bundle : Bundle) (ps : List ℕ) (wide : length ps ≡ 8) (paid credits : ℕ) (utility_ : ℤ) → sections_of bundle ≡ with_place_of m summed place
+  pub next_summed : (bundle : Bundle) (ps : List ℕ) (wide : length ps ≡ 8) (word paid credits : ℕ) (utility_ : ℤ) → sections_of bundle ≡ with_place_of m summed place
       → take (length (with_place_of m summed place)) ps ≡ places_of m (with_place_of m summed place)
+      → ((p : ℕ) → (bit_at word p ≡ 1) ↔ (has (places_of m (with_place_of m summed place)) p ≡ true))
       → paid ≡ total price (with_place_of m summed place) → credits ≡ total (wishes_of m).credits (with_place_of m summed place)
       → utility_ ≡ utility (wishes_of m) (with_place_of m summed place)
       → AreSmallSums (length (with_place_of m summed place)) paid credits utility_
       → IsSummed m price
-      (record { node = record { place = place + 1; chosen = bundle }; places = ps; paid = paid; credits = credits; utility = utility_; wide = wide })
-  next_summed bundle ps wide paid credits utility_ same places paid_is credits_are utility_is small = record {
+      (record { node = record { place = place + 1; chosen = bundle }; places = ps; word = word; paid = paid; credits = credits; utility = utility_; wide = wide })
+  next_summed bundle ps wide word paid credits utility_ same places word_is paid_is credits_are utility_is small = record {
     rated = subst (AllRated (wishes_of m)) (sym same) rated_next;
     decided = subst (λ l. (s : ℕ) → has l s ≡ true → place_in m.places s < place + 1) (sym same) decided_next;
     places = subst (λ l. take (length l) ps ≡ places_of m l) (sym same) places;
+    word = subst (λ l. (p : ℕ) → (bit_at word p ≡ 1) ↔ (has (places_of m l) p ≡ true)) (sym same) word_is;
     paid = subst (λ l. paid ≡ total price l) (sym same) paid_is;
     credits = subst (λ l. credits ≡ total (wishes_of m).credits l) (sym same) credits_are;
     utility = subst (λ l. utility_ ≡ utility (wishes_of m) l) (sym same) utility_is;

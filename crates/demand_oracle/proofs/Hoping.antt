@@ -46,6 +46,19 @@ module _ (offer : OfferData) where
       → hopes_from offer k place ≡ above_zero (adjustment_in offer.menu.pairs place k) + hopes_from offer (k + 1) place
   hopes_allowed k place low on = let step = hopes_step k place low in rw on at step
 
+  -- a place that has no positive adjustment with an earlier one adds nothing to it
+  pub hopes_not_raised : (k place : ℕ) → k < length offer.menu.places → above_zero (adjustment_in offer.menu.pairs place k) ≡ 0
+      → hopes_from offer k place ≡ hopes_from offer (k + 1) place
+  hopes_not_raised k place low none = elim (cases_Bool (allowed_at offer k)) [
+    | inl on ↦
+        let h : ℕ = hopes_from offer (k + 1) place in
+        let a : ℕ = above_zero (adjustment_in offer.menu.pairs place k) in
+        let whole : hopes_from offer k place ≡ a + h = hopes_allowed k place low on in
+        let zero : a ≡ 0 = none in
+        let goal : hopes_from offer k place ≡ h = omega arith in goal
+    | inr off ↦ hopes_not_allowed k place low off
+  ]
+
   above_zero-high : (z : ℤ) → z ≤ℤ pos 200 → above_zero z ≤ 200
   above_zero-high (pos n) low = omega (arith, ints)
   above_zero-high (negsuc n) low = omega arith

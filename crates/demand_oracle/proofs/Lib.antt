@@ -2,6 +2,7 @@ pub mod Additions
 pub mod Beside
 pub mod SummedNodes
 pub mod Pruning
+pub mod Raised
 pub mod Columns
 pub mod Covering
 pub mod Descending
@@ -12,11 +13,15 @@ pub mod Naming
 pub mod Ties
 pub mod Growing
 pub mod Hoping
+pub mod InOrder
+pub mod Inserting
 pub mod Openings
 pub mod Translating
 pub mod Rows
 pub mod Searching
+pub mod Shifting
 pub mod Sound
 pub mod OpenPlaces
 pub mod Wanting
 pub mod Words
+pub mod StillFirst

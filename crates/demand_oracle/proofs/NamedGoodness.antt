@@ -1,5 +1,5 @@
 -- Bundles that are as good as others, where names decide between bundles of one utility.
-use Rattle.std.proofs.Common.{◌≡◌, ◌≢◌, ◌⊎◌, ℕ, List, sym, subst, inl, inr, ◌∙◌, arith}
+use Rattle.std.proofs.Common.{◌≡◌, ◌⊎◌, ℕ, List, sym, inl, inr, ◌∙◌, arith}
 use Rattle.std.proofs.lemmas.Int.{ints}
 use Rattle.bundle_rules.specs.Wishes.{Wishes, utility}
 use Rattle.bundle_rules.specs.Menus.{wishes_of}
@@ -8,30 +8,15 @@ use Rattle.bundle_bounds.specs.Offers.{OfferData}
 use Rattle.bundle_bounds.specs.Laws.{IsTakable}
 use Rattle.demand_oracle.specs.Names.{AreNames, IsPreferredByName}
 use Rattle.demand_oracle.specs.Search.{IsAsGoodByName}
-use Rattle.demand_oracle.proofs.Naming.{not_before_itself, before_trans, one_before}
+use Rattle.demand_oracle.proofs.Naming.{before_trans, one_before}
 
-preferred_trans : (name : ℕ → ℕ) (w : Wishes) (a b c : List ℕ) → IsPreferredByName name w a b → IsPreferredByName name w b c → IsPreferredByName name w a c
+pub preferred_trans : (name : ℕ → ℕ) (w : Wishes) (a b c : List ℕ) → IsPreferredByName name w a b → IsPreferredByName name w b c → IsPreferredByName name w a c
 preferred_trans name w a b c (inl p) (inl q) = inl (omega (arith, ints))
 preferred_trans name w a b c (inl p) (inr q) = inl (rw (← q.0) p)
 preferred_trans name w a b c (inr p) (inl q) = inl (rw p.0 q)
 preferred_trans name w a b c (inr p) (inr q) = inr (p.0 ∙ q.0, before_trans name a b c p.1 q.1)
 
-pub not_preferred_itself : (name : ℕ → ℕ) (w : Wishes) (a : List ℕ) → IsPreferredByName name w a a → ⊥
-not_preferred_itself name w a (inl p) = omega (arith, ints)
-not_preferred_itself name w a (inr p) = not_before_itself name a p.1
-
 module _ (offer : OfferData) (name : ℕ → ℕ) where
-  -- what is as good as one that is as good as a third is as good as the third
-  pub as_good_trans : (a b c : List ℕ) → IsAsGoodByName name offer a b → IsAsGoodByName name offer b c → IsAsGoodByName name offer a c
-  as_good_trans a b c (inl e) k = subst (λ x. IsAsGoodByName name offer x c) e k
-  as_good_trans a b c (inr h) (inl e) = inr (subst (IsPreferredByName name (wishes_of offer.menu) a) (sym e) h)
-  as_good_trans a b c (inr h) (inr k) = inr (preferred_trans name (wishes_of offer.menu) a b c h k)
-
-  -- what is as good as another bundle is preferred to it
-  pub over_other : (a b : List ℕ) → b ≢ a → IsAsGoodByName name offer a b → IsPreferredByName name (wishes_of offer.menu) a b
-  over_other a b apart (inl same) = absurd (apart same)
-  over_other a b apart (inr more) = more
-
   module _ (names : AreNames (wishes_of offer.menu) name) where
     -- two bundles that may be taken are equal, or one is preferred
     compared : (a b : List ℕ) → IsTakable offer a → IsTakable offer b

@@ -12,7 +12,7 @@ use Rattle.bundle_bounds.specs.Offers.{OfferData, places_of}
 use Rattle.demand_oracle.specs.Values.{hopes_from}
 use Rattle.demand_oracle.specs.Covers.{IsAdded}
 use Rattle.demand_oracle.specs.Reaches.{number_at, HoldsHopes}
-use Rattle.demand_oracle.specs.Search.{Aim, MayBePruned, WinsEachTie}
+use Rattle.demand_oracle.specs.Search.{Aim, LeadsNode, WinsEachTie}
 
 -- what is compared at a node: what may be added, what is hoped for, both utilities, and what lacks
 pub record IsWeighed (offer : OfferData) (k : ℕ) (chosen champion : List ℕ) (added : ℤ) (hopes : ℕ) (u worth lacking : ℤ) : Type 0 where
@@ -34,7 +34,7 @@ module _ (offer : OfferData) (aim : Aim) (k : ℕ) (chosen champion : List ℕ) 
   most_reached bundle reached = rw (is.u_is, is.hopes_are) reached
 
   -- less than the champion has can be reached
-  pub less_prunes : added <ℤ (pos 1000000 *ℤ lacking) → MayBePruned offer aim k chosen champion
+  pub less_prunes : added <ℤ (pos 1000000 *ℤ lacking) → LeadsNode offer aim k chosen champion
   less_prunes below bundle may is_wanted completes =
       let lacks = is.lacks in
       let high = is.high in
@@ -48,7 +48,7 @@ module _ (offer : OfferData) (aim : Aim) (k : ℕ) (chosen champion : List ℕ) 
       ]
 
   -- no more than the champion has can be reached, and the champion comes first
-  pub no_more_prunes : added <ℤ (pos 1000000 *ℤ (lacking +ℤ pos 1)) → WinsEachTie aim.name offer k chosen champion → MayBePruned offer aim k chosen champion
+  pub no_more_prunes : added <ℤ (pos 1000000 *ℤ (lacking +ℤ pos 1)) → WinsEachTie aim.name offer k chosen champion → LeadsNode offer aim k chosen champion
   no_more_prunes below first bundle may is_wanted completes =
       let lacks = is.lacks in
       let high = is.high in

@@ -1,5 +1,5 @@
 -- The search finds the best bundle.
-use Rattle.std.proofs.Common.{◌≡◌, ◌<◌, ◌≤◌, ◌+◌, ◌++◌, ℕ, zero, suc, Bool, true, true≢false, List, [], ◌∷◌, length, map, drop, refl, sym, ◌∙◌, ap, subst, inl, inr, arith, append_assoc}
+use Rattle.std.proofs.Common.{◌≡◌, ◌<◌, ◌≤◌, ◌+◌, ◌++◌, ℕ, zero, suc, Bool, true, true≢false, List, [], ◌∷◌, length, map, drop, refl, sym, ◌∙◌, ap, subst, inl, inr, arith, append_assoc, length-append}
 use Rattle.std.proofs.lemmas.Bool.{cases_Bool}
 use Rattle.std.proofs.lemmas.List.{append-nil}
 use Rattle.bundle_rules.specs.declared.menu.Rated.{Rated}
@@ -17,13 +17,14 @@ use Rattle.bundle_bounds.specs.Offers.{OfferData}
 use Rattle.bundle_bounds.specs.Laws.{IsTakable, IsNode, Completes}
 use Rattle.bundle_bounds.proofs.NodeFacts.{nothing_chosen}
 use Rattle.bundle_bounds.proofs.Openings.{node_with, node_without}
-use Rattle.demand_oracle.specs.Names.{AreNames, IsPreferredByName}
-use Rattle.demand_oracle.specs.Search.{Aim, IsAsGoodByName, IsSearched, LeadsAim, LeadsWanted}
+use Rattle.demand_oracle.specs.Names.{IsPreferredByName}
+use Rattle.demand_oracle.specs.Bests.{IsAmong, AreInOrder}
+use Rattle.demand_oracle.specs.Search.{Aim, Kept, bundles_kept, IsListed, IsSearched, IsBestByName, LeadAim, LeadsWanted, LeadWanted}
 use Rattle.demand_oracle.specs.Laws.{SearchFindsTheBest, OwnNumbersAreNames}
 use Rattle.bundle_rules.specs.Preferences.{IsPreferred}
 use Rattle.demand_oracle.proofs.Goodness as plain
 use Rattle.demand_oracle.proofs.Naming.{lowest_first}
-use Rattle.demand_oracle.proofs.NamedGoodness.{as_good_trans, as_good_where_not, over_other}
+use Rattle.demand_oracle.proofs.InOrder.{over_the_last}
 
 -- the sections of places
 abbrev pub sections : List Rated → List ℕ
@@ -83,72 +84,69 @@ module _ (offer : OfferData) (menu : IsMenu offer.menu) where
       ∙ has-append_none chosen extends.more (section_at offer.menu.places place)
       (λ is. decided_section offer.menu.places k place menu.places.ascending low on (extends.among _ is))
 
-  -- what a search leaves: as good as the champion before and as all below the node that are wanted
-  pub record IsFound (aim : Aim) (chosen undecided champion result : List ℕ) : Type 0 where
-    pub takable : IsTakable offer result
-    pub over_champion : IsAsGoodByName aim.name offer result champion
-    pub over_all : (bundle : List ℕ) → IsTakable offer bundle → aim.wanted bundle ≡ true → Extends chosen undecided bundle → IsAsGoodByName aim.name offer result bundle
+  -- what a search leaves: it lists what was listed before, and all below the node that are wanted
+  pub record IsFound (aim : Aim) (chosen undecided : List ℕ) (kept result : Kept) : Type 0 where
+    pub takable : (bundle : List ℕ) → IsAmong bundle (bundles_kept result) → IsTakable offer bundle
+    pub before : (bundle : List ℕ) → IsListed aim.name offer kept bundle → IsListed aim.name offer result bundle
+    pub over_all : (bundle : List ℕ) → IsTakable offer bundle → aim.wanted bundle ≡ true → Extends chosen undecided bundle
+        → IsListed aim.name offer result bundle
 
   -- what extends the chosen sections by nothing is the chosen sections
   no_more : (front other : List ℕ) (e : Extends front [] other) (more : List ℕ) → e.more ≡ more → other ≡ front
   no_more front other e [] is = e.whole ∙ ap (λ xs. front ++ xs) is ∙ append-nil front
   no_more front other e (x ∷ xs) is = absurd (true≢false (sym (e.among x (subst (λ ys. has ys x ≡ true) (sym is) (has-here x xs)))))
 
-  module _ (aim : Aim) (names : AreNames (wishes_of offer.menu) aim.name) where
-    finds : (k : ℕ) (chosen undecided champion result : List ℕ) → IsNode offer k chosen → undecided ≡ drop k (menu_sections offer.menu)
-        → IsAscending (chosen ++ undecided) → IsTakable offer champion
-        → IsSearched offer aim k chosen undecided champion result → IsFound aim chosen undecided champion result
-    finds k chosen [] champion result node is up takable (inl more) =
-        subst (IsFound aim chosen [] champion) (sym more.1)
-        record {
-          takable = node.takable;
-          over_champion = inr more.0.1;
-          over_all = λ bundle may is_wanted extends. inl (no_more chosen bundle extends extends.more refl);
-        }
-    finds k chosen [] champion result node is up takable (inr none) =
-        subst (IsFound aim chosen [] champion) (sym none.1) record {
+  abbrev pub AreTakable : Kept → Type 0
+  AreTakable kept = (bundle : List ℕ) → IsAmong bundle (bundles_kept kept) → IsTakable offer bundle
+
+  module _ (aim : Aim) where
+    finds : (k : ℕ) (chosen undecided : List ℕ) (kept result : Kept) → IsNode offer k chosen → undecided ≡ drop k (menu_sections offer.menu)
+        → IsAscending (chosen ++ undecided) → AreTakable kept
+        → IsSearched offer aim k chosen undecided kept result → IsFound aim chosen undecided kept result
+    finds k chosen [] kept result node is up takable put = record {
+      takable = λ bundle among. elim (put.from bundle among) [
+        | inl old ↦ takable bundle old
+        | inr new ↦ subst (IsTakable offer) (sym new.0) node.takable
+      ];
+      before = put.before;
+      over_all = λ bundle may is_wanted extends.
+          let same : bundle ≡ chosen = no_more chosen bundle extends extends.more refl in
+          subst (IsListed aim.name offer result) (sym same) (put.own (subst (λ b. aim.wanted b ≡ true) same is_wanted));
+    }
+    finds k chosen (s ∷ undecided) kept result node is up takable (inl pruned) =
+        subst (IsFound aim chosen (s ∷ undecided) kept) (sym pruned.1) record {
           takable = takable;
-          over_champion = inl refl;
-          over_all = λ bundle may is_wanted extends.
-              let same : bundle ≡ chosen = no_more chosen bundle extends extends.more refl in
-              subst (IsAsGoodByName aim.name offer champion) (sym same)
-              (as_good_where_not offer aim.name names champion chosen takable node.takable
-              (λ more. none.0 (subst (λ b. aim.wanted b ≡ true) same is_wanted, more)));
-        }
-    finds k chosen (s ∷ undecided) champion result node is up takable (inl pruned) =
-        subst (IsFound aim chosen (s ∷ undecided) champion) (sym pruned.1) record {
-          takable = takable;
-          over_champion = inl refl;
+          before = λ bundle listed. listed;
           over_all =
               λ bundle may is_wanted extends. pruned.0 bundle may is_wanted
               (extends_completes k chosen bundle (subst (λ later. Extends chosen later bundle) is extends));
         }
-    finds k chosen (s ∷ undecided) champion result node is up takable (inr (inl both)) =
+    finds k chosen (s ∷ undecided) kept result node is up takable (inr (inl both)) =
         let split = split_off offer.menu.places k s undecided is in
         let at : chosen ++ s ∷ [] ≡ chosen ++ section_at offer.menu.places k ∷ [] = ap (λ x. chosen ++ x ∷ []) split.first in
         let node' : IsNode offer (k + 1) (chosen ++ s ∷ []) =
         subst (IsNode offer (k + 1)) (sym at) (node_with offer k chosen menu split.on_menu node (subst (IsTakable offer) at both.1)) in
         let up' : IsAscending ((chosen ++ s ∷ []) ++ undecided) = rw append_assoc up in
-        let first = finds (k + 1) (chosen ++ s ∷ []) undecided champion both.0 node' split.later up' takable both.2 in
+        let first = finds (k + 1) (chosen ++ s ∷ []) undecided kept both.0 node' split.later up' takable both.2 in
         let second =
         finds (k + 1) chosen undecided both.0 result (node_without offer k chosen node) split.later (IsAscending-middle chosen s undecided up) first.takable
         both.3 in
         record {
           takable = second.takable;
-          over_champion = as_good_trans offer aim.name result both.0 champion second.over_champion first.over_champion;
+          before = λ bundle listed. second.before bundle (first.before bundle listed);
           over_all = λ bundle may is_wanted extends. elim (with_or_without chosen s undecided bundle up may.feasible.set extends) [
-            | inl with_it ↦ as_good_trans offer aim.name result both.0 bundle second.over_champion (first.over_all bundle may is_wanted with_it)
+            | inl with_it ↦ second.before bundle (first.over_all bundle may is_wanted with_it)
             | inr without ↦ second.over_all bundle may is_wanted without
           ];
         }
-    finds k chosen (s ∷ undecided) champion result node is up takable (inr (inr shut)) =
+    finds k chosen (s ∷ undecided) kept result node is up takable (inr (inr shut)) =
         let split = split_off offer.menu.places k s undecided is in
         let rest =
-        finds (k + 1) chosen undecided champion result (node_without offer k chosen node) split.later (IsAscending-middle chosen s undecided up) takable
+        finds (k + 1) chosen undecided kept result (node_without offer k chosen node) split.later (IsAscending-middle chosen s undecided up) takable
         shut.1 in
         record {
           takable = rest.takable;
-          over_champion = rest.over_champion;
+          before = rest.before;
           over_all = λ bundle may is_wanted extends. elim (with_or_without chosen s undecided bundle up may.feasible.set extends) [
             | inl with_it ↦
                 absurd
@@ -159,32 +157,67 @@ module _ (offer : OfferData) (menu : IsMenu offer.menu) where
           ];
         }
 
-  -- a search that begins with a wanted champion leaves a wanted one
-  stays_wanted : (aim : Aim) (k : ℕ) (chosen undecided champion result : List ℕ) → aim.wanted champion ≡ true
-      → IsSearched offer aim k chosen undecided champion result → aim.wanted result ≡ true
-  stays_wanted aim k chosen [] champion result fits (inl more) = subst (λ b. aim.wanted b ≡ true) (sym more.1) more.0.0
-  stays_wanted aim k chosen [] champion result fits (inr none) = subst (λ b. aim.wanted b ≡ true) (sym none.1) fits
-  stays_wanted aim k chosen (s ∷ undecided) champion result fits (inl pruned) = subst (λ b. aim.wanted b ≡ true) (sym pruned.1) fits
-  stays_wanted aim k chosen (s ∷ undecided) champion result fits (inr (inl both)) =
-      stays_wanted aim (k + 1) chosen undecided both.0 result (stays_wanted aim (k + 1) (chosen ++ s ∷ []) undecided champion both.0 fits both.2) both.3
-  stays_wanted aim k chosen (s ∷ undecided) champion result fits (inr (inr shut)) = stays_wanted aim (k + 1) chosen undecided champion result fits shut.1
+  abbrev pub AreWanted : Aim → Kept → Type 0
+  AreWanted aim kept = (bundle : List ℕ) → IsAmong bundle (bundles_kept kept) → aim.wanted bundle ≡ true
+
+  -- a search that begins with wanted bundles leaves wanted ones
+  stays_wanted : (aim : Aim) (k : ℕ) (chosen undecided : List ℕ) (kept result : Kept) → AreWanted aim kept
+      → IsSearched offer aim k chosen undecided kept result → AreWanted aim result
+  stays_wanted aim k chosen [] kept result are put = λ bundle among. elim (put.from bundle among) [
+    | inl old ↦ are bundle old
+    | inr new ↦ subst (λ b. aim.wanted b ≡ true) (sym new.0) new.1
+  ]
+  stays_wanted aim k chosen (s ∷ undecided) kept result are (inl pruned) = subst (AreWanted aim) (sym pruned.1) are
+  stays_wanted aim k chosen (s ∷ undecided) kept result are (inr (inl both)) =
+      stays_wanted aim (k + 1) chosen undecided both.0 result (stays_wanted aim (k + 1) (chosen ++ s ∷ []) undecided kept both.0 are both.2) both.3
+  stays_wanted aim k chosen (s ∷ undecided) kept result are (inr (inr shut)) = stays_wanted aim (k + 1) chosen undecided kept result are shut.1
 
   -- a search of all places leaves what leads all that is wanted
-  pub leads_aim : (aim : Aim) (champion result : List ℕ) → AreNames (wishes_of offer.menu) aim.name → IsTakable offer champion
-      → IsSearched offer aim 0 [] (menu_sections offer.menu) champion result → LeadsAim offer aim result
-  leads_aim aim champion result names takable searched =
-      let found = finds aim names 0 [] (menu_sections offer.menu) champion result (nothing_chosen offer 0) refl menu.places.ascending takable searched in
+  pub lead_aim : (aim : Aim) (kept result : Kept) → AreTakable kept
+      → AreInOrder (IsPreferredByName aim.name (wishes_of offer.menu)) (bundles_kept result)
+      → IsSearched offer aim 0 [] (menu_sections offer.menu) kept result → LeadAim offer aim (bundles_kept result)
+  lead_aim aim kept result takable in_order searched =
+      let found = finds aim 0 [] (menu_sections offer.menu) kept result (nothing_chosen offer 0) refl menu.places.ascending takable searched in
       record {
+        some = let more = length-append result.leading (result.champion ∷ []) in omega (arith, more);
         takable = found.takable;
-        over =
-            λ other is is_wanted. found.over_all other is is_wanted
-            record { more = other; whole = refl; among = choice_among offer.menu offer.price offer.budget offer.allowed other is };
+        in_order = in_order;
+        over = λ other is is_wanted. elim (found.over_all other is is_wanted
+            record { more = other; whole = refl; among = choice_among offer.menu offer.price offer.budget offer.allowed other is }) [
+              | inl among ↦ inl among
+              | inr behind ↦ inr (over_the_last aim.name (wishes_of offer.menu) result.leading result.champion other in_order behind.1)
+            ];
       }
 
-  -- and a wanted one, where it began with one
-  pub wanted_at_end : (aim : Aim) (champion result : List ℕ) → aim.wanted champion ≡ true
-      → IsSearched offer aim 0 [] (menu_sections offer.menu) champion result → aim.wanted result ≡ true
-  wanted_at_end aim champion result = stays_wanted aim 0 [] (menu_sections offer.menu) champion result
+  -- and wanted ones, where it began with such
+  pub wanted_at_end : (aim : Aim) (kept result : Kept) → AreWanted aim kept
+      → IsSearched offer aim 0 [] (menu_sections offer.menu) kept result → AreWanted aim result
+  wanted_at_end aim kept result = stays_wanted aim 0 [] (menu_sections offer.menu) kept result
+
+-- the first of those that lead all that is wanted is the best, if it is wanted
+first_best : (offer : OfferData) (aim : Aim) (best : List ℕ) (others : List (List ℕ)) → LeadAim offer aim (best ∷ others) → aim.wanted best ≡ true
+    → IsBestByName offer aim best
+first_best offer aim best others lead fits = record {
+  takable = lead.takable best (inl refl);
+  is_wanted = fits;
+  preferred = λ other is is_wanted apart. elim (lead.over other is is_wanted) [
+    | inl (inl same) ↦ absurd (apart same)
+    | inl (inr behind) ↦ lead.in_order.0 other behind
+    | inr all ↦ all best (inl refl)
+  ];
+}
+
+-- of the best of what is wanted the first leads all of it
+pub first_leads : (offer : OfferData) (wanted : List ℕ → Bool) (best : List ℕ) (others : List (List ℕ)) → LeadWanted offer wanted (best ∷ others)
+    → LeadsWanted offer wanted best
+first_leads offer wanted best others lead = record {
+  takable = lead.takable best (inl refl);
+  over = λ other is is_wanted. elim (lead.over other is is_wanted) [
+    | inl (inl same) ↦ inl same
+    | inl (inr behind) ↦ inr (lead.in_order.0 other behind)
+    | inr all ↦ inr (all best (inl refl))
+  ];
+}
 
 -- what leads all that is wanted, and is wanted, is the best of it
 pub best_of_wanted : (offer : OfferData) (wanted : List ℕ → Bool) (bundle : List ℕ) → LeadsWanted offer wanted bundle → wanted bundle ≡ true
@@ -196,13 +229,13 @@ best_of_wanted offer wanted bundle leads fits = record {
 }
 
 pub search_finds_the_best : SearchFindsTheBest
-search_finds_the_best offer aim champion result menu names takable fits searched =
-    let leads = leads_aim offer menu aim champion result names takable searched in
-    record {
-      takable = leads.takable;
-      is_wanted = wanted_at_end offer menu aim champion result fits searched;
-      preferred = λ other is is_wanted apart. over_other offer aim.name result other apart (leads.over other is is_wanted);
-    }
+search_finds_the_best offer aim kept result menu are in_order searched =
+    let lead = lead_aim offer menu aim kept result (λ bundle among. (are bundle among).0) in_order searched in
+    let fits = wanted_at_end offer menu aim kept result (λ bundle among. (are bundle among).1) searched in (
+      lead,
+      λ best others is. first_best offer aim best others (subst (λ bs. LeadAim offer aim bs) is lead)
+          (fits best (subst (λ bs. IsAmong best bs) (sym is) (inl refl))),
+    )
 
 by_number : (offer : OfferData) (a b : List ℕ) → IsTakable offer a → IsTakable offer b → IsPreferredByName (λ s. s) (wishes_of offer.menu) a b
     → IsPreferred (wishes_of offer.menu) a b

@@ -149,7 +149,7 @@ module _ (offer : OfferData) (menu : IsMenu offer.menu) (names : Names) (holds :
             let set : bit_at taken p ≡ 1 = (is_taken p).1 (places-has offer.menu.places chosen s in_chosen) in omega arith
         | inr undecided ↦ elim (cases_lt (bit_at open_ p) 1) [
           | inl clear ↦
-              let lost = shut_where_clear offer menu from chosen node open_ is_open p (omega arith) listed (omega arith) in
+              let lost = shut_where_clear offer from chosen open_ is_open p (omega arith) listed (omega arith) in
               absurd (true≢false (sym has_p ∙ lacks_lost offer menu p listed k chosen node_at (omega arith) lost bundle may completes))
           | inr set ↦ omega arith
         ]

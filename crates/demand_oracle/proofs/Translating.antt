@@ -1,7 +1,9 @@
 -- The best bundle of positions is that of the sections there.
-use Rattle.std.proofs.Common.{◌≡◌, ◌<◌, ℕ, Bool, true, false, Option, None, Some, List, [], ◌∷◌, length, refl, inl, inr, sym, ◌∙◌, subst, ap}
+use Rattle.std.proofs.Common.{◌≡◌, ◌<◌, ℕ, Bool, true, false, Option, None, Some, List, [], ◌∷◌, length, map, arith, refl, inl, inr, sym, ◌∙◌, subst, ap}
 use Rattle.std.specs.Prelude.{IfSome, ◌<ℤ◌}
 use Rattle.std.proofs.lemmas.Bool.{true≢false}
+use Rattle.std.proofs.lemmas.List.{length-map}
+use Rattle.bundle_rules.specs.Preferences.{IsPreferred}
 use Rattle.market_units.specs.Members.{has}
 use Rattle.bundle_rules.specs.Wishes.{AllRated, utility}
 use Rattle.bundle_rules.specs.Sets.{IsAscending, DiffersFirstIn}
@@ -11,12 +13,12 @@ use Rattle.bundle_rules.specs.Ranks.{place_at, position_of, section_of, rank_of,
 use Rattle.bundle_rules.proofs.Feasibility.{place_of_rated}
 use Rattle.bundle_rules.proofs.PlacesFirst.{section_at-rises}
 use Rattle.bundle_rules.proofs.Positions.{rank_low, place_of_rank, place_low}
-use Rattle.bundle_rules.proofs.Renamed.{AreBelow, rank_below, section_here, named_utility, named_has, named_has_at, named_ascending, named_ranked, ranked_below, ranked_has, rated_below, named_choice, choice_positions, ranked_choice}
+use Rattle.bundle_rules.proofs.Renamed.{AreBelow, rank_below, section_here, named_utility, named_has, named_has_at, named_ascending, named_ranked, ranked_named, ranked_below, ranked_has, rated_below, named_choice, choice_positions, ranked_choice}
 use Rattle.bundle_bounds.specs.Offers.{OfferData}
 use Rattle.bundle_bounds.specs.Laws.{IsTakable}
-use Rattle.bundle_bounds.specs.Prunings.{IsAsGood}
-use Rattle.demand_oracle.specs.Names.{StandsFirst, rank_given}
-use Rattle.demand_oracle.specs.Search.{IsAsGoodByName, LeadsAim, LeadsWanted, wanted_by}
+use Rattle.demand_oracle.specs.Bests.{IsAmong, AreInOrder}
+use Rattle.demand_oracle.specs.Names.{StandsFirst, IsPreferredByName, rank_given}
+use Rattle.demand_oracle.specs.Search.{LeadAim, LeadWanted, wanted_by}
 use Rattle.demand_oracle.proofs.Naming.{lowest_first}
 
 module _ (order : List ℕ) (m r : MenuData) (menu : IsMenu m) (menu' : IsMenu r) (is : IsRenamed order m r) (price' price : ℕ → ℕ) (budget : ℕ)
@@ -104,34 +106,80 @@ module _ (order : List ℕ) (m r : MenuData) (menu : IsMenu m) (menu' : IsMenu r
             (place_low (length m.places) order q is.each_once low_q)),
       )
 
-  module _ (given : Option ℕ) (on : IfSome given (λ k. k < length m.places)) (found : List ℕ)
-      (leads : LeadsAim there (record { wanted = wanted_by r (rank_given order given); name = place_at order }) found) where
+  module _ (found : List ℕ) (takable : IsTakable there found) where
     lows : AreBelow (length m.places) found
-    lows = rated_below order m r menu menu' is found leads.takable.feasible.rated
+    lows = rated_below order m r menu menu' is found takable.feasible.rated
 
-    over_here : (b : List ℕ) → IsTakable here b → IsAsGoodByName (place_at order) there found (ranked m order b) → IsAsGood here (named m order found) b
-    over_here b may (inl same) =
-        inl (sym (named_ranked order m r menu menu' is b may.feasible.set may.feasible.rated) ∙ ap (named m order) same)
-    over_here b may (inr (inl more)) =
+    -- what is preferred by names there is preferred here
+    preferred_here : (b : List ℕ) → IsTakable here b → IsPreferredByName (place_at order) (wishes_of r) found (ranked m order b)
+        → IsPreferred (wishes_of m) (named m order found) b
+    preferred_here b may (inl more) =
         let back = named_ranked order m r menu menu' is b may.feasible.set may.feasible.rated in
         let low_b = ranked_below order m r menu menu' is b may.feasible.rated in
-        inr (inl (subst (λ u. u <ℤ utility (wishes_of m) (named m order found))
+        inl (subst (λ u. u <ℤ utility (wishes_of m) (named m order found))
         (sym (named_utility order m r menu menu' is (ranked m order b) low_b) ∙ ap (utility (wishes_of m)) back)
-        (subst (λ u. utility (wishes_of r) (ranked m order b) <ℤ u) (sym (named_utility order m r menu menu' is found lows)) more)))
-    over_here b may (inr (inr tie)) =
+        (subst (λ u. utility (wishes_of r) (ranked m order b) <ℤ u) (sym (named_utility order m r menu menu' is found lows)) more))
+    preferred_here b may (inr tie) =
         let back = named_ranked order m r menu menu' is b may.feasible.set may.feasible.rated in
         let low_b = ranked_below order m r menu menu' is b may.feasible.rated in
-        inr (inr (
+        inr (
           named_utility order m r menu menu' is found lows ∙ tie.0 ∙ sym (named_utility order m r menu menu' is (ranked m order b) low_b)
               ∙ ap (utility (wishes_of m)) back,
-          first_here found b leads.takable.feasible.set lows may.feasible.set may.feasible.rated tie.1,
-        ))
+          first_here found b takable.feasible.set lows may.feasible.set may.feasible.rated tie.1,
+        )
 
-    pub leads_here : LeadsWanted here (wanted_by m given) (named m order found)
-    leads_here = record {
-      takable = named_choice order m r menu menu' is price' price budget allowed' allowed prices alloweds found leads.takable;
+  named_takable : (b : List ℕ) → IsTakable there b → IsTakable here (named m order b)
+  named_takable b may = named_choice order m r menu menu' is price' price budget allowed' allowed prices alloweds b may
+
+  -- two that are preferred there
+  both_here : (a b : List ℕ) → IsTakable there a → IsTakable there b → IsPreferredByName (place_at order) (wishes_of r) a b
+      → IsPreferred (wishes_of m) (named m order a) (named m order b)
+  both_here a b may may' more =
+      preferred_here a may (named m order b) (named_takable b may')
+      (subst (IsPreferredByName (place_at order) (wishes_of r) a)
+      (sym (ranked_named order m r menu menu' is b may'.feasible.set (rated_below order m r menu menu' is b may'.feasible.rated))) more)
+
+  -- what is among them is one by its name
+  among_named : (bs : List (List ℕ)) (b : List ℕ) → IsAmong b bs → IsAmong (named m order b) (map (named m order) bs)
+  among_named [] b is' = absurd is'
+  among_named (x ∷ bs) b (inl same) = inl (ap (named m order) same)
+  among_named (x ∷ bs) b (inr there') = inr (among_named bs b there')
+
+  each_named : (bs : List (List ℕ)) (Q : List ℕ → Type 0) → ((b : List ℕ) → IsAmong b bs → Q (named m order b)) → (b : List ℕ)
+      → IsAmong b (map (named m order) bs) → Q b
+  each_named [] Q each b is' = absurd is'
+  each_named (x ∷ bs) Q each b (inl same) = subst Q (sym same) (each x (inl refl))
+  each_named (x ∷ bs) Q each b (inr there') = each_named bs Q (λ c among. each c (inr among)) b there'
+
+  order_named : (bs : List (List ℕ)) → ((b : List ℕ) → IsAmong b bs → IsTakable there b)
+      → AreInOrder (IsPreferredByName (place_at order) (wishes_of r)) bs → AreInOrder (IsPreferred (wishes_of m)) (map (named m order) bs)
+  order_named [] may up = tt
+  order_named (x ∷ bs) may up = (
+    each_named bs (IsPreferred (wishes_of m) (named m order x)) (λ b among. both_here x b (may x (inl refl)) (may b (inr among)) (up.0 b among)),
+    order_named bs (λ b among. may b (inr among)) up.1,
+  )
+
+  module _ (given : Option ℕ) (on : IfSome given (λ k. k < length m.places)) (found : List (List ℕ))
+      (lead : LeadAim there (record { wanted = wanted_by r (rank_given order given); name = place_at order }) found) where
+    pub lead_here : LeadWanted here (wanted_by m given) (map (named m order) found)
+    lead_here = record {
+      some = let same : length (map (named m order) found) ≡ length found = length-map found (named m order) in omega (arith, same, lead.some);
+      takable = each_named found (IsTakable here) (λ b among. named_takable b (lead.takable b among));
+      in_order = order_named found lead.takable lead.in_order;
       over = λ other may is_wanted.
-          over_here other may
-          (leads.over (ranked m order other) (ranked_choice order m r menu menu' is price' price budget allowed' allowed prices alloweds other may)
-          (wanted_there given on other may.feasible.rated is_wanted));
+          let back = named_ranked order m r menu menu' is other may.feasible.set may.feasible.rated in
+          elim (lead.over (ranked m order other) (ranked_choice order m r menu menu' is price' price budget allowed' allowed prices alloweds other may)
+          (wanted_there given on other may.feasible.rated is_wanted)) [
+            | inl among ↦ inl (subst (λ b. IsAmong b (map (named m order) found)) back (among_named found (ranked m order other) among))
+            | inr behind ↦
+                inr (each_named found (λ b. IsPreferred (wishes_of m) b other)
+                (λ b among. preferred_here b (lead.takable b among) other may (behind b among)))
+          ];
     }
+
+    -- and they are wanted here where they are there
+    pub all_wanted_here : ((b : List ℕ) → IsAmong b found → wanted_by r (rank_given order given) b ≡ true)
+        → (b : List ℕ) → IsAmong b (map (named m order) found) → wanted_by m given b ≡ true
+    all_wanted_here fits =
+        each_named found (λ b. wanted_by m given b ≡ true)
+        (λ b among. wanted_here given on b (rated_below order m r menu menu' is b (lead.takable b among).feasible.rated) (fits b among))

@@ -11,15 +11,19 @@ use Rattle.bundle_bounds.specs.Offers.{OfferData}
 use Rattle.bundle_bounds.specs.Laws.{IsTakable, IsNode, Completes}
 use Rattle.bundle_bounds.proofs.ByPlace.{on_menu, place_in-section_at}
 use Rattle.bundle_bounds.proofs.Openings.{ascending-last}
-use Rattle.demand_oracle.specs.Search.{Aim, IsSearched, MayBePruned}
+use Rattle.demand_oracle.specs.Search.{Aim, Kept, IsSearched, MayBePruned}
 use Rattle.market_units.proofs.Memberships.{has_push}
 
 module _ (offer : OfferData) (aim : Aim) where
   -- such a node changes no champion
-  pub none_wanted : (k : ℕ) (chosen undecided champion : List ℕ) → IsNode offer k chosen
+  pub none_wanted : (k : ℕ) (chosen undecided : List ℕ) (champion : Kept) → IsNode offer k chosen
       → ((bundle : List ℕ) → IsTakable offer bundle → Completes offer k chosen bundle → aim.wanted bundle ≡ false)
       → IsSearched offer aim k chosen undecided champion champion
-  none_wanted k chosen [] champion node none = inr ((λ better. true≢false (sym better.0 ∙ none chosen node.takable (λ place low on. refl))), refl)
+  none_wanted k chosen [] champion node none = record {
+    own = λ is_wanted. absurd (true≢false (sym is_wanted ∙ none chosen node.takable (λ place low on. refl)));
+    before = λ bundle is. is;
+    from = λ bundle is. inl is;
+  }
   none_wanted k chosen (s ∷ undecided) champion node none =
       inl ((λ bundle may is_wanted completes. absurd (true≢false (sym is_wanted ∙ none bundle may completes))), refl)
 
@@ -72,6 +76,6 @@ module _ (offer : OfferData) (menu : IsMenu offer.menu) (place : ℕ) (on : plac
 
     -- and the node may be pruned where only bundles with the section are wanted
     pub lost_prunes : (aim : Aim) → ((bundle : List ℕ) → aim.wanted bundle ≡ true → has bundle (section_at offer.menu.places place) ≡ true)
-        → (IsTakable offer (chosen ++ section_at offer.menu.places place ∷ []) → ⊥) → (champion : List ℕ) → MayBePruned offer aim k chosen champion
+        → (IsTakable offer (chosen ++ section_at offer.menu.places place ∷ []) → ⊥) → (champion : Kept) → MayBePruned offer aim k chosen champion
     lost_prunes aim has_it lost champion bundle may is_wanted completes =
         absurd (true≢false (sym (has_it bundle is_wanted) ∙ lacks_lost lost bundle may completes))

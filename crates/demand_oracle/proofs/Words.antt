@@ -1,35 +1,27 @@
--- Words of places: of a list, and led by a list.
-use Rattle.std.proofs.Common.{◌≡◌, ◌<◌, ◌≤◌, ◌-◌, ◌*◌, ◌%◌, ◌^◌, min, ◌↔◌, ℕ, true, false, List, ◌∷◌, length, get_or, take, drop, inl, inr, sym, ◌∙◌, subst, ap, arith, w64}
+-- Words of places: of a list with one more, and led by a list.
+use Rattle.std.proofs.Common.{◌≡◌, ◌<◌, ◌≤◌, ◌-◌, ◌*◌, ◌%◌, ◌^◌, ◌++◌, min, ◌↔◌, ℕ, true, false, List, [], ◌∷◌, inl, inr, sym, ◌∙◌, subst, ap, arith, w64}
 use Rattle.std.specs.Prelude.{slice_index, bit_and, bit_or}
 use Rattle.std.specs.Int.{bit_at, bit_not, trailing_zeros}
 use Rattle.std.proofs.lemmas.Bool.{cases_Bool, cases_lt, cases_eq, true≢false}
 use Rattle.std.proofs.lemmas.Nat.{and_le_l}
 use Rattle.std.proofs.lemmas.Nat.Bits.{bit_at-lt, bit_at-zero, bit_at-trailing_zeros, bit_at_above, bit_at_and, bit_at_not, bit_at_set_same, bit_at_set_other}
 use Rattle.market_units.specs.Members.{has}
-use Rattle.bundle_rules.specs.Existence.Members.{has-here, has-there, has-cases}
-use Rattle.plain_facts.proofs.Lists.{first_rest}
+use Rattle.market_units.proofs.Memberships.{has_push_same, has_push_other}
 use Rattle.demand_oracle.specs.Names.{LeadsWord}
 
 -- one more place
-one_more : (f : ℕ) (rest : List ℕ) (word : ℕ) → f < 64 → ((p : ℕ) → (bit_at word p ≡ 1) ↔ (has rest p ≡ true)) → (p : ℕ)
-    → (bit_at (bit_or word (1 * 2 ^ f % 2 ^ 64)) p ≡ 1) ↔ (has (f ∷ rest) p ≡ true)
-one_more f rest word low are p = elim (cases_eq p f) [
+pub one_more : (f : ℕ) (front : List ℕ) (word : ℕ) → f < 64 → ((p : ℕ) → (bit_at word p ≡ 1) ↔ (has front p ≡ true)) → (p : ℕ)
+    → (bit_at (bit_or word (1 * 2 ^ f % 2 ^ 64)) p ≡ 1) ↔ (has (front ++ f ∷ []) p ≡ true)
+one_more f front word low are p = elim (cases_eq p f) [
   | inl same ↦ (
-    λ set. subst (λ q. has (f ∷ rest) q ≡ true) (sym same) (has-here f rest),
+    λ set. subst (λ q. has (front ++ f ∷ []) q ≡ true) (sym same) (has_push_same front f),
     λ is. subst (λ q. bit_at (bit_or word (1 * 2 ^ f % 2 ^ 64)) q ≡ 1) (sym same) (bit_at_set_same w64 word f low),
   )
   | inr other ↦ (
-    λ set. has-there f rest p ((are p).0 (sym (bit_at_set_other w64 word f low p other) ∙ set)),
-    λ is. bit_at_set_other w64 word f low p other ∙ (are p).1 (elim (has-cases f rest p is) [ inl here ↦ absurd (other (sym here)) | inr there ↦ there ]),
+    λ set. has_push_other front f p (λ is. other (sym is)) ∙ (are p).0 (sym (bit_at_set_other w64 word f low p other) ∙ set),
+    λ is. bit_at_set_other w64 word f low p other ∙ (are p).1 (sym (has_push_other front f p (λ same. other (sym same))) ∙ is),
   )
 ]
-
-pub word_of_all : (xs : List ℕ) → 1 ≤ length xs → get_or xs 0 0 < 64 → (word : ℕ)
-    → ((p : ℕ) → (bit_at word p ≡ 1) ↔ (has (take (length xs - 1) (drop 1 xs)) p ≡ true)) → (p : ℕ)
-    → (bit_at (bit_or word (1 * 2 ^ get_or xs 0 0 % 2 ^ 64)) p ≡ 1) ↔ (has xs p ≡ true)
-word_of_all xs some low word are p =
-    subst (λ l. (bit_at (bit_or word (1 * 2 ^ get_or xs 0 0 % 2 ^ 64)) p ≡ 1) ↔ (has l p ≡ true)) (sym (first_rest xs 0 some))
-    (one_more (get_or xs 0 0) (take (length xs - 1) (drop 1 xs)) word low are p)
 
 module _ (before chosen : List ℕ) (word own : ℕ) (fits : word < 2 ^ 64) (own_fits : own < 2 ^ 64)
     (own_is : (p : ℕ) → (bit_at own p ≡ 1) ↔ (has chosen p ≡ true)) where

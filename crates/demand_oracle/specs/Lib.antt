@@ -1,11 +1,15 @@
 pub mod AtPlaces
 pub mod Beside
+pub mod BestViews
+pub mod Bests
 pub mod Champions
 pub mod Columns
 pub mod Covers
+pub mod Inserting
 pub mod Laws
 pub mod Names
 pub mod OpenWords
+pub mod PriceColumns
 pub mod Questions
 pub mod Reaches
 pub mod Search

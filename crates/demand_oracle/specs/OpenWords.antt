@@ -1,5 +1,5 @@
 -- Words of places: bit p of one stands for place p.
-use Rattle.std.specs.Prelude.{ℕ, ◌<◌, ◌≤◌, ◌≡◌, ◌↔◌, true, List, [], ◌∷◌, length}
+use Rattle.std.specs.Prelude.{ℕ, ◌<◌, ◌≤◌, ◌≡◌, ◌↔◌, ◌++◌, true, List, [], ◌∷◌, length}
 use Rattle.std.specs.Int.{bit_at}
 use Rattle.bundle_rules.specs.Menus.{MenuData, section_at, clash_in}
 use Rattle.bundle_bounds.specs.Offers.{OfferData, places_of}
@@ -25,6 +25,8 @@ pub record StaysOpen (offer : OfferData) (k : ℕ) (chosen : List ℕ) (p : ℕ)
   pub alone : IsAlone offer p
   pub apart : is_apart offer (places_of offer.menu chosen) p ≡ true
 
--- a word has these places, and no others
-abbrev pub IsOpenWord : OfferData → ℕ → List ℕ → ℕ → Type 0
-IsOpenWord offer k chosen word = (p : ℕ) → (bit_at word p ≡ 1) ↔ StaysOpen offer k chosen p
+-- a word has only such places, and all of them that may be taken with the chosen ones
+pub record IsOpenWord (offer : OfferData) (k : ℕ) (chosen : List ℕ) (word : ℕ) : Type 0 where
+  pub stays : (p : ℕ) → bit_at word p ≡ 1 → StaysOpen offer k chosen p
+  pub has_takable : (p : ℕ) → k ≤ p → p < length offer.menu.places
+      → IsTakable offer (chosen ++ section_at offer.menu.places p ∷ []) → bit_at word p ≡ 1

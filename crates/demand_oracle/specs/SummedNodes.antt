@@ -1,5 +1,6 @@
 -- What a node with its sums knows.
-use Rattle.std.specs.Prelude.{ℕ, ◌*◌, ◌≤◌, ◌<◌, ◌≡◌, ℤ, pos, neg_ℤ, ◌≤ℤ◌, true, List, [], ◌∷◌, ◌++◌, length, take}
+use Rattle.std.specs.Prelude.{ℕ, ◌*◌, ◌≤◌, ◌<◌, ◌≡◌, ◌↔◌, ℤ, pos, neg_ℤ, ◌≤ℤ◌, true, List, [], ◌∷◌, ◌++◌, length, take}
+use Rattle.std.specs.Int.{bit_at}
 use Rattle.market_units.specs.declared.limits.TheConstants.{MAX_PRICE, MAX_SECTION_CREDITS}
 use Rattle.market_units.specs.Totals.{total}
 use Rattle.market_units.specs.Members.{has}
@@ -25,15 +26,17 @@ pub record AreSmallSums (count paid credits : ℕ) (utility : ℤ) : Type 0 wher
   pub utility_low : neg_ℤ (pos (1700 * count)) ≤ℤ utility
   pub utility_high : utility ≤ℤ pos (1700 * count)
 
--- The chosen sections of the node are rated and decided; it keeps their places, and their price,
--- credits and utility at these prices. It also keeps that these sums are small, which follows from
--- the rest, so that callers need not prove it. Callers need not look inside: `root` and `with_place`
--- give it.
+-- The chosen sections of the node are rated and decided; it keeps their places, also as bits of a
+-- word, and their price, credits and utility at these prices. It also keeps that these sums are
+-- small, which follows from the rest, so that callers need not prove it. Callers need not look
+-- inside: `root` and `with_place` give it.
 pub record IsSummed (menu : MenuData) (price : ℕ → ℕ) (summed : SummedNode) : Type 0 where
   pub rated : AllRated (wishes_of menu) (chosen_of summed)
   pub decided : (s : ℕ) → has (chosen_of summed) s ≡ true
       → place_in menu.places s < summed.node.place
   pub places : take (length (chosen_of summed)) summed.places ≡ places_of menu (chosen_of summed)
+  pub word : (p : ℕ) → (bit_at summed.word p ≡ 1)
+      ↔ (has (places_of menu (chosen_of summed)) p ≡ true)
   pub paid : summed.paid ≡ total price (chosen_of summed)
   pub credits : summed.credits ≡ total (wishes_of menu).credits (chosen_of summed)
   pub utility : summed.utility ≡ utility (wishes_of menu) (chosen_of summed)

@@ -1,60 +1,62 @@
 // The search below a node: place by place, with a call of itself for each section that is taken.
-ghost use Rattle.std.specs.Prelude.{◌≡◌, ◌<◌, ◌≤◌, ◌+◌, ◌-◌, ◌⊎◌, ◌↔◌, ℕ, List, Some, IfSome, IsTrue, length, slice_index, drop};
+ghost use Rattle.std.specs.Prelude.{◌≡◌, ◌<◌, ◌≤◌, ◌+◌, ◌-◌, ◌↔◌, ℕ, Some, IsTrue, length, slice_index, drop};
 ghost use Rattle.market_units.specs.declared.limits.TheConstants.{MAX_RATINGS};
-ghost use Rattle.bundle_rules.specs.{Bundles.sections_of, Menus.wishes_of, Menus.credits_at};
+ghost use Rattle.bundle_rules.specs.Menus.{credits_at};
 ghost use Rattle.bundle_rules.specs.{Places.menu_sections};
 ghost use Rattle.bundle_bounds.specs.{Laws.IsNode, Offers.price_at};
-ghost use Rattle.demand_oracle.specs.{Champions.IsChampion, Columns.IsColumnFor};
+ghost use Rattle.demand_oracle.specs.Champions.{AreLeaders, kept_of};
+ghost use Rattle.demand_oracle.specs.Columns.{IsColumn, IsColumnFor};
 ghost use Rattle.demand_oracle.specs.OpenWords.{IsOpenWord};
 ghost use Rattle.demand_oracle.specs.Questions.{IsQuestion, offer_asked, aim_of};
-ghost use Rattle.demand_oracle.specs.Search.{wanted_by, IsBetter, IsSearched, MayBePruned};
+ghost use Rattle.demand_oracle.specs.Search.{Kept, IsSearched, MayBePruned};
 ghost use Rattle.demand_oracle.specs.SummedNodes.{chosen_of, with_place_of, IsSummedOf};
 
 use crate::closing::prunes;
-use crate::names::word_of;
+use crate::keeping::put_better;
+use crate::leaders::Leaders;
 use crate::question::Question;
 use crate::reach::{Column, is_below, lacking};
 use crate::step::Step;
 use crate::summed_node::SummedNode;
-use bundle_rules::{Bundle, Rows};
 
-/// Searches what completes a node, and leaves the best of that and of the champion. The word has a
-/// bit for each undecided place that may be taken alone and clashes with no chosen one. How many
-/// nodes were opened is told: the look-ups of `falls_short` are not counted.
+/// Searches what completes a node, and keeps the best of that and of what was kept. The word's bits
+/// are undecided places that may be taken alone and clash with no chosen one, among them all that
+/// may be taken with the chosen ones. How many nodes were opened is told: the look-ups of
+/// `falls_short` are not counted.
 pub(crate) fn below(
     question: &Question,
     summed: &SummedNode,
     word: u64,
-    champion: &mut SummedNode,
+    leaders: &mut Leaders,
 ) -> u64
     requires question { IsQuestion question.now }
     requires summed { IsSummedOf (offer_asked question.now) summed.now }
     requires node { IsNode (offer_asked question.now) summed.now.node.place (chosen_of summed.now) }
     requires word { IsOpenWord (offer_asked question.now) summed.now.node.place
         (chosen_of summed.now) word }
-    requires champion { IsChampion (offer_asked question.now) champion.old }
-    ensures champion { IsChampion (offer_asked question.now) champion.new }
+    requires leaders { AreLeaders (offer_asked question.now) (aim_of question.now).name leaders.old }
+    ensures leaders { AreLeaders (offer_asked question.now) (aim_of question.now).name leaders.new }
     ensures searched { IsSearched (offer_asked question.now) (aim_of question.now)
         summed.now.node.place (chosen_of summed.now)
         (drop summed.now.node.place (menu_sections (offer_asked question.now).menu))
-        (chosen_of champion.old) (chosen_of champion.new) }
+        (kept_of leaders.old) (kept_of leaders.new) }
 {
     let menu = question.offer.menu;
-    let reach = question.reach;
     if summed.courses_left(menu) == 0 {
-        put_better(question, summed, champion);
+        put_better(question, summed, leaders);
         return 0;
     }
     if is_lost(question, summed, word) {
         return 0;
     }
-    let column = reach.column(menu, question.offer.budget, summed);
+    let column = question.reach.column(menu, question.offer.budget, summed);
     let mut opened = 0u64;
-    let mut left = word;
+    let budget_left = summed.budget_left(question.offer.budget);
+    let mut left = word & question.goods.affordable(budget_left);
     'places: while left != 0 {
         let place = left.trailing_zeros() as u8;
         opened = opened.saturating_add(1);
-        if prunes(question, &column, summed, place, left, champion) {
+        if is_pruned(question, &column, summed, place, left, leaders) {
             return opened;
         }
         left &= !(1u64 << place);
@@ -62,7 +64,7 @@ pub(crate) fn below(
             continue;
         }
         let apart = left & !question.goods.clashes[usize::from(place)];
-        if falls_short(question, summed, place, apart, champion) {
+        if falls_short(question, summed, place, apart, leaders) {
             continue;
         }
         let step = Step {
@@ -71,13 +73,41 @@ pub(crate) fn below(
             place,
         };
         let with_it = step.with_place();
-        opened = opened.saturating_add(below(question, &with_it, apart, champion));
+        opened = opened.saturating_add(below(question, &with_it, apart, leaders));
         if is_given(question.given, place) {
             return opened;
         }
     }
-    put_better(question, summed, champion);
+    put_better(question, summed, leaders);
     opened
+}
+
+// Whether as many are kept as may be, and nothing that completes the node where the places below
+// this one are decided can be better than the last of them.
+#[inline(always)]
+fn is_pruned(
+    question: &Question,
+    column: &Column,
+    summed: &SummedNode,
+    place: u8,
+    left: u64,
+    leaders: &Leaders,
+) -> bool
+    requires place { place ≤ length (offer_asked question.now).menu.places }
+    requires summed { IsSummedOf (offer_asked question.now) summed.now }
+    requires leaders { AreLeaders (offer_asked question.now) (aim_of question.now).name leaders.now }
+    ensures { (from : ℕ) → IsQuestion question.now
+        → IsColumn (offer_asked question.now).menu (offer_asked question.now).budget
+        question.now.reach.now summed.now column.now
+        → IsNode (offer_asked question.now) from (chosen_of summed.now) → from ≤ place
+        → IsOpenWord (offer_asked question.now) from (chosen_of summed.now) left → IsTrue result
+        → MayBePruned (offer_asked question.now) (aim_of question.now) place
+        (chosen_of summed.now) (kept_of leaders.now) }
+{
+    if !leaders.is_full() {
+        return false;
+    }
+    prunes(question, column, summed, place, left, &leaders.champion)
 }
 
 // Whether the section of a place is within what the node leaves of the budget and of the credit
@@ -99,17 +129,17 @@ fn fits(question: &Question, summed: &SummedNode, place: u8) -> bool
     u32::from(question.goods.credits[at]) <= summed.credits_left(question.offer.menu)
 }
 
-// Whether it is plain that nothing with the section of an open place is better than the champion,
-// so little can be reached from the node with it. Mostly it is, and the node need not be made. The
-// word has the places behind this one that stay open with it. It is not told of the given place,
-// behind which the search ends.
+// Whether it is plain that nothing with the section of an open place is kept, so little can be
+// reached from the node with it. Mostly it is, and the node need not be made. The word has the
+// places behind this one that stay open with it. It is not told of the given place, behind which
+// the search ends.
 #[inline(always)]
 fn falls_short(
     question: &Question,
     summed: &SummedNode,
     place: u8,
     apart: u64,
-    champion: &SummedNode,
+    leaders: &Leaders,
 ) -> bool
     requires question { IsQuestion question.now }
     requires summed { IsSummedOf (offer_asked question.now) summed.now }
@@ -119,19 +149,23 @@ fn falls_short(
         (with_place_of (offer_asked question.now).menu summed.now place) }
     requires word { IsOpenWord (offer_asked question.now) (place + 1)
         (with_place_of (offer_asked question.now).menu summed.now place) apart }
-    requires champion { IsChampion (offer_asked question.now) champion.now }
+    requires leaders { AreLeaders (offer_asked question.now) (aim_of question.now).name leaders.now }
     ensures { IsTrue result
         → IsSearched (offer_asked question.now) (aim_of question.now) (place + 1)
         (with_place_of (offer_asked question.now).menu summed.now place)
         (drop (place + 1) (menu_sections (offer_asked question.now).menu))
-        (chosen_of champion.now) (chosen_of champion.now) }
+        (kept_of leaders.now) (kept_of leaders.now) }
 {
     if apart == 0 {
+        return false;
+    }
+    if !leaders.is_full() {
         return false;
     }
     if is_given(question.given, place) {
         return false;
     }
+    let champion = &leaders.champion;
     let reach = question.reach;
     let next = apart.trailing_zeros() as u8;
     let column = column_with(question, summed, place);
@@ -182,9 +216,9 @@ fn is_lost(question: &Question, summed: &SummedNode, word: u64) -> bool
         (chosen_of summed.now) word }
     ensures undecided { IsTrue result
         → summed.now.node.place < length (offer_asked question.now).menu.places }
-    ensures lost { (champion : List ℕ) → IsTrue result
+    ensures lost { (kept : Kept) → IsTrue result
         → MayBePruned (offer_asked question.now) (aim_of question.now) summed.now.node.place
-        (chosen_of summed.now) champion }
+        (chosen_of summed.now) kept }
 {
     match question.given {
         Some(place) => {
@@ -209,58 +243,4 @@ fn is_given(given: Option<u8>, place: u8) -> bool
         Some(other) => other == place,
         None => false,
     }
-}
-
-// Whether the bundle has the section of the given place, where one is given.
-#[inline(always)]
-fn is_wanted(menu: &Rows, given: Option<u8>, bundle: &Bundle) -> bool
-    requires { IfSome given (λ place. place < length menu.now.places) }
-    ensures { result ≡ wanted_by menu.now given (sections_of bundle.now) }
-{
-    match given {
-        Some(place) => bundle.has(menu.rated(place).section),
-        None => true,
-    }
-}
-
-// Puts the node in the place of the champion, where its sections are wanted and preferred to those
-// of the champion.
-#[inline(always)]
-fn put_better(question: &Question, summed: &SummedNode, champion: &mut SummedNode)
-    requires question { IsQuestion question.now }
-    requires summed { IsSummedOf (offer_asked question.now) summed.now }
-    requires champion { IsSummedOf (offer_asked question.now) champion.old }
-    ensures { (IsBetter (wishes_of (offer_asked question.now).menu) (aim_of question.now)
-        (chosen_of summed.now) (chosen_of champion.old)
-        × (champion.new ≡ summed.now))
-        ⊎ ((¬ IsBetter (wishes_of (offer_asked question.now).menu) (aim_of question.now)
-        (chosen_of summed.now) (chosen_of champion.old))
-        × (champion.new ≡ champion.old)) }
-{
-    if is_better(question, summed, champion) {
-        *champion = *summed;
-    }
-}
-
-// Whether the node's sections are wanted and preferred to those of the champion.
-#[inline(always)]
-fn is_better(question: &Question, summed: &SummedNode, champion: &SummedNode) -> bool
-    requires question { IsQuestion question.now }
-    requires summed { IsSummedOf (offer_asked question.now) summed.now }
-    requires champion { IsSummedOf (offer_asked question.now) champion.now }
-    ensures { IsTrue result
-        ↔ IsBetter (wishes_of (offer_asked question.now).menu) (aim_of question.now)
-        (chosen_of summed.now) (chosen_of champion.now) }
-{
-    if !is_wanted(question.offer.menu, question.given, &summed.node.chosen) {
-        return false;
-    }
-    if summed.utility() < champion.utility() {
-        return false;
-    }
-    if champion.utility() < summed.utility() {
-        return true;
-    }
-    let word = word_of(champion.places());
-    question.names.stand_first(summed.places(), word)
 }

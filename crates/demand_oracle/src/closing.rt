@@ -4,10 +4,9 @@ ghost use Rattle.bundle_bounds.specs.Laws.{IsNode};
 ghost use Rattle.demand_oracle.specs.{Champions.IsChampion, Columns.IsColumn};
 ghost use Rattle.demand_oracle.specs.OpenWords.{IsOpenWord};
 ghost use Rattle.demand_oracle.specs.Questions.{IsQuestion, aim_of, offer_asked};
-ghost use Rattle.demand_oracle.specs.Search.{MayBePruned, WinsEachTie};
+ghost use Rattle.demand_oracle.specs.Search.{LeadsNode, WinsEachTie};
 ghost use Rattle.demand_oracle.specs.SummedNodes.{chosen_of, IsSummedOf};
 
-use crate::names::word_of;
 use crate::places::hopes_of;
 use crate::question::Question;
 use crate::reach::{Column, is_below, lacking};
@@ -36,7 +35,7 @@ pub(crate) fn prunes(
         → IsNode (offer_asked question.now) from (chosen_of summed.now) → from ≤ place
         → IsOpenWord (offer_asked question.now) from (chosen_of summed.now) left
         → IsChampion (offer_asked question.now) champion.now → IsTrue result
-        → MayBePruned (offer_asked question.now) (aim_of question.now) place
+        → LeadsNode (offer_asked question.now) (aim_of question.now) place
         (chosen_of summed.now) (chosen_of champion.now) }
 {
     let menu = question.offer.menu;
@@ -68,6 +67,8 @@ fn wins_each_tie(question: &Question, summed: &SummedNode, left: u64, champion: 
         (chosen_of summed.now) (chosen_of champion.now) }
 {
     prove!(question.offer.menu.len() <= MOST_PLACES);
-    let word = left | word_of(summed.places());
-    question.names.stand_first(champion.places(), word)
+    let word = left | summed.word;
+    question
+        .names
+        .stand_first(champion.places(), champion.word, word)
 }

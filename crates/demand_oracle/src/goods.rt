@@ -1,18 +1,22 @@
 // What stands at each place of a menu at one demand: its price, its credits, the places that it
-// clashes with, and whether it may be taken alone.
-ghost use Rattle.std.specs.Prelude.{◌≡◌, ◌<◌, ◌↔◌, ◌⊎◌, ℕ, true, length, slice_index};
+// clashes with, and whether it may be taken alone; and which places what is left can pay for.
+ghost use Rattle.std.specs.Prelude.{◌≡◌, ◌<◌, ◌≤◌, ◌↔◌, ◌⊎◌, ℕ, true, length, slice_index};
 ghost use Rattle.std.specs.Int.{bit_at};
 ghost use Rattle.bundle_rules.specs.Demand.{price_in};
 ghost use Rattle.bundle_rules.specs.Menus.{credits_at, section_at, IsMenu};
+ghost use Rattle.bundle_bounds.specs.Offers.{OfferData, price_at};
 ghost use Rattle.bundle_bounds.specs.Views.{data_of};
 ghost use Rattle.demand_oracle.specs.OpenWords.{IsWordOf, Clashes, IsAlone};
+ghost use Rattle.demand_oracle.specs.PriceColumns.{column_of};
 
 use crate::spot::Spot;
 use crate::step::Step;
 use crate::summed_node::SummedNode;
-use crate::tables::{MOST_PLACES, PLACES};
+use crate::tables::{MOST_PLACES, PLACES, UNITS};
+use crate::unit::Unit;
 use bundle_bounds::{Offer, price_of_place};
 use bundle_rules::Rows;
+use market_units::Tokens;
 
 // Rows by place, so that a search reads one number where it asks one thing. Bit q of a word stands
 // for place q.
@@ -21,10 +25,14 @@ pub(crate) struct Goods {
     // In tokens.
     pub(crate) prices: [u32; PLACES],
     pub(crate) credits: [u16; PLACES],
-    // The places that clash with each place that may be taken alone.
+    // The places that clash with each place.
     pub(crate) clashes: [u64; PLACES],
     // The places whose sections may be taken alone.
     pub(crate) alone: u64,
+    unit: Unit,
+    // For each number of units the places whose prices have no more whole units; the last word has
+    // all places.
+    within: [u64; UNITS],
 }
 
 impl Goods {
@@ -37,14 +45,66 @@ impl Goods {
     {
         let menu = offer.menu;
         prove!(menu.len() <= MOST_PLACES);
-        let alone = alone(offer);
+        let unit = Unit::for_budget(offer.budget);
         Goods {
             prices: prices_of(offer),
             credits: credits_of(menu),
-            clashes: clashes_of(offer, alone),
-            alone,
+            clashes: clashes_of(menu),
+            alone: alone(offer),
+            unit,
+            within: within_of(offer, unit),
         }
     }
+
+    /// The places that so many tokens can pay for, and maybe some that cost less than a unit more.
+    #[inline(always)]
+    pub(crate) fn affordable(&self, tokens: u32) -> u64
+        ensures { (offer : OfferData) → IsGoods offer self.now → (place : ℕ)
+            → place < length offer.menu.places → price_at offer place ≤ tokens
+            → bit_at result place ≡ 1 }
+    {
+        self.within[self.unit.last_column(Tokens(tokens))]
+    }
+}
+
+// For each number of units the places whose prices have no more whole units; the last word has all
+// places.
+fn within_of(offer: &Offer, unit: Unit) -> [u64; UNITS]
+    ensures { (p units : ℕ) → p < length offer.now.menu.now.places → units < 64
+        → column_of unit.shift (price_at (data_of offer.now) p) ≤ units
+        → bit_at (slice_index result units) p ≡ 1 }
+{
+    within_each(&by_column(offer, unit))
+}
+
+// For each number of units the places whose prices have so many whole units.
+fn by_column(offer: &Offer, unit: Unit) -> [u64; UNITS]
+    ensures { (place : ℕ) → place < length offer.now.menu.now.places
+        → bit_at
+        (slice_index result (column_of unit.shift (price_at (data_of offer.now) place))) place ≡ 1 }
+{
+    let mut words = [0; UNITS];
+    for place in 0..offer.menu.len() {
+        let price = price_of_place(offer.menu, offer.prices, place);
+        let column = unit.last_column(Tokens(price));
+        words[column] |= 1 << place;
+    }
+    words
+}
+
+// For each number of units the places of all words up to its own.
+fn within_each(words: &[u64; UNITS]) -> [u64; UNITS]
+    ensures { (column units place : ℕ) → column ≤ units → units < 64
+        → bit_at (slice_index words.now column) place ≡ 1
+        → bit_at (slice_index result units) place ≡ 1 }
+{
+    let mut all = [0; UNITS];
+    let mut word = 0;
+    for units in 0..UNITS {
+        word |= words[units];
+        all[units] = word;
+    }
+    all
 }
 
 // The price of each place.
@@ -72,37 +132,18 @@ fn credits_of(menu: &Rows) -> [u16; PLACES]
     row
 }
 
-// For each place of a word the word of the places that clash with it.
-fn clashes_of(offer: &Offer, alone: u64) -> [u64; PLACES]
-    ensures { (place : ℕ) → place < length offer.now.menu.now.places → bit_at alone place ≡ 1
-        → IsWordOf (Clashes offer.now.menu.now place) (length offer.now.menu.now.places)
-        (slice_index result place) }
+// For each place the word of the places that clash with it.
+fn clashes_of(menu: &Rows) -> [u64; PLACES]
+    ensures { (place : ℕ) → place < length menu.now.places
+        → IsWordOf (Clashes menu.now place) (length menu.now.places) (slice_index result place) }
 {
+    let on_menu = (1u64 << menu.len()) - 1;
     let mut words = [0; PLACES];
-    for place in 0..offer.menu.len() {
-        words[usize::from(place)] = clashing(&Spot { offer, place }, alone);
+    for place in 0..menu.len() {
+        // Bits past the last place do not count, and are cleared.
+        words[usize::from(place)] = menu.clashes()[usize::from(place)] & on_menu;
     }
     words
-}
-
-// The word of the places that clash with a place, where that is in a word. No other is asked for:
-// in the aftermarket most places are in no bundle, and looking pair by pair takes its time.
-fn clashing(spot: &Spot, alone: u64) -> u64
-    ensures { bit_at alone spot.now.place ≡ 1
-        → IsWordOf (Clashes spot.now.offer.now.menu.now spot.now.place)
-        (length spot.now.offer.now.menu.now.places) result }
-{
-    let offer = spot.offer;
-    let menu = offer.menu;
-    prove!(spot.place < menu.len());
-    if (alone >> spot.place) & 1 == 0 {
-        return 0;
-    }
-    let mut word = 0;
-    for place in 0..menu.len() {
-        word = with_bit(word, &Spot { offer, place }, menu.clash(spot.place, place));
-    }
-    word
 }
 
 // The word of the places whose sections may be taken alone.

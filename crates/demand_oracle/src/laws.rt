@@ -1,10 +1,12 @@
 //! What holds of the search and of what bounds it: each call here does nothing, and its contract is
 //! a law.
-ghost use Rattle.demand_oracle.specs.Laws.{SearchFindsTheBest, OwnNumbersAreNames, ReachIsSound, ReachWithinIsSound};
+ghost use Rattle.demand_oracle.specs.Laws.{FirstWithinIsBest, SearchFindsTheBest, OwnNumbersAreNames, ReachIsSound, ReachWithinIsSound};
 
-/// A search from a takable wanted champion that prunes a node only where no takable wanted bundle
-/// that completes it is better than the champion finds the best of the wanted bundles, whichever
-/// are wanted, and whatever names decide between bundles of one utility.
+/// A search from takable wanted bundles that prunes a node only where each takable wanted bundle
+/// that completes it is kept, or as many are kept as may be and the last of them is preferred to it,
+/// leaves, where it leaves them in order, bundles that are preferred to all other wanted ones, and
+/// the first is the best: whichever are wanted, and whatever names decide between bundles of one
+/// utility.
 pub fn search_finds_the_best()
     ensures { SearchFindsTheBest }
 {}
@@ -24,4 +26,10 @@ pub fn reach_is_sound()
 /// the budget.
 pub fn reach_within_is_sound()
     ensures { ReachWithinIsSound }
+{}
+
+/// Where no price on the menu is lower than before, the first of the best bundles before that is
+/// still affordable is the best.
+pub fn first_within_is_best()
+    ensures { FirstWithinIsBest }
 {}

@@ -3,8 +3,9 @@
 // At each multiplier of a resource, what its rest is worth and the greatest values together are a
 // bound. As a function of the multiplier this is convex and made of straight lines, and the best
 // multiplier is at its lowest point. Two lines are kept, one that falls there and one that rises;
-// the multiplier at which they meet is tried, and its line takes the place of one of the two, three
-// times. Any multipliers are right: these only make the search short.
+// the multiplier at which they meet is tried, and its line takes the place of one of the two, twice;
+// then that at which they meet is taken. Any multipliers are right: these only make the search
+// short.
 ghost use Rattle.std.specs.Prelude.{◌≤◌, ◌^◌};
 ghost use Rattle.market_units.specs.declared.limits.TheConstants.{MAX_COURSES};
 
@@ -37,10 +38,11 @@ enum Scarce {
     Credits,
 }
 
-// The most that an allowed place can add, its price and its credits.
+// The most that an allowed place can add, in millionths of a point of utility, its price and its
+// credits.
 #[derive(Clone, Copy)]
 struct Item {
-    most_added: u32,
+    most_added: u64,
     price: u32,
     credits: u32,
 }
@@ -110,12 +112,16 @@ fn meeting_multiplier(
     let mut low = line_at(stock, scarce, multipliers);
     let mut high = Line { worth: 0, taken: 0 };
     let mut met = multipliers;
-    for _ in 0..MEETINGS {
+    for meeting in 1..MEETINGS + 1 {
         if low.taken <= u64::from(rest) || low.taken <= high.taken {
             return met;
         }
         let multiplier = low.worth.saturating_sub(high.worth) / (low.taken - high.taken);
         met = with_multiplier(multipliers, scarce, multiplier.min(HIGHEST_MULTIPLIER));
+        // No line is wanted of the last one.
+        if meeting == MEETINGS {
+            return met;
+        }
         let line = line_at(stock, scarce, met);
         if line.taken > u64::from(rest) {
             low = line;
@@ -161,7 +167,7 @@ fn pick_of(item: &Item, scarce: Scarce, multipliers: Multipliers) -> Pick {
     let paid = multipliers.money * u64::from(item.price)
         + multipliers.credits * u64::from(item.credits);
     Pick {
-        value: (MILLION * u64::from(item.most_added)).saturating_sub(paid),
+        value: item.most_added.saturating_sub(paid),
         taken: match scarce {
             Scarce::Money => item.price,
             Scarce::Credits => item.credits,
@@ -176,14 +182,14 @@ fn put(picks: &mut [Pick], pick: Pick) {
         Some(least) if least.value < pick.value => {}
         _ => return,
     }
-    let mut pick = pick;
-    for i in 0..picks.len() {
-        if picks[i].value < pick.value {
-            let lesser = picks[i];
+    for i in (1..picks.len()).rev() {
+        if picks[i - 1].value >= pick.value {
             picks[i] = pick;
-            pick = lesser;
+            return;
         }
+        picks[i] = picks[i - 1];
     }
+    picks[0] = pick;
 }
 
 fn sum_of(picks: &[Pick], multiplier: u64) -> Line {
@@ -211,7 +217,7 @@ fn items_of(offer: &Offer, hopes: &[[u16; PLACES]; ROWS], items: &mut [Item; PLA
         if offer.allowed.has(rated.section) {
             let hoped = hopes[usize::from(place) + 1][usize::from(place)];
             items[count] = Item {
-                most_added: u32::from(rated.rating) + u32::from(hoped),
+                most_added: MILLION * (u64::from(rated.rating) + u64::from(hoped)),
                 price: price_of_place(menu, offer.prices, place),
                 credits: u32::from(rated.credits),
             };

@@ -33,14 +33,15 @@ impl Names<'_> {
         }
     }
 
-    /// Whether chosen places stand first before all that has no other places than those of a word:
-    /// one of them is not in the word, and its name stands before those of all that the word has
-    /// and they lack.
-    pub(crate) fn stand_first(&self, chosen: &[u8], word: u64) -> bool
-        requires { All (λ place. place < MAX_RATINGS) chosen.now }
+    /// Whether chosen places, of which the first word is, stand first before all that has no other
+    /// places than those of the second: one of them is not in it, and its name stands before those
+    /// of all that it has and they lack.
+    pub(crate) fn stand_first(&self, chosen: &[u8], own: u64, word: u64) -> bool
+        requires places { All (λ place. place < MAX_RATINGS) chosen.now }
+        requires own { (p : ℕ) → (bit_at own p ≡ 1) ↔ (has chosen.now p ≡ true) }
         ensures { IsTrue result ↔ LeadsWord self.now.before chosen.now word }
     {
-        let others = word & !word_of(chosen);
+        let others = word & !own;
         self.one_leads(chosen, word, others)
     }
 
@@ -94,15 +95,4 @@ fn words_before(ranked: &Ranked, at: &[u8; PLACES]) -> [u64; PLACES]
         earlier |= 1 << position;
     }
     before
-}
-
-/// The word of some places.
-pub(crate) fn word_of(places: &[u8]) -> u64
-    requires { All (λ place. place < MAX_RATINGS) places.now }
-    ensures { (p : ℕ) → (bit_at result p ≡ 1) ↔ (has places.now p ≡ true) }
-{
-    match places {
-        [] => 0,
-        [place, more @ ..] => word_of(more) | 1 << place,
-    }
 }

@@ -1,21 +1,26 @@
 // The best bundle, by a depth-first search that prunes nodes by what can still be reached from
 // them.
-ghost use Rattle.std.specs.Prelude.{◌≡◌, ◌<◌, [], ◌∷◌, true, IfSome, IfNone, length};
+ghost use Rattle.std.specs.Prelude.{◌≡◌, ◌<◌, ◌≤◌, ◌+◌, ◌++◌, [], ◌∷◌, ℕ, List, true, IfSome, IfNone, length, map};
 ghost use Rattle.std.specs.FinSet as set;
 ghost use Rattle.bundle_rules.specs.Bundles.{sections_of};
 ghost use Rattle.bundle_rules.specs.Demand.{price_in, HasPrices, IsBest};
 ghost use Rattle.bundle_rules.specs.Given.{IsBestWith, SomeHas};
 ghost use Rattle.bundle_rules.specs.Menus.{wishes_of, section_at};
+ghost use Rattle.bundle_rules.specs.{Ranks.named, Wishes.AllRated};
 ghost use Rattle.market_units.specs.Members.{has};
 ghost use Rattle.bundle_bounds.specs.{Laws.IsTakable, Offers.offer_of, Views.data_of};
-ghost use Rattle.demand_oracle.specs.{Beside.LeadsThoseWithout, Champions.IsChampion};
-ghost use Rattle.demand_oracle.specs.Search.{aim_by, wanted_by, LeadsAim, LeadsWanted};
+ghost use Rattle.demand_oracle.specs.Beside.{LeadsThoseWithout};
+ghost use Rattle.demand_oracle.specs.{Bests.AreBest, Bests.IsAmong, BestViews.bundles_of};
+ghost use Rattle.demand_oracle.specs.Champions.{IsChampion, kept_of, nodes_of};
+ghost use Rattle.demand_oracle.specs.Search.{aim_by, wanted_by, bundles_kept, LeadAim, LeadWanted};
 ghost use Rattle.demand_oracle.specs.Names.{HoldsNames};
 ghost use Rattle.demand_oracle.specs.SummedNodes.{chosen_of};
 
 use crate::asked::Asked;
 use crate::below::below;
+use crate::best::Best;
 use crate::goods::Goods;
+use crate::leaders::Leaders;
 use crate::names::Names;
 use crate::question::Question;
 use crate::reach::{Reach, begun_with};
@@ -25,7 +30,7 @@ use crate::step::{Step, node_of};
 use crate::summed_node::SummedNode;
 use crate::tables::MOST_PLACES;
 use bundle_bounds::Offer;
-use bundle_rules::{Bundle, Menu, prefers};
+use bundle_rules::{Bundle, Menu, Ranked, prefers};
 use market_units::{NoMemory, SectionNo, SectionSet, Tokens};
 use std::alloc::Global;
 use std::marker::Model;
@@ -100,7 +105,7 @@ pub fn demand(
         offer: &offer,
         given: None,
     };
-    search(&mut workspace.frames, menu, &asked, None)
+    search(&mut workspace.frames, menu, &asked, None, 1).first()
 }
 
 /// The same, found sooner where this bundle, or what may be taken of it, is nearly the best. Any
@@ -127,7 +132,7 @@ pub fn demand_from(
         offer: &offer,
         given: None,
     };
-    search(&mut workspace.frames, menu, &asked, Some(first))
+    search(&mut workspace.frames, menu, &asked, Some(first), 1).first()
 }
 
 /// The best bundle with a given section: the feasible one of allowed sections with this one among
@@ -162,8 +167,8 @@ pub fn demand_with(
         offer: &offer,
         given: Some(place),
     };
-    let bundle = search(&mut workspace.frames, menu, &asked, None);
-    Some(bundle)
+    let best = search(&mut workspace.frames, menu, &asked, None, 1);
+    Some(best.first())
 }
 
 /// The best bundle, found sooner where a bundle is known that is preferred to every other choice
@@ -200,11 +205,43 @@ pub fn demand_beside(
         offer: &offer,
         given,
     };
-    let found = search(&mut workspace.frames, menu, &asked, Some(first));
+    let found = search(&mut workspace.frames, menu, &asked, Some(first), 1).first();
     if prefers(menu, first, &found) {
         return *first;
     }
     found
+}
+
+/// The best bundles, the most preferred first: at least one, of 1 to 8 that are asked for (that there
+/// are so many, where there are so many to choose from, no clause says). At higher prices the first
+/// of them that is still affordable is the best (`Best::first_within`). They are found sooner where
+/// a first bundle is told that is nearly the best. Any bundle is right. It takes no memory. There is
+/// a price for each section of the menu, each at most 1,000,001.
+pub fn best_few(
+    workspace: &mut Workspace,
+    menu: &Menu,
+    prices: &[Tokens],
+    budget: Tokens,
+    allowed: &SectionSet,
+    first: Option<&Bundle>,
+    most: usize,
+) -> Best
+    requires prices { HasPrices menu.now prices.now }
+    requires most { (1 ≤ most) × (most ≤ 8) }
+    ensures { AreBest (wishes_of menu.now) (price_in prices.now) budget.0
+        (set.contains allowed.now) (bundles_of result) }
+{
+    let offer = Offer {
+        menu: menu.rows(),
+        prices,
+        budget,
+        allowed,
+    };
+    let asked = Asked {
+        offer: &offer,
+        given: None,
+    };
+    search(&mut workspace.frames, menu, &asked, first, most)
 }
 
 // The place of a section that may be taken alone; `None` exactly where it may be in no bundle.
@@ -238,21 +275,32 @@ fn place_alone(menu: &Menu, offer: &Offer, section: SectionNo) -> Option<u8>
     Some(place)
 }
 
-// What the search below the root leaves. Where a first bundle is told, as a word of places, the
-// search may begin with it, and where a place is given too, it may end with it: with what is as good
-// as all bundles with the section.
-fn found(frames: &mut Frames, asked: &Asked, names: &Names, first: Option<u64>) -> SummedNode
-    requires { HoldsNames asked.now.offer.now.menu.now names.now }
-    ensures leads { LeadsAim (data_of asked.now.offer.now)
-        (aim_by asked.now.offer.now.menu.now asked.now.given names.now) (chosen_of result) }
+// What the search below the root keeps: at most so many. Where a first bundle is told, as a word of
+// places, the search may begin with it, and where a place is given too, it may end with it: with
+// what is as good as all bundles with the section.
+fn found(
+    frames: &mut Frames,
+    asked: &Asked,
+    names: &Names,
+    first: Option<u64>,
+    most: usize,
+) -> Leaders
+    requires names { HoldsNames asked.now.offer.now.menu.now names.now }
+    requires most { (1 ≤ most) × (most ≤ 8) }
+    ensures few { length (nodes_of result.leading) < 8 }
+    ensures leads { LeadAim (data_of asked.now.offer.now)
+        (aim_by asked.now.offer.now.menu.now asked.now.given names.now)
+        (bundles_kept (kept_of result)) }
     ensures wanted { IfNone first
-        (wanted_by asked.now.offer.now.menu.now asked.now.given (chosen_of result) ≡ true) }
+        ((bundle : List ℕ) → IsAmong bundle (bundles_kept (kept_of result))
+        → wanted_by asked.now.offer.now.menu.now asked.now.given bundle ≡ true) }
 {
     let offer = asked.offer;
     frames.reach.measure(offer);
     let goods = Goods::of(offer);
     let reach = &frames.reach;
-    let mut champion = first_champion(reach, asked, first);
+    let champion = first_champion(reach, asked, first);
+    let mut leaders = Leaders::begun(champion, most);
     let question = Question {
         offer,
         given: asked.given,
@@ -260,8 +308,8 @@ fn found(frames: &mut Frames, asked: &Asked, names: &Names, first: Option<u64>) 
         goods: &goods,
         names,
     };
-    frames.opened = below(&question, &SummedNode::root(), goods.alone, &mut champion);
-    champion
+    frames.opened = below(&question, &SummedNode::root(), goods.alone, &mut leaders);
+    leaders
 }
 
 // The champion that a search begins with: where a place is given, its section alone, or what may be
@@ -304,17 +352,25 @@ fn begun_beside(spot: &Spot, first: Option<u64>) -> SummedNode
     }
 }
 
-// The best bundle of what is asked, found over the positions of the menu's search order. Where a
-// first bundle is told, the search may begin with it, and where a place is given too, it may end
-// with it: with what is as good as all bundles with the section.
-fn search(frames: &mut Frames, menu: &Menu, asked: &Asked, first: Option<&Bundle>) -> Bundle
-    requires { menu.now ≡ asked.now.offer.now.menu.now }
-    ensures leads { LeadsWanted
+// The best bundles of what is asked, at most so many, found over the positions of the menu's search
+// order. Where a first bundle is told, the search may begin with it, and where a place is given too,
+// it may end with it: with what is as good as all bundles with the section.
+fn search(
+    frames: &mut Frames,
+    menu: &Menu,
+    asked: &Asked,
+    first: Option<&Bundle>,
+    most: usize,
+) -> Best
+    requires menu { menu.now ≡ asked.now.offer.now.menu.now }
+    requires most { (1 ≤ most) × (most ≤ 8) }
+    ensures leads { LeadWanted
         (offer_of menu.now asked.now.offer.now.prices.now asked.now.offer.now.budget.0
         asked.now.offer.now.allowed.now)
-        (wanted_by menu.now asked.now.given) (sections_of result) }
+        (wanted_by menu.now asked.now.given) (bundles_of result) }
     ensures wanted { IfNone first.entry
-        (wanted_by menu.now asked.now.given (sections_of result) ≡ true) }
+        ((bundle : List ℕ) → IsAmong bundle (bundles_of result)
+        → wanted_by menu.now asked.now.given bundle ≡ true) }
 {
     let ranked = menu.ranked();
     prove!(ranked.menu.len() <= MOST_PLACES);
@@ -334,6 +390,36 @@ fn search(frames: &mut Frames, menu: &Menu, asked: &Asked, first: Option<&Bundle
     };
     let names = Names::of(&ranked);
     let word = positions_of(&ranked, first);
-    let best = found(frames, &renamed, &names, word);
-    ranked.named(&best.node.chosen)
+    let best = found(frames, &renamed, &names, word, most);
+    named_best(&ranked, &best)
+}
+
+// What is kept, by the sections at its positions.
+fn named_best(ranked: &Ranked, leaders: &Leaders) -> Best
+    requires rated { (bundle : List ℕ) → IsAmong bundle (bundles_kept (kept_of leaders.now))
+        → AllRated (wishes_of ranked.now.rows.now) bundle }
+    requires few { length (nodes_of leaders.now.leading) < 8 }
+    ensures { bundles_of result
+        ≡ map (named ranked.now.menu.now ranked.now.order.now) (bundles_kept (kept_of leaders.now)) }
+{
+    let leading = named_behind(ranked, Best::none(), leaders.leading.as_slice());
+    leading.with(ranked.named(&leaders.champion.node.chosen))
+}
+
+// The nodes by the sections at their positions, behind some bundles.
+fn named_behind(ranked: &Ranked, best: Best, nodes: &[SummedNode]) -> Best
+    requires rated { (bundle : List ℕ) → IsAmong bundle (map chosen_of nodes.now)
+        → AllRated (wishes_of ranked.now.rows.now) bundle }
+    requires few { length (bundles_of best) + length nodes.now < 8 }
+    ensures { bundles_of result
+        ≡ bundles_of best
+        ++ map (named ranked.now.menu.now ranked.now.order.now) (map chosen_of nodes.now) }
+{
+    match nodes {
+        [] => best,
+        [first, others @ ..] => {
+            let more = best.with(ranked.named(&first.node.chosen));
+            named_behind(ranked, more, others)
+        }
+    }
 }

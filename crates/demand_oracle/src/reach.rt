@@ -49,6 +49,7 @@ pub struct Column {
     paid: u64,
     ghost few: { count ≤ MAX_COURSES },
     ghost low: { units < 64 },
+    ghost paid_low: { paid ≤ 2 ^ 62 },
 }
 
 impl Reach {
@@ -167,8 +168,7 @@ impl Reach {
         ensures low { pos 0 ≤ℤ result }
     {
         let most = self.most[usize::from(place) * COUNTS + column.count][column.units];
-        let added = column.paid.saturating_add(THOUSAND * u64::from(most));
-        added.min(ENOUGH) as i64
+        (column.paid + THOUSAND * u64::from(most)) as i64
     }
 }
 

@@ -107,6 +107,7 @@ impl Step<'_, '_> {
                 chosen: self.summed.node.chosen.with(rated.section),
             },
             places,
+            word: self.summed.word | 1 << place,
             paid: self.summed.paid + price_of_place(menu, self.offer.prices, place),
             credits: self.summed.credits + u32::from(rated.credits),
             utility: self.utility_with(),

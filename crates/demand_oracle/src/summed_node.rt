@@ -12,12 +12,13 @@ use market_units::{MAX_COURSES, Tokens};
 
 const ROOM: usize = MAX_COURSES as usize;
 
-/// A node of the search with what its sections are known by: their places, and the sums of their
-/// prices, of their credits and of their utility.
+/// A node of the search with what its sections are known by: their places, one behind another and
+/// as bits of a word, and the sums of their prices, of their credits and of their utility.
 #[derive(Clone, Copy, Debug)]
 pub struct SummedNode {
     pub node: Node,
     pub(crate) places: [u8; ROOM],
+    pub(crate) word: u64,
     pub(crate) paid: u32,
     pub(crate) credits: u32,
     pub(crate) utility: i32,
@@ -39,6 +40,7 @@ impl SummedNode {
                 chosen: Bundle::empty(),
             },
             places: [0; ROOM],
+            word: 0,
             paid: 0,
             credits: 0,
             utility: 0,

@@ -1,9 +1,10 @@
 // How the tables of what can be reached are filled, from the last place to the first.
-ghost use Rattle.std.specs.Prelude.{◌≡◌, ◌≢◌, ◌<◌, ◌≤◌, ◌*◌, ◌+◌, ◌-◌, ◌/◌, ◌^◌, ℕ, true, max, unsigned_abs, length, slice_index};
+ghost use Rattle.std.specs.Prelude.{◌≡◌, ◌≢◌, ◌<◌, ◌≤◌, ◌*◌, ◌+◌, ◌-◌, ◌/◌, ◌^◌, ℕ, true, max, unsigned_abs, length, slice_index, All};
+ghost use Rattle.market_units.specs.declared.limits.TheConstants.{MAX_RATINGS};
 ghost use Rattle.market_units.specs.declared.units.Tokens.{Tokens};
-ghost use Rattle.bundle_rules.specs.Menus.{adjustment_in, clash_in, credits_at};
+ghost use Rattle.bundle_rules.specs.Menus.{adjustment_in, clash_in, credits_at, IsPair};
 ghost use Rattle.bundle_bounds.specs.{Offers.allowed_at, Opens.above_zero, Views.data_of};
-ghost use Rattle.demand_oracle.specs.Reaches.{HoldsHopes, HoldsCovers, IsLightest, AreSmall, IsPlaced, number_at, within_at};
+ghost use Rattle.demand_oracle.specs.Reaches.{HasRaised, HoldsHopes, HoldsCovers, IsLightest, AreSmall, IsAsked, IsPlaced, number_at, top_of, within_at};
 ghost use Rattle.demand_oracle.specs.Values.{hopes_from, value};
 
 use crate::gain::Gain;
@@ -66,18 +67,21 @@ pub(crate) fn put_hopes(offer: &Offer, hopes: &mut [[u16; PLACES]; ROWS])
     ensures { HoldsHopes (data_of offer.now) hopes.new 0 }
 {
     let count = offer.menu.len();
+    prove!(count <= MOST_PLACES);
+    let raised = raised_by_earlier(offer.menu.pairs());
     hopes[usize::from(count)] = [0; PLACES];
     for place in (0..count).rev() {
         hopes[usize::from(place)] = hopes[usize::from(place) + 1];
         let spot = Spot { offer, place };
-        add_hopes(&spot, &mut hopes[usize::from(place)]);
+        add_hopes(&spot, raised, &mut hopes[usize::from(place)]);
     }
 }
 
 // Adds to what the adjustments of earlier places with the places behind this one can add what they
-// can add with this one.
-fn add_hopes(spot: &Spot, hopes: &mut [u16; PLACES])
-    requires { (earlier : ℕ) → earlier < spot.now.place + 1
+// can add with this one: nothing, where its bit of the word is not set.
+fn add_hopes(spot: &Spot, raised: u64, hopes: &mut [u16; PLACES])
+    requires raised { HasRaised spot.now.offer.now.menu.now.pairs raised }
+    requires hopes { (earlier : ℕ) → earlier < spot.now.place + 1
         → slice_index hopes.old earlier
         ≡ hopes_from (data_of spot.now.offer.now) (spot.now.place + 1) earlier }
     ensures { (earlier : ℕ) → earlier < spot.now.place
@@ -86,11 +90,28 @@ fn add_hopes(spot: &Spot, hopes: &mut [u16; PLACES])
 {
     let menu = spot.offer.menu;
     prove!(spot.place < menu.len());
+    if (raised >> spot.place) & 1 == 0 {
+        return;
+    }
     if !spot.offer.allowed.has(menu.rated(spot.place).section) {
         return;
     }
     for earlier in 0..spot.place {
         hopes[usize::from(earlier)] += hope_of(spot, earlier);
+    }
+}
+
+// The word of the places that have a positive adjustment with an earlier one: mostly few of a menu.
+fn raised_by_earlier(pairs: &[(u8, u8, i16)]) -> u64
+    requires { All (IsPair MAX_RATINGS) pairs.now }
+    ensures { HasRaised pairs.now result }
+{
+    match pairs {
+        [] => 0,
+        [(_, place, by), more @ ..] => {
+            let word = raised_by_earlier(more);
+            if *by > 0 { word | 1 << place } else { word }
+        }
     }
 }
 
@@ -115,7 +136,8 @@ pub(crate) fn put_most(
     most: &mut Table,
 )
     requires { HoldsHopes (data_of offer.now) hopes.now 0 }
-    ensures { HoldsCovers (data_of offer.now) multipliers unit.shift most.new 0 }
+    ensures { HoldsCovers (data_of offer.now) multipliers unit.shift
+        (top_of (data_of offer.now) unit.shift) most.new 0 }
 {
     put_nothing(offer.menu, most);
     let count = offer.menu.len();
@@ -140,26 +162,30 @@ fn put_nothing(menu: &Rows, most: &mut Table)
 // Writes the most that so many places from this one on can add, where its adjustments with later
 // ones can add so much.
 fn put_place(spot: &Spot, multipliers: Multipliers, unit: Unit, hoped: u16, most: &mut Table)
-    requires { AreSmall spot.now.offer.now.menu.now.courses most.old (spot.now.place + 1)
+    requires { AreSmall spot.now.offer.now.menu.now.courses
+        (top_of (data_of spot.now.offer.now) unit.shift) most.old (spot.now.place + 1)
         (length spot.now.offer.now.menu.now.places) }
     ensures covers { hoped
         ≡ hopes_from (data_of spot.now.offer.now) (spot.now.place + 1) spot.now.place
-        → HoldsCovers (data_of spot.now.offer.now) multipliers unit.shift most.old
-        (spot.now.place + 1)
-        → HoldsCovers (data_of spot.now.offer.now) multipliers unit.shift most.new spot.now.place }
-    ensures small { AreSmall spot.now.offer.now.menu.now.courses most.new spot.now.place
+        → HoldsCovers (data_of spot.now.offer.now) multipliers unit.shift
+        (top_of (data_of spot.now.offer.now) unit.shift) most.old (spot.now.place + 1)
+        → HoldsCovers (data_of spot.now.offer.now) multipliers unit.shift
+        (top_of (data_of spot.now.offer.now) unit.shift) most.new spot.now.place }
+    ensures small { AreSmall spot.now.offer.now.menu.now.courses
+        (top_of (data_of spot.now.offer.now) unit.shift) most.new spot.now.place
         (length spot.now.offer.now.menu.now.places) }
 {
     let offer = spot.offer;
     let menu = offer.menu;
     let place = spot.place;
     prove!(place < menu.len());
+    let top = unit.last_column(offer.budget);
     if !offer.allowed.has(menu.rated(place).section) {
         let nothing = Gain {
             value: 0,
             cost: UNITS,
         };
-        put_counts(spot, place + 1, nothing, most);
+        put_counts(spot, place + 1, nothing, top, most);
         return;
     }
     let value = thousandths(value_at(spot, multipliers, hoped));
@@ -169,7 +195,7 @@ fn put_place(spot: &Spot, multipliers: Multipliers, unit: Unit, hoped: u16, most
         value,
         cost: cost as usize,
     };
-    put_counts(spot, next, gain, most);
+    put_counts(spot, next, gain, top, most);
 }
 
 // What is left of a million times the most that a place can add, where its adjustments with later
@@ -217,16 +243,17 @@ fn thousandths(value: u64) -> u32
     (value / THOUSAND + 1) as u32
 }
 
-// For each count up to the course cap and for each number of units the greater one of what so many
-// later places can add, and of the value with what one fewer can add from the next place on that
-// does not clash.
-fn put_counts(spot: &Spot, next: u8, gain: Gain, most: &mut Table)
+// For each count up to the course cap, and for each number of units that is asked with it, the
+// greater one of what so many later places can add, and of the value with what one fewer can add
+// from the next place on that does not clash.
+fn put_counts(spot: &Spot, next: u8, gain: Gain, top: usize, most: &mut Table)
     requires later { spot.now.place < next }
     requires on_menu { next ≤ length spot.now.offer.now.menu.now.places }
-    requires small { (count units : ℕ) → count < spot.now.offer.now.menu.now.courses → units < 64
+    requires top { top < 64 }
+    requires small { (count units : ℕ) → count < spot.now.offer.now.menu.now.courses → units ≤ top
         → within_at most.old next count units ≤ 65635001 * count }
-    ensures { IsPlaced spot.now.offer.now.menu.now.courses gain.value gain.cost spot.now.place next
-        most.old most.new }
+    ensures { IsPlaced spot.now.offer.now.menu.now.courses top gain.value gain.cost spot.now.place
+        next most.old most.new }
 {
     let menu = spot.offer.menu;
     prove!(next <= menu.len());
@@ -235,22 +262,52 @@ fn put_counts(spot: &Spot, next: u8, gain: Gain, most: &mut Table)
     let apart = usize::from(next) * COUNTS;
     most[row] = most[after];
     for count in 1..usize::from(menu.courses()) + 1 {
-        put_row(row + count, after + count, apart + count - 1, gain, most);
+        let first = first_asked(menu, top, count);
+        put_row(
+            row + count,
+            after + count,
+            apart + count - 1,
+            gain,
+            first,
+            top,
+            most,
+        );
     }
 }
 
-// Writes a row of the table: for each number of units the greater one of the number of a row behind
-// it, and of the value with that of another where so many units fewer are left.
+// The least number of units that is asked with a count.
+fn first_asked(menu: &Rows, top: usize, count: usize) -> usize
+    ensures { (units : ℕ) → IsAsked menu.now.courses top count units → result ≤ units }
+{
+    if count < usize::from(menu.courses()) {
+        0
+    } else {
+        top
+    }
+}
+
+// Writes a row of the table, from a first number of units to a last one: the greater one of the
+// number of a row behind it, and of the value with that of another where so many units fewer are
+// left.
 #[inline(always)]
-fn put_row(row: usize, later: usize, apart: usize, gain: Gain, most: &mut Table)
+fn put_row(
+    row: usize,
+    later: usize,
+    apart: usize,
+    gain: Gain,
+    first: usize,
+    top: usize,
+    most: &mut Table,
+)
     requires later { row < later }
     requires apart { row < apart }
     requires later_high { later < 549 }
     requires apart_high { apart < 549 }
-    requires small { (units : ℕ) → units < 64 → number_at most.old apart units ≤ 525080008 }
-    ensures dear { (units : ℕ) → units < 64 → units < gain.cost
+    requires top { top < 64 }
+    requires small { (units : ℕ) → units ≤ top → number_at most.old apart units ≤ 525080008 }
+    ensures dear { (units : ℕ) → first ≤ units → units ≤ top → units < gain.cost
         → number_at most.new row units ≡ number_at most.old later units }
-    ensures more { (units : ℕ) → units < 64 → gain.cost ≤ units
+    ensures more { (units : ℕ) → first ≤ units → units ≤ top → gain.cost ≤ units
         → number_at most.new row units
         ≡ max (number_at most.old later units)
         (number_at most.old apart (units - gain.cost) + gain.value) }
@@ -258,29 +315,41 @@ fn put_row(row: usize, later: usize, apart: usize, gain: Gain, most: &mut Table)
         → number_at most.new one units ≡ number_at most.old one units }
 {
     let (front, behind) = most.split_at_mut(row + 1);
-    let first = row + 1;
     put_most_within(
-        &behind[later - first],
-        &behind[apart - first],
+        &behind[later - row - 1],
+        &behind[apart - row - 1],
         gain,
+        first,
+        top,
         &mut front[row],
     );
 }
 
-// Writes for each number of units the greater one of the number of a row, and of the value with
-// that of another where so many units fewer are left.
+// Writes for each of these numbers of units the greater one of the number of a row, and of the value
+// with that of another where so many units fewer are left.
 #[inline(always)]
-fn put_most_within(later: &[u32; UNITS], apart: &[u32; UNITS], gain: Gain, most: &mut [u32; UNITS])
-    requires { (units : ℕ) → units < 64 → slice_index apart.now units ≤ 525080008 }
-    ensures dear { (units : ℕ) → units < 64 → units < gain.cost
+fn put_most_within(
+    later: &[u32; UNITS],
+    apart: &[u32; UNITS],
+    gain: Gain,
+    first: usize,
+    top: usize,
+    most: &mut [u32; UNITS],
+)
+    requires top { top < 64 }
+    requires small { (units : ℕ) → units ≤ top → slice_index apart.now units ≤ 525080008 }
+    ensures dear { (units : ℕ) → first ≤ units → units ≤ top → units < gain.cost
         → slice_index most.new units ≡ slice_index later.now units }
-    ensures more { (units : ℕ) → units < 64 → gain.cost ≤ units
+    ensures more { (units : ℕ) → first ≤ units → units ≤ top → gain.cost ≤ units
         → slice_index most.new units
         ≡ max (slice_index later.now units)
         (slice_index apart.now (units - gain.cost) + gain.value) }
 {
-    *most = *later;
-    for units in gain.cost..UNITS {
+    let end = top + 1;
+    'dear: for units in first..gain.cost.min(end) {
+        most[units] = later[units];
+    }
+    'more: for units in first.max(gain.cost)..end {
         most[units] = later[units].max(apart[units - gain.cost] + gain.value);
     }
 }

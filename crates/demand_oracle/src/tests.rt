@@ -347,3 +347,131 @@ fn the_best_beside_one_without_a_section(rt: HostRuntime) -> Result<(), Fail> {
     assert!(rt; without >= 20);
     Ok(())
 }
+
+// The best of all bundles but these that are allowed and affordable, by trying all of a menu of at
+// most 12 places.
+fn best_but<R: Abort>(
+    rt: &R,
+    menu: &Menu,
+    prices: &[Tokens],
+    budget: Tokens,
+    allowed: &SectionSet,
+    earlier: &[Bundle],
+) -> Option<Bundle> {
+    let mut best: Option<Bundle> = None;
+    for bits in 0..4096 {
+        let bundle = chosen(menu, bits);
+        let is_cheap = price_of(prices, &bundle) <= budget.0;
+        if is_cheap && all_allowed(allowed, &bundle) && !is_one_of(earlier, &bundle) {
+            best = better_of(rt, menu, bundle, best);
+        }
+    }
+    best
+}
+
+fn is_one_of(bundles: &[Bundle], bundle: &Bundle) -> bool {
+    for other in bundles {
+        if other == bundle {
+            return true;
+        }
+    }
+    false
+}
+
+#[test]
+fn the_eight_best_in_order(rt: HostRuntime) -> Result<(), Fail> {
+    let mut seed = 4;
+    let mut workspace = Workspace::reserve(rt.alloc()).expect(&rt, "memory");
+    let (mut eight, mut fewer) = (false, false);
+    for turn in 0..20 {
+        let menu = made_menu(&rt, rt.alloc(), &mut seed);
+        let prices = made_prices(&mut seed);
+        let budget = Tokens(u32::from(made(&mut seed, 200)));
+        let allowed = made_allowed(&mut seed);
+        let first = chosen(&menu, u32::from(made(&mut seed, 4096)));
+        assert!(rt; has_prices(&menu, &prices));
+        let told = if turn < 10 { None } else { Some(&first) };
+        let best = best_few(
+            &mut workspace,
+            &menu,
+            &prices,
+            budget,
+            &allowed,
+            told,
+            MOST_KEPT,
+        );
+        let bundles = best.as_slice();
+        for place in 0..bundles.len() {
+            let next = best_but(&rt, &menu, &prices, budget, &allowed, &bundles[..place]);
+            assert!(rt;
+                next == Some(bundles[place]),
+                "at turn {turn}, place {place}"
+            );
+        }
+        if bundles.len() == 8 {
+            eight = true;
+        } else {
+            let next = best_but(&rt, &menu, &prices, budget, &allowed, bundles);
+            assert!(rt; next.is_none(), "at turn {turn}");
+            fewer = true;
+        }
+    }
+    // Both kinds occur.
+    assert!(rt; eight && fewer);
+    Ok(())
+}
+
+// The first of the eight best that is affordable at raised prices.
+fn first_after<R: Abort>(
+    rt: &R,
+    workspace: &mut Workspace,
+    menu: &Menu,
+    prices: &[Tokens],
+    raised: &[Tokens],
+    budget: Tokens,
+    allowed: &SectionSet,
+) -> Option<Bundle> {
+    assert!(rt; has_prices(menu, prices));
+    assert!(rt; has_prices(menu, raised));
+    let best = best_few(workspace, menu, prices, budget, allowed, None, MOST_KEPT);
+    best.first_within(menu, raised, budget)
+}
+
+#[test]
+fn the_first_still_affordable_is_the_best(rt: HostRuntime) -> Result<(), Fail> {
+    let mut seed = 5;
+    let mut workspace = Workspace::reserve(rt.alloc()).expect(&rt, "memory");
+    let (mut found, mut none) = (false, false);
+    for turn in 0..50 {
+        let menu = made_menu(&rt, rt.alloc(), &mut seed);
+        let prices = made_prices(&mut seed);
+        let mut raised = prices;
+        for price in raised.iter_mut() {
+            let more = u32::from(made(&mut seed, 40));
+            *price = Tokens(price.0.saturating_add(more));
+        }
+        let budget = Tokens(u32::from(made(&mut seed, 200)));
+        let allowed = made_allowed(&mut seed);
+        let first = first_after(
+            &rt,
+            &mut workspace,
+            &menu,
+            &prices,
+            &raised,
+            budget,
+            &allowed,
+        );
+        assert!(rt; has_prices(&menu, &raised));
+        match first {
+            Some(bundle) => {
+                let best = best_plain(&menu, &raised, budget, &allowed);
+                assert!(rt; bundle == best, "at turn {turn}");
+                found = true;
+            }
+            None => none = true,
+        }
+    }
+    // Both kinds occur.
+    assert!(rt; found && none);
+    Ok(())
+}

@@ -1,5 +1,5 @@
 // The unit in which the table of what can be reached counts tokens.
-ghost use Rattle.std.specs.Prelude.{◌≡◌, ◌<◌, ◌/◌, ◌^◌};
+ghost use Rattle.std.specs.Prelude.{◌≡◌, ◌<◌, ◌/◌, ◌^◌, min};
 
 use crate::tables::UNITS;
 use market_units::Tokens;
@@ -21,6 +21,13 @@ impl Unit {
             }
         }
         Unit { shift: 31 }
+    }
+
+    /// The last column of the table that is asked where so much is left.
+    pub(crate) fn last_column(self, budget: Tokens) -> usize
+        ensures { result ≡ min 63 (budget.0 / 2 ^ self.shift) }
+    {
+        self.whole_in(budget.0).min(UNITS as u32 - 1) as usize
     }
 
     /// How many whole units are in so many tokens. Prices and what is left are both rounded down,

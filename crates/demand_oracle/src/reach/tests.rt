@@ -267,7 +267,8 @@ fn the_numbers_of_a_table(rt: HostRuntime) -> Result<(), Fail> {
 
 #[test]
 fn what_so_many_units_are_enough_for(rt: HostRuntime) -> Result<(), Fail> {
-    // A budget of 30 is counted in single tokens. The first two places cost 10 and 20.
+    // A budget of 30 is counted in single tokens. The first two places cost 10 and 20. For one and
+    // two sections any number of units is asked, for three, which is the course cap, all 30 alone.
     let menu = menu_of(
         &rt,
         rt.alloc(),
@@ -275,7 +276,7 @@ fn what_so_many_units_are_enough_for(rt: HostRuntime) -> Result<(), Fail> {
             rated: &[(50, 1), (60, 1)],
             pairs: &[],
             clashes: &[0, 0],
-            caps: (10, 2),
+            caps: (10, 3),
         },
     );
     let prices = [Tokens(10), Tokens(20)];
@@ -294,6 +295,7 @@ fn what_so_many_units_are_enough_for(rt: HostRuntime) -> Result<(), Fail> {
     assert_eq!(rt; most[2][10], 50_001);
     assert_eq!(rt; most[2][29], 60_001);
     assert_eq!(rt; most[2][30], 110_002);
+    assert_eq!(rt; most[3][30], 110_002);
     assert_eq!(rt; most[1][30], 60_001);
     Ok(())
 }

@@ -44,8 +44,8 @@ fn the_least_price_of_each_section(rt: HostRuntime) -> Result<(), Fail> {
     Ok(())
 }
 
-// One worker asks nobody ahead: the four at the prices of the call, and then the one of budget 100
-// where the first section costs 101. It leaves, and what was found of it there is used again.
+// The four are asked at the prices of the call, and then the one of budget 100 where the first
+// section costs 101. It leaves, and what was found of it there is used again.
 #[test]
 fn who_leaves_is_asked_at_the_raised_price(rt: HostRuntime) -> Result<(), Fail> {
     let alloc = rt.alloc();

@@ -331,8 +331,7 @@ fn least_prices_of_four_students(rt: HostRuntime) -> Result<(), Fail> {
     Ok(())
 }
 
-// The least prices from 50 up at which at most 30, 10 and all of a hundred take the section: two
-// workers ask ahead.
+// The least prices from 50 up at which at most 30, 10 and all of a hundred take the section.
 #[test]
 fn least_prices_of_many(rt: HostRuntime) -> Result<(), Fail> {
     let alloc = rt.alloc();

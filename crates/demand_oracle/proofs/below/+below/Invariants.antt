@@ -8,7 +8,7 @@ decreases-below l = l.word
 -- what the search of the places from here on gives from the champion so far is what the search of the node gives from the first one
 abbrev pub invariant-places : goal.invariant-places
 invariant-places l = record {
-  goes_on : GoesOn l.question l.summed l.initial.champion l.left l.champion;
+  goes_on : GoesOn l.question l.summed l.initial.leaders l.left l.leaders;
   fewer : l.left ≤ l.word;
 }
 

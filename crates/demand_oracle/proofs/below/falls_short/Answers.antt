@@ -8,6 +8,8 @@ use Rattle.demand_oracle.specs.Questions.{offer_asked, aim_of}
 use Rattle.demand_oracle.specs.SummedNodes.{chosen_of, with_place_of}
 use Rattle.demand_oracle.proofs.Columns.{column_with, hopes_with}
 use Rattle.demand_oracle.proofs.OpenPlaces.{next_open, pruned_at_next}
+use Rattle.demand_oracle.specs.Champions.{kept_of, nodes_of}
+use Rattle.demand_oracle.proofs.Inserting.{led_prunes}
 use Rattle.demand_oracle.proofs.Pruning.{less_prunes}
 use Rattle.demand_oracle.proofs.below.falls_short.Goals as goal
 
@@ -37,7 +39,7 @@ returns c yes_ =
     let summed = c.args.summed.now in
     let place : ℕ = c.args.place in
     let chosen = with_place_of menu summed place in
-    let champion = chosen_of c.args.champion.now in
+    let champion = chosen_of c.args.leaders.now.champion in
     let next : ℕ = trailing_zeros w64 c.args.apart in
     let goods = c.requires.question.goods in
     let is_column =
@@ -51,7 +53,9 @@ returns c yes_ =
     let test = c.is_below-2.ensures.0 yes_ in
     let below : c.added-added.result <ℤ (pos 1000000 *ℤ c.lacking-2.result) = omega (arith, ints, test) in
     pruned_at_next offer c.requires.question.menu (aim_of question) (place + 1) chosen c.requires.node c.args.apart (search rules) (omega arith)
-    c.requires.word champion
+    c.requires.word (kept_of c.args.leaders.now)
+    (led_prunes offer (aim_of question) next chosen (nodes_of c.args.leaders.now.leading) c.args.leaders.now.champion c.args.leaders.now.most
+    (c.is_full.ensures.0 c.if-not-is_full.false)
     (less_prunes offer (aim_of question) next chosen champion c.added-added.result c.hoped_with-hoped.result c.utility_with-utility.result
     c.utility-2.result c.lacking-2.result
     record {
@@ -63,7 +67,7 @@ returns c yes_ =
           ∙ hopes_with offer c.requires.question.menu summed c.requires.summed place c.requires.undecided c.requires.on_menu question.reach.now.hopes next
           c.requires.question.reach.hopes on node;
       u_is = c.utility_with-utility.ensures.value ∙ sym (utility_by_place menu chosen);
-      worth_is = c.utility-2.ensures menu offer.price c.requires.champion.sums;
+      worth_is = c.utility-2.ensures menu offer.price c.requires.leaders.champion.sums;
       lacks = omega (arith, ints, c.lacking-2.ensures.value);
       high = omega (arith, ints, c.lacking-2.ensures.high);
-    } below)
+    } below))

@@ -21,7 +21,7 @@ returns-then-word-place-eq0-clause-lost c champion is =
     let clear = sym (shr_and_one c.args.word place) ∙ c.if-word-place-eq0.true in
     lost_prunes offer c.requires.question.menu place on k chosen c.requires.node later (aim_of question)
     (λ bundle is_wanted. rw c.in-Some.is at is_wanted)
-    (shut_where_clear offer c.requires.question.menu k chosen c.requires.node c.args.word c.requires.word place later on clear) champion
+    (shut_where_clear offer k chosen c.args.word c.requires.word place later on clear) champion
 
 pub returns-else-word-place-eq0-clause-lost : goal.returns-else-word-place-eq0-clause-lost
 returns-else-word-place-eq0-clause-lost c champion is =

@@ -1,5 +1,4 @@
 use Rattle.std.proofs.Common.{ℕ, ◌≡◌, ◌<◌, length, slice_index}
-use Rattle.std.specs.Int.{bit_at}
 use Rattle.demand_oracle.specs.OpenWords.{IsWordOf, Clashes}
 use Rattle.demand_oracle.proofs.goods.clashes_of.Given as goal
 
@@ -7,5 +6,5 @@ use Rattle.demand_oracle.proofs.goods.clashes_of.Given as goal
 abbrev pub invariant-loop-place : goal.invariant-loop-place
 invariant-loop-place l = record {
   whole : length l.words ≡ 60;
-  filled : (p : ℕ) → p < l.place → bit_at l.alone p ≡ 1 → IsWordOf (Clashes l.offer.menu.now p) (length l.offer.menu.now.places) (slice_index l.words p);
+  filled : (p : ℕ) → p < l.place → IsWordOf (Clashes l.menu p) (length l.menu.places) (slice_index l.words p);
 }

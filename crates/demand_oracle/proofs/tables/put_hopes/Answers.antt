@@ -18,8 +18,8 @@ loop-place-init c = record {
       (holds_last offer c.args.hopes.now (replicate 60 0) (omega arith) (zero_row 60))));
 }
 
-pub add_hopes-requires : goal.add_hopes-requires
-add_hopes-requires c earlier low =
+pub add_hopes-requires-clause-hopes : goal.add_hopes-requires-clause-hopes
+add_hopes-requires-clause-hopes c earlier low =
     let offer = data_of c.args.offer.now in
     let k : ℕ = c.loop-place.place - 1 in
     let few : length c.args.offer.now.menu.now.places ≤ 60 = c.len-count.ensures.menu.places.few in

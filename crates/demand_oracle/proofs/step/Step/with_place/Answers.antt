@@ -6,7 +6,7 @@ use Rattle.bundle_rules.specs.Menus.{section_at, credits_at}
 use Rattle.bundle_rules.specs.Demand.{price_in}
 use Rattle.bundle_rules.specs.Existence.Places.{section_at-is, credits_at-is}
 use Rattle.demand_oracle.specs.SummedNodes.{chosen_of, with_place_of}
-use Rattle.demand_oracle.proofs.Growing.{ascending_next, places_next, paid_next, credits_next, next_summed}
+use Rattle.demand_oracle.proofs.Growing.{ascending_next, places_next, word_next, paid_next, credits_next, next_summed}
 use Rattle.demand_oracle.proofs.step.Step.with_place.Goals as goal
 
 pub overflow_add-result : goal.overflow_add-result
@@ -48,8 +48,9 @@ returns-clause-summed c =
     let low : neg_ℤ (pos (1700 * (n + 1))) ≤ℤ c.utility_with.result = c.utility_with.ensures.low in
     let high : c.utility_with.result ≤ℤ pos (1700 * (n + 1)) = c.utility_with.ensures.high in
     let kept : to_z w32 (of_z w32 c.utility_with.result) ≡ c.utility_with.result = omega (arith, ints) in
-    next_summed menu is price summed c.args.self.now.summed_is k later on c.with.result _ _ _ _ _ (c.with.ensures ∙ ap (λ s. chosen ++ s ∷ []) (sym section))
+    next_summed menu is price summed c.args.self.now.summed_is k later on c.with.result _ _ _ _ _ _ (c.with.ensures ∙ ap (λ s. chosen ++ s ∷ []) (sym section))
     (rw whole (places_next menu is price summed c.args.self.now.summed_is k later on (omega arith)))
+    (word_next menu is price summed c.args.self.now.summed_is k later on)
     (ap (λ p. summed.paid + p) c.price_of_place.ensures.value ∙ sym (paid_next menu is price summed c.args.self.now.summed_is k later on))
     (ap (λ p. summed.credits + p) credits ∙ sym (credits_next menu is price summed c.args.self.now.summed_is k later on))
     (kept ∙ c.utility_with.ensures.value)

@@ -2,7 +2,7 @@ use Rattle.std.proofs.Common.{ap, sym, ◌∙◌}
 use Rattle.market_units.specs.Members.{has}
 use Rattle.bundle_rules.specs.Bundles.{sections_of}
 use Rattle.bundle_rules.specs.Existence.Places.{section_at-is}
-use Rattle.demand_oracle.proofs.below.is_wanted.Goals as goal
+use Rattle.demand_oracle.proofs.keeping.is_wanted.Goals as goal
 
 pub returns-in-Some : goal.returns-in-Some
 returns-in-Some c =
