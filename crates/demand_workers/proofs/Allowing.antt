@@ -1,5 +1,5 @@
 -- How many students were asked, and how many may be.
-use Rattle.std.proofs.Common.{ℕ, ◌≡◌, ◌<◌, ◌≤◌, ◌+◌, ◌-◌, ◌*◌, ◌^◌, List, [], ◌∷◌, ◌++◌, length, min, ap, subst, arith, inl, inr}
+use Rattle.std.proofs.Common.{ℕ, ◌≡◌, ◌<◌, ◌≤◌, ◌+◌, ◌-◌, ◌*◌, ◌^◌, List, [], ◌∷◌, ◌++◌, length, ap, subst, arith, inl, inr}
 use Rattle.std.proofs.lemmas.Bool.{cases_lt}
 use Rattle.std.proofs.lemmas.List.{length-append}
 use Rattle.std.proofs.lemmas.Nat.{mul-le}
@@ -23,14 +23,8 @@ pub spent_within : (first more left left_then before now : ℕ) → HasSpent fir
 spent_within first more left left_then before now one within = record { kept = one.kept; paid = omega arith; less = one.less }
 
 -- one student more, of those who may be asked
-pub spent_one : (left left_first before now after : ℕ) → HasSpent 0 left left_first before now → 1 ≤ left_first → RoseAtMost 1 now after
-    → HasSpent 0 left (left_first - 1) before after
-spent_one left left_first before now after one some other = record { kept = omega arith; paid = omega arith; less = omega arith }
-
--- as many as a rehearsal has tasks
-pub spent_ahead : (tasks asked left before now : ℕ) → asked ≡ tasks → tasks ≤ left → now ≡ min (before + asked) (2 ^ 64 - 1)
-    → HasSpent 0 left (left - asked) before now
-spent_ahead tasks asked left before now same within is = record { kept = omega arith; paid = omega arith; less = omega arith }
+pub spent_one : (left before after : ℕ) → 1 ≤ left → RoseAtMost 1 before after → HasSpent 0 left (left - 1) before after
+spent_one left before after some one = record { kept = one.kept; paid = omega arith; less = omega arith }
 
 -- a walk that has a share of those who may be asked, and gives back what is left of it
 pub spent_share : (cost left share share_then before now : ℕ) → share ≤ left → HasSpent cost share share_then before now

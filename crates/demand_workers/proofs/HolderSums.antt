@@ -60,6 +60,15 @@ length_listed n (h ∷ hs) all =
     let split = total_split (λ i. listed i (h ∷ hs)) (one_at h.1) (λ i. listed i hs) (places_from 0 n) (λ i. listed-cons i h hs) in
     omega arith
 
+-- of numbers of which each is at most 1, the sum is at most how many they are
+total_few : (f : ℕ → ℕ) (first n : ℕ) → ((i : ℕ) → f i ≤ 1) → total f (places_from first n) ≤ n
+total_few f first zero few = omega arith
+total_few f first (suc n) few = omega (arith, few first, total_few f (suc first) n few)
+
+-- the holders are at most as many as the students, where each is listed once
+pub few_holders : (n : ℕ) (hs : List (ℕ × ℕ)) → All (λ (h : ℕ × ℕ). h.1 < n) hs → ((i : ℕ) → listed i hs ≤ 1) → length hs ≤ n
+few_holders n hs within once = omega (arith, length_listed n hs within, total_few (λ i. listed i hs) 0 n once)
+
 -- who does not take the section is not listed, where all listed ones take it
 not_listed : (t : ℕ → Bool) (hs : List (ℕ × ℕ)) (i : ℕ) → All (λ (h : ℕ × ℕ). t h.1 ≡ true) hs → t i ≡ false → listed i hs ≡ 0
 not_listed t [] i all lacks = refl

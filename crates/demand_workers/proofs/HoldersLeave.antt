@@ -1,5 +1,5 @@
 -- Holders of a section whose price rises.
-use Rattle.std.proofs.Common.{ℕ, zero, suc, true, false, ◌≡◌, ◌≢◌, ◌<◌, ◌≤◌, ◌+◌, ◌-◌, ◌==◌, ◌∙◌, List, [], ◌∷◌, ◌++◌, All, Vec, Global, length, take, min, slice_index_or, slice_set, refl, ap, sym, subst, arith, inl, inr}
+use Rattle.std.proofs.Common.{ℕ, Bool, zero, suc, true, false, ◌≡◌, ◌≢◌, ◌<◌, ◌≤◌, ◌+◌, ◌-◌, ◌==◌, ◌∙◌, List, [], ◌∷◌, ◌++◌, All, Vec, Global, length, take, min, slice_index_or, slice_set, refl, ap, sym, subst, arith, inl, inr}
 use Rattle.std.specs.Prelude.{map, slice_index, if◌then◌else◌}
 use Rattle.std.specs.List.{sum_by}
 use Rattle.std.specs.List.Sorted.{IsPermutation}
@@ -390,6 +390,42 @@ met_all crowd price s n sections hs up told are = record {
   later = λ i past. are.later i (omega arith);
 }
 
+-- the next student's bundle lacks the section
+pub met_lacking : (crowd : CrowdData) (price : ℕ → ℕ) (s n : ℕ) (hs : List (ℕ × ℕ)) → has (demand_of crowd price n) s ≡ false → AreMet crowd price s n 0 hs
+    → AreMet crowd price s (n + 1) 0 hs
+met_lacking crowd price s n hs lacks are = record {
+  students = are.students;
+  keep = are.keep;
+  before = λ i low. elim (cases_order i n) [
+    | inl same ↦ rw same (are.next ∙ sym (ap (λ (b : Bool). if b then 1 else 0) lacks))
+    | inr (inl less) ↦ are.before i less
+    | inr (inr more) ↦ absurd (omega arith)
+  ];
+  next = are.later (n + 1) (omega arith);
+  later = λ i past. are.later i (omega arith);
+}
+
+-- the next student's bundle has the section
+pub met_holding : (crowd : CrowdData) (price : ℕ → ℕ) (s n : ℕ) (hs new : List (ℕ × ℕ)) (holder : ℕ × ℕ) → has (demand_of crowd price n) s ≡ true
+    → new ≡ hs ++ holder ∷ [] → holder.1 ≡ n → n < length crowd.students → Keeps crowd price s (price s) holder → AreMet crowd price s n 0 hs
+    → AreMet crowd price s (n + 1) 0 new
+met_holding crowd price s n hs new holder holds pushed own within keeps are =
+    subst (AreMet crowd price s (n + 1) 0) (sym pushed)
+    record {
+      students = met.students;
+      keep = met.keep;
+      before = λ i low. elim (cases_order i n) [
+        | inl same ↦ rw same (met.next ∙ sym (ap (λ (b : Bool). if b then 1 else 0) holds))
+        | inr (inl less) ↦ met.before i less
+        | inr (inr more) ↦ absurd (omega arith)
+      ];
+      next = met.later (n + 1) (omega arith);
+      later = λ i past. met.later i (omega arith);
+    }
+  where
+    met : AreMet crowd price s n 1 (hs ++ holder ∷ [])
+    met = met_again crowd price s n 0 hs holder own within keeps are
+
 -- all students were looked at
 pub met_left : (crowd : CrowdData) (price : ℕ → ℕ) (s n : ℕ) (hs : List (ℕ × ℕ)) → n ≡ length crowd.students → AreMet crowd price s n 0 hs
     → AreLeft crowd price s (price s) hs
@@ -410,17 +446,15 @@ met_left crowd price s n hs all are = record {
   ];
 }
 
--- the list at the place of a pair, where the same is remembered
-pub listed_at : (known remembered : Remembered) (pairs : List (SectionNo × ℕ)) (lists : List (Vec (ℕ × ℕ) Global)) (k i : ℕ) (none : SectionNo × ℕ)
-    (list : Vec (ℕ × ℕ) Global) (hs : List (ℕ × ℕ)) → AreListed (crowd_of known) (price_before known) pairs lists → known ≡ remembered → k < length pairs
-    → i ≡ (slice_index_or pairs k none).0.0 → list ≡ slice_index_or lists i list → hs ≡ list.items
-    → AreLeft (crowd_of remembered) (price_before remembered) (slice_index_or pairs k none).0.0
-    (price_before remembered (slice_index_or pairs k none).0.0) hs
-listed_at known remembered pairs lists k i none list hs listed same low at is items =
-    let s : ℕ = (slice_index_or pairs k none).0.0 in
+-- the list at the place of a section, where the same is remembered
+pub listed_at : (known remembered : Remembered) (lists : List (Vec (ℕ × ℕ) Global)) (s i : ℕ) (list : Vec (ℕ × ℕ) Global) (hs : List (ℕ × ℕ))
+    → AreListed (crowd_of known) (price_before known) lists → known ≡ remembered → i < length lists → i ≡ s → list ≡ slice_index_or lists i list
+    → hs ≡ list.items → AreLeft (crowd_of remembered) (price_before remembered) s (price_before remembered s) hs
+listed_at known remembered lists s i list hs listed same low at is items =
     subst (λ (r : Remembered). AreLeft (crowd_of r) (price_before r) s (price_before r s) hs) same
     (subst (AreLeft (crowd_of known) (price_before known) s (price_before known s))
-    (sym (items ∙ ap (λ (l : Vec (ℕ × ℕ) Global). l.items) (is ∙ ap (λ (j : ℕ). slice_index_or lists j list) at))) (listed k none low list))
+    (sym (items ∙ ap (λ (l : Vec (ℕ × ℕ) Global). l.items) (is ∙ ap (λ (j : ℕ). slice_index_or lists j list) at)))
+    (listed s list (subst (λ (n : ℕ). n < length lists) at low)))
 
 -- the same holders in another order
 pub left_moved : (crowd : CrowdData) (price : ℕ → ℕ) (s level : ℕ) (hs new : List (ℕ × ℕ)) → IsPermutation hs new → AreLeft crowd price s level hs

@@ -12,4 +12,4 @@ pub mod Working
 pub mod Noting
 pub mod Listing
 pub mod LeadingOthers
-pub mod Telling
+pub mod Raising

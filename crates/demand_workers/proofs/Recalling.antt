@@ -65,7 +65,7 @@ kept_bundle crowd before after i bundle no_cheaper affordable told =
     among (x ∷ xs) (suc k) none paid = among xs k none paid
 
 -- a menu that stands for one that is not there
-nobody : MenuData
+pub nobody : MenuData
 nobody = record { places = []; pairs = []; clashes = []; credits = 0; courses = 0 }
 
 -- the budget of a student is the one at its place

@@ -3,7 +3,6 @@ use Rattle.std.specs.Prelude.{ℕ, ◌<◌, ◌≤◌, ◌≡◌, ◌-◌, ◌==
 use Rattle.std.proofs.Common.{Vec, Global}
 use Rattle.std.specs.List.{sum_by}
 use Rattle.market_units.specs.declared.limits.TheConstants.{MAX_PRICE}
-use Rattle.market_units.specs.declared.units.SectionNo.{SectionNo}
 use Rattle.market_units.specs.Members.{has}
 use Rattle.demand_api.specs.Crowds.{CrowdData, top, demand_of}
 use Rattle.demand_api.specs.Prices.{with_price}
@@ -39,12 +38,9 @@ pub record AreLeft (crowd : CrowdData) (price : ℕ → ℕ) (s level : ℕ)
   pub keep : All (Keeps crowd price s level) holders
   pub others : (student : ℕ) → takes crowd price s level student ≡ true → 1 ≤ listed student holders
 
--- at its place is a list for the section of each of these pairs: of all who take the section, and
--- perhaps of some who would take it for a token less
-abbrev pub AreListed : CrowdData → (ℕ → ℕ) → List (SectionNo × ℕ)
-    → List (Vec (ℕ × ℕ) Global) → Type 0
-AreListed crowd price pairs lists =
-    All
-    (λ pair. (d : _) → AreLeft crowd price pair.0.0 (price pair.0.0)
-    (slice_index_or lists pair.0.0 d).items)
-    pairs
+-- at the place of each section is a list of all who take it, and perhaps of some who would take it
+-- for a token less
+abbrev pub AreListed : CrowdData → (ℕ → ℕ) → List (Vec (ℕ × ℕ) Global) → Type 0
+AreListed crowd price lists =
+    (s : ℕ) (d : _) → s < length lists
+    → AreLeft crowd price s (price s) (slice_index_or lists s d).items

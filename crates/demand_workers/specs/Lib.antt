@@ -4,7 +4,6 @@ pub mod Asked
 pub mod Foreseen
 pub mod Found
 pub mod Inquiring
-pub mod Lasting
 pub mod Leaving
 pub mod Notes
 pub mod Remembered
@@ -12,4 +11,3 @@ pub mod Rounds
 pub mod Surveyed
 pub mod Surveys
 pub mod Views
-pub mod Walks

@@ -20,18 +20,6 @@ pub(crate) fn walks_for(crowd: &Crowd, pairs: usize) -> u64
     (pairs as u64 * (digits + 1) - 2) * students
 }
 
-/// How many tasks a rehearsal has where a crowd has so many students, and so many may be asked:
-/// four for each student, but no more than the most students of a crowd, because the board reserves
-/// some 300 bytes for each step that it may take; and no more than half of those who may be asked,
-/// so that a rehearsal alone never brings halving.
-pub(crate) fn tasks_for(students: usize, left: u64) -> u32
-    ensures { result ≤ left }
-{
-    let most = usize::from(MAX_STUDENTS);
-    let tasks = (students.min(most) * 4).min(most) as u32;
-    u64::from(tasks).min(left / 2) as u32
-}
-
 // How many binary digits the number has.
 fn digits_of(number: u32) -> u32
     requires { 1 ≤ number }

@@ -1,5 +1,5 @@
 // Where the sections stand that became cheaper.
-ghost use Rattle.std.specs.Prelude.{◌≡◌, ◌<◌, ◌≤◌, ◌↔◌, ◌+◌, All, IfSome, IsTrue, length};
+ghost use Rattle.std.specs.Prelude.{◌≡◌, ◌<◌, ◌≤◌, ◌↔◌, ◌+◌, ℕ, All, IfSome, IsTrue, length};
 ghost use Rattle.bundle_rules.specs.Demand.{price_in};
 ghost use Rattle.demand_workers.specs.Remembered.{FellWithin, NoneIsCheaper};
 
@@ -22,6 +22,14 @@ impl Cheaper {
             first: 0,
             past: before.len(),
         }
+    }
+
+    /// No section became cheaper.
+    pub(crate) fn nowhere(_before: &[Tokens], _after: &[Tokens]) -> Cheaper
+        requires { (s : ℕ) → price_in _before.now s ≤ price_in _after.now s }
+        ensures { FellWithin result.first result.past _before.now _after.now }
+    {
+        Cheaper { first: 0, past: 0 }
     }
 
     /// From the first section that became cheaper to the last. Where none did, there is none

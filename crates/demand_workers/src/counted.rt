@@ -6,18 +6,13 @@ ghost use Rattle.bundle_rules.specs.Demand.{price_in};
 ghost use Rattle.demand_api.specs.Asking.{ArePricesFor, RoseAtMost, RoseBy};
 ghost use Rattle.demand_api.specs.{Crowds.count, Views.data_of};
 ghost use Rattle.price_board.specs.{Openings.IsAskOf, declared.terms.Terms.Terms};
-ghost use Rattle.demand_workers.specs.Views.{crowd_of};
 
 mod asking;
 mod round;
-mod walking;
 
 use crate::PooledDemands;
 use crate::found::Found;
-use crate::ground::Ground;
 use crate::inquiry::Inquiries;
-use crate::remembered::Remembered;
-use crate::walk_tasks::WalkTasks;
 use crate::worker::Lent;
 use asking::ask;
 use market_edge::AnyGate;
@@ -27,7 +22,6 @@ use round::work_and_close;
 use std::alloc::Global;
 use std::sync::{Arc, Wait};
 use std::thread::Threads;
-use walking::rehearse_by_all;
 
 impl PooledDemands<AnyGate<'_>> {
     /// What all workers find on a board where each student is a task, at these prices alone. All
@@ -92,28 +86,6 @@ impl PooledDemands<AnyGate<'_>> {
         let found = ask(rt, alloc, &self.pool, self.gate, inquiries)?;
         self.inquiries = self.inquiries.saturating_add(found.bundles.len() as u64);
         Ok(found)
-    }
-
-    /// What is told of students who are asked ahead, by several workers, over so many tasks. Each
-    /// task counts as one student that was asked, before the first worker starts, because who is
-    /// asked late is in no answer.
-    pub(crate) fn ask_ahead<R: Threads + Wait + Sync>(
-        &mut self,
-        rt: &R,
-        alloc: Global,
-        remembered: &Arc<Remembered>,
-        ground: &Ground,
-        tasks: u32,
-    ) -> Result<task_board::Answers<WalkTasks>, NoMemory>
-        requires { ground.now.remembered.now ≡ arc_value remembered.now }
-        ensures kept { (self.new.crowd ≡ self.old.crowd) × (self.new.asked ≡ self.old.asked) }
-        ensures counted { RoseBy tasks self.old.inquiries self.new.inquiries }
-        ensures tasks { IfOk result (λ answers. answers.terms.count ≡ tasks) }
-        ensures crowd { IfOk result
-            (λ answers. answers.terms.crowd ≡ crowd_of (arc_value remembered.now)) }
-    {
-        self.inquiries = self.inquiries.saturating_add(u64::from(tasks));
-        rehearse_by_all(rt, alloc, &self.pool, self.gate, remembered, ground, tasks)
     }
 
     /// Whether more than `limit` students take the section at these prices.

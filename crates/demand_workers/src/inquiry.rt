@@ -1,5 +1,5 @@
 // What is asked of single students.
-ghost use Rattle.std.specs.Prelude.{◌≡◌, All, IfOk, length};
+ghost use Rattle.std.specs.Prelude.{◌≡◌, ◌≤◌, All, IfOk, length};
 ghost use Rattle.std.specs.Arc.{arc_value};
 ghost use Rattle.demand_workers.specs.{Inquiring.IsInquiry, Views.crowd_of};
 ghost use Rattle.demand_workers.specs.Rounds.{AreVersionsFor, prices_of};
@@ -25,8 +25,12 @@ pub struct Inquiries {
     pub remembered: Arc<Remembered>,
     pub versions: Vec<Vec<Tokens>>,
     pub list: Vec<Inquiry>,
+    /// How many best bundles a worker that is alone notes of a student that is asked at a raised
+    /// price, 1 to 8.
+    pub kept: usize,
     pub ghost priced: { AreVersionsFor (crowd_of (arc_value remembered)) versions.items },
     pub ghost asked: { All (IsInquiry (crowd_of (arc_value remembered)) (length versions.items)) list.items },
+    pub ghost some: { (1 ≤ kept) × (kept ≤ 8) },
 }
 
 /// Copies of these vectors of prices. The only error is that memory was not given.

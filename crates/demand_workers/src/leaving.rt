@@ -1,11 +1,11 @@
 // Holders of a section, by the prices at which they leave it.
-ghost use Rattle.std.specs.Prelude.{◌≡◌, ◌<◌, ◌≤◌, ◌-◌, All, IfOk, length, true};
+ghost use Rattle.std.specs.Prelude.{◌≡◌, ◌<◌, ◌≤◌, ◌-◌, IfOk, length, true};
 ghost use Rattle.std.specs.Arc.{arc_value};
 ghost use Rattle.bundle_rules.specs.{Bundles.sections_of, Demand.price_in};
 ghost use Rattle.market_units.specs.Members.{has};
 ghost use Rattle.demand_api.specs.Crowds.{top};
 ghost use Rattle.demand_workers.specs.Answering.{answer_to};
-ghost use Rattle.demand_workers.specs.Leaving.{leaves, takes, AreListed};
+ghost use Rattle.demand_workers.specs.Leaving.{leaves, takes, AreLeft, AreListed};
 ghost use Rattle.demand_workers.specs.Views.{crowd_of, price_before};
 
 use crate::question::Question;
@@ -31,20 +31,45 @@ pub(crate) struct WalkEnd {
 // greatest pair leaves first.
 pub(crate) type Holder = (u32, u16);
 
-/// Lists of holders at the remembered prices, by the ordinal of the section. All who hold a section
-/// of these pairs are listed; of one pair alone no other section has a list. The only error is that
-/// memory was not given.
+/// The holders of a section at the remembered prices: all who hold it. The only error is that memory
+/// was not given.
 pub(crate) fn holders_of(
     alloc: Global,
     remembered: &Remembered,
-    pairs: &[(SectionNo, u32)],
+    section: SectionNo,
+) -> Result<Vec<Holder>, NoMemory>
+    requires { section.0 < (arc_value remembered.now.crowd).sections }
+    ensures { IfOk result
+        (λ holders. AreLeft (crowd_of remembered.now) (price_before remembered.now) section.0
+        (price_before remembered.now section.0) holders.items) }
+{
+    let mut holders = Vec::new(alloc);
+    for place in 0..remembered.bundles.len() {
+        let bundle = &remembered.bundles[place];
+        if !bundle.has(section) {
+            continue;
+        }
+        let question = Question {
+            remembered,
+            prices: &remembered.prices,
+            student: StudentNo(place as u16),
+        };
+        let holder = holder_of(&question, section, bundle);
+        holders.push(holder)?;
+    }
+    Ok(holders)
+}
+
+/// The same of all sections, found in one pass over the students: a list for each, by its ordinal.
+/// The only error is that memory was not given.
+pub(crate) fn holders_by_section(
+    alloc: Global,
+    remembered: &Remembered,
 ) -> Result<Vec<Vec<Holder>>, NoMemory>
-    requires { All (λ pair. pair.0.0 < (arc_value remembered.now.crowd).sections) pairs.now }
     ensures len { IfOk result
         (λ lists. length lists.items ≡ (arc_value remembered.now.crowd).sections) }
     ensures left { IfOk result
-        (λ lists. AreListed (crowd_of remembered.now) (price_before remembered.now) pairs.now
-        lists.items) }
+        (λ lists. AreListed (crowd_of remembered.now) (price_before remembered.now) lists.items) }
 {
     let mut lists = Vec::new(alloc);
     'sections: for _ in 0..remembered.prices.len() {
@@ -60,9 +85,6 @@ pub(crate) fn holders_of(
         let sections = bundle.sections();
         for index in 0..sections.len() {
             let section = sections[index];
-            if pairs.len() == 1 && pairs[0].0.0 != section.0 {
-                continue;
-            }
             let holder = holder_of(&question, section, bundle);
             let list = &mut lists[usize::from(section.0)];
             list.push(holder)?;

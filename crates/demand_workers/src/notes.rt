@@ -1,142 +1,82 @@
 // What is noted of students who were asked at raised prices, and what of it serves at others.
-ghost use Rattle.std.specs.Prelude.{◌≡◌, ◌<◌, ◌≤◌, ◌↔◌, ℕ, [], ◌∷◌, All, IfOk, IfSome, IsTrue, None, length, true};
+ghost use Rattle.std.specs.Prelude.{◌≡◌, ◌<◌, ◌≤◌, ℕ, [], ◌∷◌, All, IfOk, IfSome, IsTrue, length};
 ghost use Rattle.std.specs.Arc.{arc_value};
 ghost use Rattle.bundle_rules.specs.{Bundles.sections_of, Demand.price_in};
 ghost use Rattle.demand_workers.specs.Answering.{answer_to};
-ghost use Rattle.demand_workers.specs.Notes.{AreKept, IsNoted, price_among};
+ghost use Rattle.demand_workers.specs.Notes.{AreNoted, IsNoted, price_among};
 ghost use Rattle.demand_workers.specs.Inquiring.{IsInquiry, taken_at};
-ghost use Rattle.demand_workers.specs.{Rounds.prices_of, Views.crowd_of, Walks.is_right_note};
+ghost use Rattle.demand_workers.specs.Views.{crowd_of};
 
-use crate::found::Found;
-use crate::inquiry::{Inquiries, Inquiry};
-use crate::note::{Kept, Note, Told};
+use crate::inquiry::Inquiry;
+use crate::note::Note;
 use crate::question::Question;
 use crate::remembered::Remembered;
 use crate::trial::{ROOM, raised_question};
-use crate::walk_tasks::WalkTasks;
-use bundle_rules::{Bundle, Rated, price_of};
+use bundle_rules::{Bundle, Rated};
 use market_units::{NoMemory, Tokens};
 use std::alloc::Global;
 use std::sync::Arc;
-use task_board::{Answers, Tasks};
 
 // No place in a list.
 const NOWHERE: usize = usize::MAX;
 
-// How many of a student's notes are looked at. A rehearsal ran ahead of the caller, which needs the
-// earliest of its notes first.
-const LOOKS: usize = 256;
-
-// A call begins with fewer notes of earlier calls than this, or with none. Where there are so many
-// they are forgotten before one is added.
-const MOST: usize = 16_000;
-
-/// What is remembered of a crowd, and notes of its students, which hold whatever is remembered.
-/// Those of one student are found from the latest to the earliest, without a look at the others.
+/// What is remembered of a crowd, and notes of its students, which hold whatever is remembered: of
+/// each student the latest at most.
 #[derive(Drop)]
 pub(crate) struct Notes {
     pub remembered: Arc<Remembered>,
-    list: Vec<Kept>,
-    // The place of each student's latest note.
-    latest: Vec<usize>,
-    pub ghost noted: { AreKept (crowd_of (arc_value remembered)) list.items },
+    /// How many best bundles are noted of a student that is asked, 1 to 8. A search for more takes
+    /// longer, and where prices fall they bring nothing.
+    pub kept: usize,
+    list: Vec<Note>,
+    // The place of each student's note.
+    places: Vec<usize>,
+    pub ghost noted: { AreNoted (crowd_of (arc_value remembered)) list.items },
+    pub ghost some: { (1 ≤ kept) × (kept ≤ 8) },
 }
 
 impl Notes {
     /// What was noted earlier, with what is remembered now. It takes no memory.
-    pub(crate) fn at(alloc: Global, earlier: Option<Notes>, remembered: Arc<Remembered>) -> Notes
-        requires { IfSome earlier
+    pub(crate) fn at(
+        alloc: Global,
+        earlier: Option<Notes>,
+        remembered: Arc<Remembered>,
+        kept: usize,
+    ) -> Notes
+        requires crowd { IfSome earlier
             (λ notes. crowd_of (arc_value notes.remembered) ≡ crowd_of (arc_value remembered)) }
+        requires some { (1 ≤ kept) × (kept ≤ 8) }
         ensures { result.remembered ≡ remembered }
     {
         let Some(mut notes) = earlier else {
             return Notes {
                 remembered,
+                kept,
                 list: Vec::new(alloc),
-                latest: Vec::new(alloc),
+                places: Vec::new(alloc),
             };
         };
-        notes.follow(remembered);
+        notes.remembered = remembered;
+        notes.kept = kept;
         notes
     }
 
-    // Something else is remembered of the crowd.
-    fn follow(&mut self, remembered: Arc<Remembered>)
-        requires { crowd_of (arc_value self.old.remembered) ≡ crowd_of (arc_value remembered) }
-        ensures { self.new.remembered ≡ remembered }
-    {
-        self.make_room();
-        self.remembered = remembered;
-    }
-
-    // Where notes are many they are forgotten: a rehearsal notes anew.
-    fn make_room(&mut self)
-        ensures { self.new.remembered ≡ self.old.remembered }
-    {
-        if self.list.len() >= MOST {
-            self.forget();
-        }
-    }
-
-    /// Nothing is noted any more.
-    pub(crate) fn forget(&mut self)
-        ensures remembered { self.new.remembered ≡ self.old.remembered }
-        ensures list { self.new.list.items ≡ [] }
-    {
-        self.list.clear();
-        self.latest.clear();
-    }
-
-    /// Notes what was found for those inquiries at the remembered prices that have a raised price.
-    /// The only error is that memory was not given.
-    pub(crate) fn add_found(&mut self, found: &Found) -> Result<(), NoMemory>
-        requires remembered { arc_value (arc_value found.now.inquiries).remembered
-            ≡ arc_value self.old.remembered }
-        requires versions { prices_of (arc_value found.now.inquiries).versions.items
-            ≡ (arc_value self.old.remembered).prices.items ∷ [] }
-        ensures { IfOk result (λ done. self.new.remembered ≡ self.old.remembered) }
-    {
-        let inquiries: &Inquiries = &found.inquiries;
-        'inquiries: for place in 0..found.bundles.len() {
-            let inquiry = inquiries.list[place];
-            let Some(note) = raised_note(&self.remembered, inquiry, &found.bundles[place]) else {
-                continue;
-            };
-            self.add(note)?;
-        }
-        Ok(())
-    }
-
-    /// Notes what was told of students on walks from what is remembered. The only error is that
+    /// Notes what is told, in the place of what was noted of the student. The only error is that
     /// memory was not given.
-    pub(crate) fn add_told(&mut self, answers: &Answers<WalkTasks>) -> Result<(), NoMemory>
-        requires { answers.now.terms.crowd ≡ crowd_of (arc_value self.old.remembered) }
-        ensures { IfOk result (λ done. self.new.remembered ≡ self.old.remembered) }
-    {
-        'tasks: for task in 0..answers.tasks().count() {
-            let Some(Told::Noted(note)) = answers.answer(task) else {
-                continue;
-            };
-            self.add(note)?;
-        }
-        Ok(())
-    }
-
-    // Adds a note, which is then its student's latest.
-    fn add(&mut self, note: Note) -> Result<(), NoMemory>
-        requires { is_right_note (crowd_of (arc_value self.old.remembered)) note ≡ true }
+    pub(crate) fn add(&mut self, note: Note) -> Result<(), NoMemory>
+        requires { IsNoted (crowd_of (arc_value self.old.remembered)) note }
         ensures { self.new.remembered ≡ self.old.remembered }
     {
-        self.make_room();
         let student = usize::from(note.student.0);
-        let room = self.latest.len().max(student + 1);
-        self.latest.resize(room, NOWHERE)?;
-        let place = self.list.len();
-        self.list.push(Kept {
-            note,
-            earlier: self.latest[student],
-        })?;
-        self.latest[student] = place;
+        let room = self.places.len().max(student + 1);
+        self.places.resize(room, NOWHERE)?;
+        let place = self.places[student];
+        if place < self.list.len() {
+            self.list[place] = note;
+            return Ok(());
+        }
+        self.places[student] = self.list.len();
+        self.list.push(note)?;
         Ok(())
     }
 
@@ -156,59 +96,37 @@ impl Notes {
         self.told(&question)
     }
 
-    /// What is noted of the student lately, where it surely takes that at these prices.
+    /// What is noted of the student, where it surely takes that at these prices.
     pub(crate) fn told(&self, question: &Question) -> Option<Bundle>
-        requires { AreKept (crowd_of question.now.remembered.now) self.now.list.items }
+        requires { AreNoted (crowd_of question.now.remembered.now) self.now.list.items }
         ensures { IfSome result (λ bundle. sections_of bundle ≡ answer_to question.now) }
     {
-        let mut next = match self.latest.get(usize::from(question.student.0)) {
-            Some(latest) => *latest,
+        let place = match self.places.get(usize::from(question.student.0)) {
+            Some(place) => *place,
             None => NOWHERE,
         };
-        for _ in 0..LOOKS {
-            if next >= self.list.len() {
-                return None;
-            }
-            let kept = &self.list[next];
-            if serves(question, &kept.note) {
-                return Some(kept.note.bundle);
-            }
-            next = kept.earlier;
+        if place >= self.list.len() {
+            return None;
         }
-        None
+        served(question, &self.list[place])
     }
 }
 
-// A note of what the student of an inquiry takes at the remembered prices with the raised one.
-// `None` where none is raised.
-fn raised_note(remembered: &Remembered, inquiry: Inquiry, bundle: &Bundle) -> Option<Note>
-    requires inquiry { IsInquiry (crowd_of remembered.now) 1 inquiry }
-    requires taken { sections_of bundle.now
-        ≡ taken_at (crowd_of remembered.now) (remembered.now.prices.items ∷ []) inquiry }
-    ensures none { (result ≡ None) ↔ (inquiry.raised ≡ None) }
-    ensures right { IfSome result
-        (λ note. is_right_note (crowd_of remembered.now) note ≡ true) }
-{
-    let mut room = [Tokens(0); ROOM];
-    let Some(question) = raised_question(&mut room, remembered, inquiry) else {
-        return None;
-    };
-    Some(question.note(*bundle))
-}
-
-// Whether the student surely takes the bundle of the note: the note is of this student, no section
-// of the menu costs less than it did then, and the bundle is affordable.
-fn serves(question: &Question, note: &Note) -> bool
+// What the student surely takes by the note: where the note is of this student and no section of
+// the menu costs less than it did then, the first of the noted bundles that is affordable.
+fn served(question: &Question, note: &Note) -> Option<Bundle>
     requires { IsNoted (crowd_of question.now.remembered.now) note.now }
-    ensures { IsTrue result → sections_of note.now.bundle ≡ answer_to question.now }
+    ensures { IfSome result (λ bundle. sections_of bundle ≡ answer_to question.now) }
 {
     if note.student != question.student {
-        return false;
+        return None;
     }
-    if price_of(question.prices, note.bundle.sections()) > question.budget().0 {
-        return false;
+    let menu = question.menu();
+    if !cost_enough(menu.places(), &note.prices, question.prices) {
+        return None;
     }
-    cost_enough(question.menu().places(), &note.prices, question.prices)
+    note.best
+        .first_within(menu, question.prices, question.budget())
 }
 
 // Whether no section at these places costs less than among the noted prices.

@@ -23,6 +23,7 @@ use crate::taking::read_listed;
 use crate::unsettled::inquiries_at;
 use bundle_rules::Bundle;
 use demand_api::{Crowd, Demands};
+use demand_oracle::MOST_KEPT;
 use market_edge::{AnyGate, Gate};
 use market_units::{
     MAX_STUDENTS, MAX_VERSIONS, NoMemory, SectionNo, SectionSet, StudentNo, Tokens,
@@ -42,30 +43,24 @@ const MOST_AHEAD: usize = 2 * MAX_VERSIONS * MAX_STUDENTS as usize;
 /// student and version, which workers draw from a board, each in a thread of its own where one can
 /// be started, or the first worker alone, in the caller's thread, where the inquiries are few.
 /// Where nothing is remembered, and in `exceeds`, each student is a task of a price board. Workers
-/// pass the gate before their first draw and after each post. Where holders have to be asked on
-/// walks to least prices, several workers rehearse in one round what comes: these walks, or, where
-/// seats were told and an elimination begins with the one pair, that elimination. A task is whoever
-/// is next to leave. What is found is noted, and serves wherever no section of the student's menu
-/// costs less. Where a call asked as many as it may, the rest of a walk is found by halving. The
-/// one form of this type is `PooledDemands<AnyGate>`, which `make` gives.
+/// pass the gate before their first draw and after each post. On a walk to a least price the holder
+/// who leaves next is asked, alone. What is found is noted, and serves wherever no section of the
+/// student's menu costs less and a noted bundle is affordable. Where a call asked as many as it may,
+/// the rest of a walk is found by halving. The one form of this type is `PooledDemands<AnyGate>`,
+/// which `make` gives.
 #[derive(Drop)]
 pub struct PooledDemands<G> {
     pub(crate) crowd: Arc<Crowd>,
     pub(crate) pool: Pool,
     pub(crate) gate: G,
     asked: u64,
-    // At least how many students were asked: each inquiry of a round, each task of a rehearsal, and
-    // each student of a price board.
+    // At least how many students were asked: each inquiry of a round, and each student of a price
+    // board.
     pub(crate) inquiries: u64,
     pub(crate) remembered: Option<Arc<Remembered>>,
     notes: Option<Notes>,
     // The last survey that counts were asked of, or will be where they were foreseen.
     foreseen: Option<Foreseen>,
-    // How many seats each section has, where that was told, and there are several workers.
-    pub(crate) seats: Option<Vec<u16>>,
-    // The pairs of a call whose walks are rehearsed where somebody has to be asked; `None` where
-    // they were, and for one worker.
-    pub(crate) ahead: Option<Vec<(SectionNo, u32)>>,
     ghost same: { IfSome remembered (λ memory. crowd_of (arc_value memory) ≡ data_of (arc_value crowd)) } by { Prim.hlevel (props, codes, rated.the_row.coded) },
     ghost surveyed: { IfSome foreseen (λ foreseen. crowd_of (arc_value (arc_value foreseen.survey.found.inquiries).remembered) ≡ data_of (arc_value crowd)) } by { Prim.hlevel (props, codes, rated.the_row.coded) },
     ghost noted: { IfSome notes (λ noted. crowd_of (arc_value noted.remembered) ≡ data_of (arc_value crowd)) } by { Prim.hlevel (props, codes, rated.the_row.coded) },
@@ -93,27 +88,7 @@ impl<'g> PooledDemands<AnyGate<'g>> {
             remembered: None,
             notes: None,
             foreseen: None,
-            seats: None,
-            ahead: None,
         }
-    }
-
-    /// Tells how many seats each section has, so that several workers can ask ahead what an
-    /// elimination asks: this serves where prices are raised until no section has more students
-    /// than seats, each time for the section most over. Any seats are right. One worker asks
-    /// nothing ahead. The only error is that memory was not given.
-    pub fn tell_seats(&mut self, alloc: Global, seats: &[u16]) -> Result<(), NoMemory>
-        ensures crowd { ⟦<PooledDemands<AnyGate<'g>> as Demands>⟧.crowd self.new
-            ≡ ⟦<PooledDemands<AnyGate<'g>> as Demands>⟧.crowd self.old }
-        ensures asked { ⟦<PooledDemands<AnyGate<'g>> as Demands>⟧.asked self.new
-            ≡ ⟦<PooledDemands<AnyGate<'g>> as Demands>⟧.asked self.old }
-        ensures inquiries { ⟦<PooledDemands<AnyGate<'g>> as Demands>⟧.inquiries self.new
-            ≡ ⟦<PooledDemands<AnyGate<'g>> as Demands>⟧.inquiries self.old }
-    {
-        if self.pool.workers > 1 {
-            self.seats = Some(seats.to_vec(alloc)?);
-        }
-        Ok(())
     }
 
     // What each student takes at these prices, as it will be remembered.
@@ -277,20 +252,17 @@ impl<'g> PooledDemands<AnyGate<'g>> {
         Ok(memory)
     }
 
-    // What was noted earlier, with what is remembered now. One worker keeps no notes of earlier
-    // calls, since it asks nobody ahead.
-    fn notes_with(&mut self, alloc: Global, remembered: Arc<Remembered>) -> Notes
-        requires { crowd_of (arc_value remembered) ≡ data_of (arc_value self.old.crowd) }
+    // What was noted earlier, with what is remembered now; so many best bundles are noted of each
+    // student that is asked. While prices rise, a note serves call after call.
+    fn notes_with(&mut self, alloc: Global, remembered: Arc<Remembered>, kept: usize) -> Notes
+        requires crowd { crowd_of (arc_value remembered) ≡ data_of (arc_value self.old.crowd) }
+        requires some { (1 ≤ kept) × (kept ≤ 8) }
         ensures kept { (self.new.crowd ≡ self.old.crowd) × (self.new.asked ≡ self.old.asked) }
         ensures inquiries { self.new.inquiries ≡ self.old.inquiries }
         ensures remembered { result.remembered ≡ remembered }
     {
         let earlier = self.notes.take();
-        let mut notes = Notes::at(alloc, earlier, remembered);
-        if self.pool.workers == 1 {
-            notes.forget();
-        }
-        notes
+        Notes::at(alloc, earlier, remembered, kept)
     }
 
     // What is remembered; where nothing is, what each student takes at these prices, which then is
@@ -406,7 +378,8 @@ impl Demands for PooledDemands<AnyGate<'_>> {
             return Ok(Vec::new(alloc));
         }
         let remembered = self.recall(rt, alloc, prices)?;
-        let mut notes = self.notes_with(alloc, remembered);
+        let kept = if pairs.len() == 1 { MOST_KEPT } else { 1 };
+        let mut notes = self.notes_with(alloc, remembered, kept);
         let mut left = walks_for(&self.crowd, pairs.len());
         let [pair] = pairs else {
             let found = self.least_for_each(rt, alloc, &mut notes, pairs, &mut left)?;
@@ -414,11 +387,9 @@ impl Demands for PooledDemands<AnyGate<'_>> {
             return Ok(found);
         };
         // What is taken at the least price is remembered: who raises the price asks for it next.
-        self.ahead = self.pairs_ahead(alloc, pairs)?;
-        let lists = holders_of(alloc, &notes.remembered, pairs)?;
-        let list = &lists[usize::from(pair.0.0)];
-        let walk = self.least_price(rt, alloc, &mut notes, *pair, list, &mut left)?;
-        let memory = self.raised_memory(rt, alloc, &notes, &walk)?;
+        let holders = holders_of(alloc, &notes.remembered, pair.0)?;
+        let walk = self.least_price(rt, alloc, &mut notes, *pair, &holders, &mut left)?;
+        let memory = self.raised_memory(rt, alloc, &notes, &walk, &holders)?;
         let found = vec![in alloc; walk.least; 1]?;
         self.remembered = Some(Arc::new(alloc, memory)?);
         self.notes = Some(notes);

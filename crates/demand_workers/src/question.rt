@@ -8,6 +8,7 @@ use crate::cheaper::{Cheaper, spares};
 use crate::note::Note;
 use crate::remembered::Remembered;
 use bundle_rules::{Bundle, Menu, price_of};
+use demand_oracle::Best;
 use market_units::{MAX_RATINGS, StudentNo, Tokens};
 
 /// A student of a remembered crowd, and prices at which it is asked.
@@ -21,11 +22,11 @@ pub(crate) struct Question<'a> {
 }
 
 impl Question<'_> {
-    ghost use Rattle.std.specs.Prelude.{◌≡◌, IfSome, IsTrue, slice_index_or, true};
+    ghost use Rattle.std.specs.Prelude.{◌≡◌, IfSome, IsTrue, slice_index_or};
     ghost use Rattle.bundle_rules.specs.Bundles.{sections_of};
-    ghost use Rattle.demand_workers.specs.Answering.{answer_to, taken_before};
+    ghost use Rattle.demand_workers.specs.Answering.{answer_to, taken_before, IsListed};
     ghost use Rattle.demand_workers.specs.Remembered.{FellWithin};
-    ghost use Rattle.demand_workers.specs.Walks.{is_right_note};
+    ghost use Rattle.demand_workers.specs.Notes.{IsNoted};
 
     /// The student's menu.
     pub(crate) fn menu(&self) -> &Menu
@@ -52,12 +53,10 @@ impl Question<'_> {
         &self.remembered.bundles[usize::from(self.student.0)]
     }
 
-    /// A note that the student takes this bundle at these prices.
-    pub(crate) fn note(&self, bundle: Bundle) -> Note
-        requires { sections_of bundle ≡ answer_to self.now }
-        ensures student { result.student ≡ self.now.student }
-        ensures bundle { result.bundle ≡ bundle }
-        ensures right { is_right_note (crowd_of self.now.remembered.now) result ≡ true }
+    /// A note that these are the student's best bundles at these prices.
+    pub(crate) fn note(&self, best: Best) -> Note
+        requires { IsListed self.now best }
+        ensures { IsNoted (crowd_of self.now.remembered.now) result }
     {
         let places = self.menu().places();
         let mut prices = [Tokens(0); MAX_RATINGS];
@@ -66,9 +65,17 @@ impl Question<'_> {
         }
         Note {
             student: self.student,
-            bundle,
+            best,
             prices,
         }
+    }
+
+    /// What the student takes, of its best bundles at these prices.
+    pub(crate) fn first_of(&self, best: &Best) -> Bundle
+        requires { IsListed self.now best.now }
+        ensures { sections_of result ≡ answer_to self.now }
+    {
+        best.first()
     }
 
     /// What is remembered of the student, where the student surely takes the same at these prices;

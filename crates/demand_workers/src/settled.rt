@@ -5,6 +5,7 @@ ghost use Rattle.bundle_rules.specs.{Bundles.sections_of, Demand.price_in};
 ghost use Rattle.demand_api.specs.Crowds.{demand_of};
 ghost use Rattle.demand_workers.specs.Views.{crowd_of};
 
+use crate::cheaper::Cheaper;
 use crate::leaving::WalkEnd;
 use crate::notes::Notes;
 use crate::question::Question;
@@ -13,8 +14,8 @@ use bundle_rules::Bundle;
 use market_units::{StudentNo, Tokens};
 
 /// What the student takes at these prices: the remembered ones, with the section at the least price
-/// of the walk. Who does not hold the section takes what is remembered. Of a holder it is what is
-/// noted or kept; `None` where neither is known.
+/// of the walk. Who can still pay takes what is remembered, since no section became cheaper. Of
+/// another it is what is noted; `None` where nothing serves.
 pub(crate) fn settled(
     notes: &Notes,
     walk: &WalkEnd,
@@ -37,12 +38,8 @@ pub(crate) fn settled(
         prices,
         student,
     };
-    let earlier = question.earlier();
-    if !earlier.has(walk.section) {
-        return Some(*earlier);
+    if question.stays(Cheaper::nowhere(&remembered.prices, prices)) {
+        return Some(*question.earlier());
     }
-    if let Some(bundle) = notes.told(&question) {
-        return Some(bundle);
-    }
-    question.kept()
+    notes.told(&question)
 }

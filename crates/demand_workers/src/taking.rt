@@ -1,27 +1,20 @@
-// What students take: asked, from a bundle to begin with; and read from what is remembered.
-ghost use Rattle.std.specs.Prelude.{◌≡◌, ◌<◌, All, length, map};
+// What students take: asked, and read from what is remembered.
+ghost use Rattle.std.specs.Prelude.{◌≡◌, ◌<◌, ◌≤◌, All, length, map};
 ghost use Rattle.std.specs.Arc.{arc_value};
 ghost use Rattle.bundle_rules.specs.{Bundles.sections_of, Demand.price_in};
 ghost use Rattle.demand_api.specs.Crowds.{demand_of};
-ghost use Rattle.demand_workers.specs.Answering.{answer_to};
+ghost use Rattle.demand_workers.specs.Answering.{answer_to, IsListed};
 ghost use Rattle.demand_workers.specs.Views.{crowd_of, price_before};
 
 use crate::question::Question;
 use crate::remembered::Remembered;
 use bundle_rules::Bundle;
-use demand_oracle::{Workspace, demand_from};
+use demand_oracle::{Best, Workspace, best_few, demand_from};
 use market_units::{StudentNo, Tokens};
 
 /// What a student takes at these prices, of all sections, asked. The search begins with what is
 /// remembered of the student, which is often still nearly the best.
 pub(crate) fn asked_again(workspace: &mut Workspace, question: &Question) -> Bundle
-    ensures { sections_of result ≡ answer_to question.now }
-{
-    asked_from(workspace, question, question.earlier())
-}
-
-/// The same, where the search begins with this bundle. Any bundle is right.
-pub(crate) fn asked_from(workspace: &mut Workspace, question: &Question, first: &Bundle) -> Bundle
     ensures { sections_of result ≡ answer_to question.now }
 {
     demand_from(
@@ -30,7 +23,24 @@ pub(crate) fn asked_from(workspace: &mut Workspace, question: &Question, first: 
         question.prices,
         question.budget(),
         &question.remembered.allowed,
-        first,
+        question.earlier(),
+    )
+}
+
+/// The best bundles of a student at these prices, of all sections, so many at most. The search
+/// begins with what is remembered of the student.
+pub(crate) fn listed_again(workspace: &mut Workspace, question: &Question, most: usize) -> Best
+    requires { (1 ≤ most) × (most ≤ 8) }
+    ensures { IsListed question.now result }
+{
+    best_few(
+        workspace,
+        question.menu(),
+        question.prices,
+        question.budget(),
+        &question.remembered.allowed,
+        Some(question.earlier()),
+        most,
     )
 }
 

@@ -1,5 +1,5 @@
-// What rounds of inquiries and of walks are in contracts.
-ghost use Rattle.std.specs.Prelude.{List, ℕ};
+// What a round of inquiries is in contracts.
+ghost use Rattle.std.specs.Prelude.{List};
 ghost use Rattle.std.specs.Borrow.{ftrue};
 ghost use Rattle.std.specs.Coded.{codes};
 ghost use Rattle.bundle_rules.specs.contracts.menu.Rated as rated;
@@ -20,15 +20,5 @@ pub struct InquiryTerms {
 }
 
 impl Model for InquiryTerms {
-    ghost also_owns = { λ _. ftrue };
-}
-
-/// What no answer on walks changes: the crowd, and how many tasks there are. Contracts alone see it.
-pub struct WalkTerms {
-    pub ghost crowd: { CrowdData } by { Prim.hlevel (codes, rated.the_row.coded) },
-    pub ghost count: { ℕ },
-}
-
-impl Model for WalkTerms {
     ghost also_owns = { λ _. ftrue };
 }

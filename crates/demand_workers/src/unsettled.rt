@@ -53,6 +53,7 @@ pub(crate) fn inquiries_at<R: Threads + Sync>(
         remembered: Arc::try_clone(remembered)?,
         versions: copies_of(alloc, versions)?,
         list,
+        kept: 1,
     })
 }
 

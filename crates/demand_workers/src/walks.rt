@@ -1,6 +1,6 @@
-// Walks to least prices, by what is noted, rehearsed or asked.
+// Walks to least prices, by what is noted or asked.
 ghost use Rattle.std.specs.Prelude.{◌≡◌, ◌<◌, ◌≤◌, ◌*◌, ◌^◌, ℕ, [], ◌∷◌, All, IfOk};
-ghost use Rattle.std.specs.Prelude.{IfSome, length};
+ghost use Rattle.std.specs.Prelude.{IfSome, Some, length, slice_set};
 ghost use Rattle.std.specs.Arc.{arc_value};
 ghost use Rattle.bundle_rules.specs.Bundles.{sections_of};
 ghost use Rattle.demand_api.specs.{Asking.RoseAtMost, Crowds.count, Crowds.top, Views.data_of};
@@ -8,16 +8,15 @@ ghost use Rattle.demand_api.specs.Prices.{AreLeastPrices, IsLeastFrom, with_pric
 ghost use Rattle.demand_workers.specs.Allowances.{HasSpent};
 ghost use Rattle.demand_workers.specs.Inquiring.{IsInquiry, taken_at};
 ghost use Rattle.demand_workers.specs.Leaving.{AreLeft};
-ghost use Rattle.demand_workers.specs.{Rounds.prices_of, Views.crowd_of, Views.price_before};
+ghost use Rattle.demand_workers.specs.{Remembered.AreTaken, Rounds.prices_of};
+ghost use Rattle.demand_workers.specs.Surveys.{AreOthersKept};
+ghost use Rattle.demand_workers.specs.Views.{crowd_of, price_before};
 
 use crate::PooledDemands;
-use crate::allowance::tasks_for;
-use crate::ground::Ground;
 use crate::inquiry::{Inquiries, Inquiry};
-use crate::leaving::{Holder, WalkEnd, holder_of, holders_of};
+use crate::leaving::{Holder, WalkEnd, holder_of, holders_by_section};
 use crate::notes::Notes;
 use crate::question::Question;
-use crate::rehearsal::Rehearsal;
 use crate::remembered::Remembered;
 use crate::settled::settled;
 use crate::trial::{ROOM, raised_prices};
@@ -27,16 +26,18 @@ use market_edge::AnyGate;
 use market_units::{MAX_PRICE, NoMemory, SectionNo, StudentNo, Tokens};
 use std::alloc::Global;
 use std::collections::BinaryHeap;
-use std::sync::{Arc, Mutex, Wait};
+use std::sync::{Arc, Wait};
 use std::thread::Threads;
 
-// These inquiries at the remembered prices.
+// These inquiries at the remembered prices, of which so many best bundles are noted.
 fn at_remembered(
     alloc: Global,
     remembered: &Arc<Remembered>,
     list: Vec<Inquiry>,
+    kept: usize,
 ) -> Result<Inquiries, NoMemory>
-    requires { All (IsInquiry (crowd_of (arc_value remembered.now)) 1) list.items }
+    requires some { (1 ≤ kept) × (kept ≤ 8) }
+    requires inquiries { All (IsInquiry (crowd_of (arc_value remembered.now)) 1) list.items }
     ensures remembered { IfOk result
         (λ inquiries. arc_value inquiries.remembered ≡ arc_value remembered.now) }
     ensures versions { IfOk result
@@ -51,6 +52,7 @@ fn at_remembered(
         remembered: Arc::try_clone(remembered)?,
         versions,
         list,
+        kept,
     })
 }
 
@@ -84,12 +86,11 @@ impl PooledDemands<AnyGate<'_>> {
             (λ found. AreLeastPrices (crowd_of (arc_value notes.old.remembered))
             (price_before (arc_value notes.old.remembered)) pairs.now found.items) }
     {
-        let lists = holders_of(alloc, &notes.remembered, pairs)?;
+        let lists = holders_by_section(alloc, &notes.remembered)?;
         let mut found = Vec::new(alloc);
         for place in 0..pairs.len() {
             let pair = pairs[place];
             let list = &lists[usize::from(pair.0.0)];
-            self.ahead = self.pairs_ahead(alloc, &pairs[place..])?;
             let mut share = *left / (pairs.len() - place) as u64;
             *left -= share;
             let walk = self.least_price(rt, alloc, notes, pair, list, &mut share)?;
@@ -99,62 +100,11 @@ impl PooledDemands<AnyGate<'_>> {
         Ok(found)
     }
 
-    /// The pairs whose walks are rehearsed where somebody has to be asked on the first of them.
-    /// `None` for one worker, which asks nobody ahead. The only error is that memory was not given.
-    pub(crate) fn pairs_ahead(
-        &self,
-        alloc: Global,
-        pairs: &[(SectionNo, u32)],
-    ) -> Result<Option<Vec<(SectionNo, u32)>>, NoMemory> {
-        if self.pool.workers == 1 {
-            return Ok(None);
-        }
-        Ok(Some(pairs.to_vec(alloc)?))
-    }
-
-    // Asks ahead, by several workers, what will be asked on the walks of these pairs, or in the
-    // elimination that begins with the one pair, from what is remembered. So no thread has to be
-    // started meanwhile. What is found is noted, and what was noted is forgotten.
-    fn rehearse<R: Threads + Wait + Sync>(
-        &mut self,
-        rt: &R,
-        alloc: Global,
-        notes: &mut Notes,
-        pairs: Vec<(SectionNo, u32)>,
-        left: &mut u64,
-    ) -> Result<(), NoMemory>
-        ensures kept { (self.new.crowd ≡ self.old.crowd) × (self.new.asked ≡ self.old.asked) }
-        ensures inquiries { HasSpent 0 left.old left.new self.old.inquiries self.new.inquiries }
-        ensures same { IfOk result (λ done. notes.new.remembered ≡ notes.old.remembered) }
-    {
-        let remembered = Arc::try_clone(&notes.remembered)?;
-        let known: &Remembered = &remembered;
-        let tasks = tasks_for(known.bundles.len(), *left);
-        if tasks == 0 {
-            return Ok(());
-        }
-        notes.forget();
-        let seats: &[u16] = match &self.seats {
-            Some(seats) => seats,
-            None => &[],
-        };
-        let rehearsal = Mutex::new(Rehearsal::at(alloc, known, seats, pairs, tasks as usize)?);
-        let ground = Ground {
-            remembered: known,
-            rehearsal: &rehearsal,
-        };
-        let asked = u64::from(tasks);
-        *left -= asked;
-        let answers = self.ask_ahead(rt, alloc, &remembered, &ground, tasks)?;
-        notes.add_told(&answers)?;
-        Ok(())
-    }
-
     /// The walk to the least price of a section for one limit, from all who hold it. As long as
     /// these are too many, the first of them to leave is asked at the price from which it does not
-    /// keep what it holds: it holds the section from then on up to another price, or leaves. Before
-    /// the first is asked the walks ahead are rehearsed, if there are any. Where nobody may be asked
-    /// any more, the rest is found by halving, so that no crowd makes a walk long.
+    /// keep what it holds: it holds the section from then on up to another price, or leaves. Where
+    /// nobody may be asked any more, the rest is found by halving, so that no crowd makes a walk
+    /// long.
     pub(crate) fn least_price<R: Threads + Wait + Sync>(
         &mut self,
         rt: &R,
@@ -179,6 +129,7 @@ impl PooledDemands<AnyGate<'_>> {
         ensures same { IfOk result (λ walk. notes.new.remembered ≡ notes.old.remembered) }
         ensures remembered { IfOk result
             (λ walk. arc_value walk.remembered ≡ arc_value notes.old.remembered) }
+        ensures section { IfOk result (λ walk. walk.section ≡ pair.0) }
         ensures least { IfOk result
             (λ walk. IsLeastFrom (price_before (arc_value notes.old.remembered) pair.0.0)
             (crowd_of (arc_value notes.old.remembered))
@@ -248,6 +199,7 @@ impl PooledDemands<AnyGate<'_>> {
             → RoseAtMost (digits * length (crowd_of (arc_value remembered)).students)
             self.old.inquiries self.new.inquiries }
         ensures remembered { IfOk result (λ walk. walk.remembered ≡ remembered) }
+        ensures section { IfOk result (λ walk. walk.section ≡ section) }
         ensures least { IfOk result
             (λ walk. IsLeastFrom (price_before (arc_value remembered) section.0)
             (crowd_of (arc_value remembered)) (price_before (arc_value remembered)) section.0
@@ -292,7 +244,7 @@ impl PooledDemands<AnyGate<'_>> {
             ≡ taken_at (crowd_of (arc_value notes.old.remembered))
             ((arc_value notes.old.remembered).prices.items ∷ []) inquiry)) }
     {
-        let told = self.told_or_rehearsed(rt, alloc, notes, inquiry, left)?;
+        let told = notes.told_at(inquiry);
         if told.is_some() {
             return Ok(told);
         }
@@ -302,36 +254,6 @@ impl PooledDemands<AnyGate<'_>> {
         *left -= 1;
         let bundle = self.asked_alone(rt, alloc, notes, inquiry)?;
         Ok(Some(bundle))
-    }
-
-    // What the student of an inquiry takes there, where it is noted. Where it is not, the walks
-    // ahead are rehearsed, once: what is asked next is noted then.
-    fn told_or_rehearsed<R: Threads + Wait + Sync>(
-        &mut self,
-        rt: &R,
-        alloc: Global,
-        notes: &mut Notes,
-        inquiry: Inquiry,
-        left: &mut u64,
-    ) -> Result<Option<Bundle>, NoMemory>
-        requires { IsInquiry (crowd_of (arc_value notes.old.remembered)) 1 inquiry }
-        ensures kept { (self.new.crowd ≡ self.old.crowd) × (self.new.asked ≡ self.old.asked) }
-        ensures inquiries { HasSpent 0 left.old left.new self.old.inquiries self.new.inquiries }
-        ensures same { IfOk result (λ told. notes.new.remembered ≡ notes.old.remembered) }
-        ensures taken { IfOk result (λ told. IfSome told
-            (λ bundle. sections_of bundle
-            ≡ taken_at (crowd_of (arc_value notes.old.remembered))
-            ((arc_value notes.old.remembered).prices.items ∷ []) inquiry)) }
-    {
-        let told = notes.told_at(inquiry);
-        if told.is_some() {
-            return Ok(told);
-        }
-        let Some(pairs) = self.ahead.take() else {
-            return Ok(None);
-        };
-        self.rehearse(rt, alloc, notes, pairs, left)?;
-        Ok(notes.told_at(inquiry))
     }
 
     // What the student of an inquiry takes there, asked in a round of its own, and noted.
@@ -352,24 +274,30 @@ impl PooledDemands<AnyGate<'_>> {
             ((arc_value notes.old.remembered).prices.items ∷ []) inquiry) }
     {
         let list = vec![in alloc; inquiry; 1]?;
-        let inquiries = at_remembered(alloc, &notes.remembered, list)?;
+        let inquiries = at_remembered(alloc, &notes.remembered, list, notes.kept)?;
         let found = self.inquire(rt, alloc, inquiries)?;
-        notes.add_found(&found)?;
+        if let Some(note) = found.note {
+            notes.add(note)?;
+        }
         Ok(found.bundles[0])
     }
 
     /// What each student takes at the remembered prices with the section at the least price of a
-    /// walk. Who does not hold the section keeps what it takes, and so does a holder that can still
-    /// pay. A student of whom it is noted is not asked. Whom this does not settle is asked. The
-    /// only error is that memory was not given.
+    /// walk from these holders. Who does not hold the section keeps what it takes, and so does a
+    /// holder that can still pay. A student of whom it is noted is not asked. Whom this does not
+    /// settle is asked. The only error is that memory was not given.
     pub(crate) fn raised_memory<R: Threads + Wait + Sync>(
         &mut self,
         rt: &R,
         alloc: Global,
         notes: &Notes,
         walk: &WalkEnd,
+        holders: &[Holder],
     ) -> Result<Remembered, NoMemory>
-        requires { arc_value notes.now.remembered ≡ arc_value walk.now.remembered }
+        requires same { arc_value notes.now.remembered ≡ arc_value walk.now.remembered }
+        requires holders { AreLeft (crowd_of (arc_value walk.now.remembered))
+            (price_before (arc_value walk.now.remembered)) walk.now.section.0
+            (price_before (arc_value walk.now.remembered) walk.now.section.0) holders.now }
         ensures kept { (self.new.crowd ≡ self.old.crowd) × (self.new.asked ≡ self.old.asked) }
         ensures inquiries { RoseAtMost
             (length (crowd_of (arc_value walk.now.remembered)).students) self.old.inquiries
@@ -382,8 +310,8 @@ impl PooledDemands<AnyGate<'_>> {
         prices[usize::from(walk.section.0)] = walk.least;
         let mut bundles = remembered.bundles.as_slice().to_vec(alloc)?;
         let mut list = Vec::new(alloc);
-        for place in 0..bundles.len() {
-            let student = StudentNo(place as u16);
+        for place in 0..holders.len() {
+            let student = StudentNo(holders[place].1);
             let Some(bundle) = settled(notes, walk, &prices, student) else {
                 list.push(Inquiry {
                     student,
@@ -392,24 +320,52 @@ impl PooledDemands<AnyGate<'_>> {
                 })?;
                 continue;
             };
-            bundles[place] = bundle;
+            bundles[usize::from(student.0)] = bundle;
         }
-        let inquiries = at_remembered(alloc, &walk.remembered, list)?;
-        let found = self.inquire(rt, alloc, inquiries)?;
-        let asked = &found.inquiries.list;
-        write_found(
-            &remembered.crowd,
-            &prices,
-            asked,
-            &found.bundles,
-            0,
-            &mut bundles,
-        );
+        self.write_asked(rt, alloc, walk, &prices, list, &mut bundles)?;
         Ok(Remembered {
             crowd: Arc::try_clone(&remembered.crowd)?,
             allowed: remembered.allowed,
             prices,
             bundles,
         })
+    }
+
+    // Asks these at the raised prices, and writes what they take. Mostly nobody has to be asked, and
+    // then no round is started.
+    fn write_asked<R: Threads + Wait + Sync>(
+        &mut self,
+        rt: &R,
+        alloc: Global,
+        walk: &WalkEnd,
+        prices: &[Tokens],
+        list: Vec<Inquiry>,
+        bundles: &mut [Bundle],
+    ) -> Result<(), NoMemory>
+        requires prices { prices.now
+            ≡ slice_set (arc_value walk.now.remembered).prices.items walk.now.section.0
+            walk.now.least }
+        requires each { length bundles.old
+            ≡ length (crowd_of (arc_value walk.now.remembered)).students }
+        requires asked { All (IsInquiry (crowd_of (arc_value walk.now.remembered)) 1) list.items }
+        requires raised { All
+            (λ inquiry. inquiry.raised ≡ Some (walk.now.section, walk.now.least)) list.items }
+        requires others { AreOthersKept (crowd_of (arc_value walk.now.remembered)) bundles.old
+            prices.now 0 list.items }
+        ensures kept { (self.new.crowd ≡ self.old.crowd) × (self.new.asked ≡ self.old.asked) }
+        ensures inquiries { RoseAtMost (length list.items) self.old.inquiries self.new.inquiries }
+        ensures len { length bundles.new ≡ length bundles.old }
+        ensures taken { IfOk result
+            (λ done. AreTaken (crowd_of (arc_value walk.now.remembered)) prices.now bundles.new) }
+    {
+        if list.is_empty() {
+            return Ok(());
+        }
+        let inquiries = at_remembered(alloc, &walk.remembered, list, 1)?;
+        let found = self.inquire(rt, alloc, inquiries)?;
+        let crowd = &walk.remembered.crowd;
+        let asked = &found.inquiries.list;
+        write_found(crowd, prices, asked, &found.bundles, 0, bundles);
+        Ok(())
     }
 }

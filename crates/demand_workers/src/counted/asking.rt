@@ -1,15 +1,17 @@
 // A round of inquiries over one board.
-ghost use Rattle.std.specs.Prelude.{◌≡◌, ◌≤◌, ◌<◌, ◌^◌, IfOk, length, slice_index_or};
+ghost use Rattle.std.specs.Prelude.{◌≡◌, ◌≤◌, ◌<◌, ◌^◌, IfOk, IfSome, length, slice_index_or};
 ghost use Rattle.std.specs.Arc.{arc_value};
 ghost use Rattle.bundle_rules.specs.Bundles.{sections_of};
 ghost use Rattle.task_board.specs.{Kept.AreSettled, Seats.AreBack, Seats.HasBegun};
 ghost use Rattle.task_board.specs.Seats.{IsFinished, IsFree};
 ghost use Rattle.demand_workers.specs.Asked.{inquiry_rules, no_inquiry};
 ghost use Rattle.demand_workers.specs.{Found.AreFound, Found.terms_of, Inquiring.taken_at};
+ghost use Rattle.demand_workers.specs.{Notes.IsNoted, Views.crowd_of};
 
 use crate::asker::answer_drawn;
 use crate::found::Found;
 use crate::inquiry::Inquiries;
+use crate::note::Note;
 use crate::pool::Pool;
 use crate::tasks::InquiryTasks;
 use bundle_rules::Bundle;
@@ -43,7 +45,7 @@ pub(super) fn ask<R: Threads + Wait + Sync>(
     let mut bundles = vec![in alloc; Bundle::empty(); asked]?;
     let tasks = InquiryTasks::of(Arc::try_clone(&inquiries)?)?;
     let (board, seats) = Board::start(alloc, tasks, workers)?;
-    answer_and_write(
+    let note = answer_and_write(
         rt,
         board,
         seats,
@@ -52,7 +54,11 @@ pub(super) fn ask<R: Threads + Wait + Sync>(
         &mut bundles,
         gate,
     );
-    Ok(Found { inquiries, bundles })
+    Ok(Found {
+        inquiries,
+        bundles,
+        note,
+    })
 }
 
 // How many workers are started: one for each three inquiries, but one at least, and all where there
@@ -71,8 +77,8 @@ fn workers_for(inquiries: usize, students: usize, workers: u16) -> u16
     worth as u16
 }
 
-// From the start of the first worker to the bundles: it is given no allocator and has no error, so
-// no memory is taken meanwhile.
+// From the start of the first worker to the bundles, and to what a worker alone noted: it is given
+// no allocator and has no error, so no memory is taken meanwhile.
 fn answer_and_write<R: Threads + Wait + Sync>(
     rt: &R,
     board: Board<InquiryTasks>,
@@ -81,16 +87,17 @@ fn answer_and_write<R: Threads + Wait + Sync>(
     inquiries: &Inquiries,
     found: &mut [Bundle],
     gate: &(dyn Gate + Sync),
-)
+) -> Option<Note>
     requires board { board.base ≡ terms_of inquiries.now }
     requires begun { HasBegun inquiry_rules board seats.items (length seats.items) }
     requires enough { (1 ≤ length seats.items) × (length seats.items ≤ length workspaces.now)
         × (length workspaces.now ≤ MAX_WORKERS) }
     requires found { length found.old ≡ length inquiries.now.list.items }
     requires few { length inquiries.now.list.items < 2 ^ 32 }
-    ensures { AreFound (terms_of inquiries.now) found.new }
+    ensures found { AreFound (terms_of inquiries.now) found.new }
+    ensures noted { IfSome result (IsNoted (crowd_of (arc_value inquiries.now.remembered))) }
 {
-    answer_all(
+    let note = answer_all(
         rt,
         &board,
         seats.as_mut_slice(),
@@ -100,10 +107,12 @@ fn answer_and_write<R: Threads + Wait + Sync>(
     );
     let answers = board.close(seats);
     write_found(&answers, found);
+    note
 }
 
 // Each worker works at its seat with a workspace of its own, in a thread of its own where one can
-// be started; one worker alone works in the caller's.
+// be started; one worker alone works in the caller's, and what it notes is handed on. Of several,
+// which mostly ask at no raised price, nothing is.
 fn answer_all<R: Threads + Wait + Sync>(
     rt: &R,
     board: &Board<InquiryTasks>,
@@ -111,15 +120,22 @@ fn answer_all<R: Threads + Wait + Sync>(
     workspaces: &[Mutex<Workspace>],
     inquiries: &Inquiries,
     gate: &(dyn Gate + Sync),
-)
+) -> Option<Note>
     requires board { board.now.base ≡ terms_of inquiries.now }
     requires begun { HasBegun inquiry_rules board.now seats.old (length seats.old) }
     requires enough { (1 ≤ length seats.old) × (length seats.old ≤ length workspaces.now)
         × (length workspaces.now ≤ MAX_WORKERS) }
     ensures count { length seats.new ≡ length seats.old }
     ensures back { AreBack inquiry_rules board.now seats.new }
+    ensures noted { IfSome result (IsNoted (crowd_of (arc_value inquiries.now.remembered))) }
 {
+    let mut alone = None;
     let threads = seats.len();
+    if threads == 1 {
+        let seat = &mut seats[0];
+        answer_drawn(rt, board, seat, &workspaces[0], inquiries, gate, &mut alone);
+        return alone;
+    }
     for_each_mut(
         rt,
         seats,
@@ -130,8 +146,12 @@ fn answer_all<R: Threads + Wait + Sync>(
                 × (board.now.base ≡ terms_of inquiries.now) }
             ensures { IsFinished inquiry_rules board.entry.now seat.exit.now
                 × (seat.exit.now.number ≡ seat.entry.now.number) }
-        { answer_drawn(rt, board, seat, &workspaces[n], inquiries, gate) },
+        {
+            let mut room = None;
+            answer_drawn(rt, board, seat, &workspaces[n], inquiries, gate, &mut room)
+        },
     );
+    None
 }
 
 // Writes what was posted for each inquiry.

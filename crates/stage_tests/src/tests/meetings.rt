@@ -1,5 +1,5 @@
-// Two workers that meet in the elimination and in the search, where they were asked at the first
-// prices before: the stages ask both, and not the caller's thread alone.
+// Two workers that meet in the elimination, where nothing was asked before, and in the search, where
+// they were asked at the first prices: the stages ask both, and not the caller's thread alone.
 use crate::tests::crowds::{Student, menu_of};
 use crate::tests::searches::settings_of;
 use demand_api::{Crowd, Demands};
@@ -17,11 +17,17 @@ use tabu_search::{SearchEnd, search};
 // So many that in the search a round of half of them is worth the start of a thread.
 const STUDENTS: u16 = 300;
 
-/// Lets everything pass until it is shut; then workers meet at it.
+// So many students are asked alone when it is shut, before workers meet at it: on each walk to the
+// least price of a section the one who leaves.
+const ALONE: u64 = 150;
+
+/// Lets everything pass until it is shut, and those who are asked alone then; after them workers
+/// meet at it.
 #[derive(Drop)]
 struct LaterGate {
     meeting: MeetingGate,
     shut: AtomicU64,
+    alone: AtomicU64,
 }
 
 impl LaterGate {
@@ -29,6 +35,7 @@ impl LaterGate {
         LaterGate {
             meeting: MeetingGate::new(),
             shut: AtomicU64::new(0),
+            alone: AtomicU64::new(0),
         }
     }
 
@@ -39,8 +46,15 @@ impl LaterGate {
 
 impl Gate for LaterGate {
     fn pass(&self, stop: Stop) {
-        if self.shut.load(Ordering::SeqCst) > 0 {
+        if self.shut.load(Ordering::SeqCst) == 0 {
+            return;
+        }
+        if self.alone.load(Ordering::SeqCst) >= ALONE {
             self.meeting.pass(stop);
+            return;
+        }
+        if let Stop::WorkerCall(_) = stop {
+            self.alone.fetch_add(1, Ordering::SeqCst);
         }
     }
 }
@@ -62,11 +76,11 @@ fn students_of<R: Abort>(rt: &R, alloc: Global, sections: u16) -> Crowd {
 }
 
 // Both workers posted, and each waited for the other.
-fn assert_met<R: Abort>(rt: &R, gate: &LaterGate) {
-    let (_, of_first) = gate.meeting.first_worker.counts();
-    let (_, of_second) = gate.meeting.second_worker.counts();
+fn assert_met<R: Abort>(rt: &R, gate: &MeetingGate) {
+    let (_, of_first) = gate.first_worker.counts();
+    let (_, of_second) = gate.second_worker.counts();
     assert!(rt; of_first > 0 && of_second > 0);
-    assert_eq!(rt; gate.meeting.missed(), 0);
+    assert_eq!(rt; gate.missed(), 0);
 }
 
 // One section of one seat: at most 150 take it at 250, at most 75 at 325, and so on: each price is
@@ -77,12 +91,9 @@ fn two_workers_meet_in_the_elimination(rt: HostRuntime) -> Result<(), Fail> {
     let crowd = students_of(&rt, alloc, 1);
     let prices = [Tokens(0)];
     assert!(rt; crowd.has_prices(&prices));
-    let gate = LaterGate::open();
+    let gate = MeetingGate::new();
     let crowd = Arc::new(alloc, crowd)?;
     let mut demands = PooledDemands::make(Pool::reserve(alloc, 2)?, crowd, &gate);
-    demands.tell_seats(alloc, &[1])?;
-    demands.bundles(&rt, alloc, &prices, &[])?;
-    gate.shut();
     let settled = settle(&rt, alloc, &mut demands, &[1], &prices)?;
     assert_eq!(rt; settled.prices.as_slice(), [Tokens(399)].as_slice());
     assert_eq!(rt; settled.rounds, 9);
@@ -110,6 +121,6 @@ fn two_workers_meet_in_the_search(rt: HostRuntime) -> Result<(), Fail> {
         Err(end) => Some(end),
     };
     assert_eq!(rt; end, Some(SearchEnd::NoPrices { least: 149 }));
-    assert_met(&rt, &gate);
+    assert_met(&rt, &gate.meeting);
     Ok(())
 }

@@ -23,5 +23,5 @@ post-requires-clause-answer g c =
     let there = c.index-inquiry.ensures ∙ get_or_default terms.inquiries c.in-Some.task c.index-inquiry.result.now no_inquiry low in
     subst (λ (t : InquiryTerms). is_taken t c.in-Some.task c.asked_at-bundle.result ≡ true) (sym c.requires.board)
     (subst (λ l. same_sections (sections_of c.asked_at-bundle.result) l ≡ true)
-    (c.asked_at-bundle.ensures ∙ ap (λ (q : Inquiry). taken_at terms.crowd terms.versions q) there)
+    (c.asked_at-bundle.ensures.taken ∙ ap (λ (q : Inquiry). taken_at terms.crowd terms.versions q) there)
     (same_sections-own (sections_of c.asked_at-bundle.result)))

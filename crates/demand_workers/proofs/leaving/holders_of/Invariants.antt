@@ -1,32 +1,7 @@
-use Rattle.std.proofs.Common.{All, Global, Vec, [], ◌≡◌, ℕ, length, slice_index_or, take}
-use Rattle.std.specs.Arc.{arc_value}
 use Rattle.demand_workers.specs.Views.{crowd_of, price_before}
-use Rattle.demand_workers.proofs.HoldersLeave.{AreMet, times}
+use Rattle.demand_workers.proofs.HoldersLeave.{AreMet}
 use Rattle.demand_workers.proofs.leaving.holders_of.Given as goal
-
--- so many empty lists
-abbrev pub invariant-sections : goal.invariant-sections
-invariant-sections l = record {
-  len : length l.lists.items ≡ l.counter;
-  none : All (λ (list : Vec (ℕ × ℕ) Global). list.items ≡ []) l.lists.items;
-}
 
 -- the holders among the students so far
 abbrev pub invariant-loop-place : goal.invariant-loop-place
-invariant-loop-place l = record {
-  len : length l.lists.items ≡ (arc_value l.remembered.crowd).sections;
-  met : All
-      (λ pair. (d : Vec (ℕ × ℕ) Global) → AreMet (crowd_of l.remembered) (price_before l.remembered) pair.0.0 l.place 0
-      (slice_index_or l.lists.items pair.0.0 d).items)
-      l.pairs;
-}
-
--- and the next one, as often as a section was met in its bundle
-abbrev pub invariant-loop-index : goal.invariant-loop-index
-invariant-loop-index l = record {
-  len : length l.lists.items ≡ (arc_value l.remembered.crowd).sections;
-  met : All
-      (λ pair. (d : Vec (ℕ × ℕ) Global) → AreMet (crowd_of l.remembered) (price_before l.remembered) pair.0.0 l.place
-      (times pair.0.0 (take l.index l.sections)) (slice_index_or l.lists.items pair.0.0 d).items)
-      l.pairs;
-}
+invariant-loop-place l = AreMet (crowd_of l.remembered) (price_before l.remembered) l.section.0 l.place 0 l.holders.items

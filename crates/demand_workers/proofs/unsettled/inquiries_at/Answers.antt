@@ -1,4 +1,4 @@
-use Rattle.std.proofs.Common.{◌≡◌, ◌≤◌, ◌*◌, ◌∙◌, All, List, Vec, Global, length, ap, sym, subst}
+use Rattle.std.proofs.Common.{◌≡◌, ◌≤◌, ◌*◌, ◌∙◌, All, List, Vec, Global, length, ap, sym, subst, arith}
 use Rattle.std.specs.Arc.{arc_value}
 use Rattle.std.proofs.lemmas.List.{length-map}
 use Rattle.market_units.specs.declared.units.Tokens.{Tokens}
@@ -27,6 +27,7 @@ invariant_of-result g c =
       asked =
           subst (λ (r : Remembered). All (IsInquiry (crowd_of r) (length copies)) list) same
           (subst (λ n. All (IsInquiry (crowd_of c.deref.result.now) n) list) many c.in_ok-list.ensures.survey.asked);
+      some = (omega arith, omega arith);
     }
 
 pub returns-clause-few : goal.returns-clause-few

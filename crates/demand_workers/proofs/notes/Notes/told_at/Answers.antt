@@ -1,7 +1,7 @@
 use Rattle.std.proofs.Common.{◌∙◌, sym, subst}
 use Rattle.demand_workers.specs.declared.remembered.Remembered.{Remembered}
 use Rattle.demand_workers.specs.Inquiring.{IsInquiry}
-use Rattle.demand_workers.specs.Notes.{AreKept}
+use Rattle.demand_workers.specs.Notes.{AreNoted}
 use Rattle.demand_workers.specs.Views.{crowd_of}
 use Rattle.demand_workers.proofs.notes.Notes.told_at.Goals as goal
 
@@ -11,5 +11,5 @@ raised_question-requires c =
 
 pub told-requires : goal.told-requires
 told-requires c =
-    subst (λ (r : Remembered). AreKept (crowd_of r) c.args.self.now.list.items) (sym (c.in-Some.ensures.remembered ∙ c.deref.ensures))
+    subst (λ (r : Remembered). AreNoted (crowd_of r) c.args.self.now.list.items) (sym (c.in-Some.ensures.remembered ∙ c.deref.ensures))
     c.args.self.now.noted

@@ -1,4 +1,4 @@
-use Rattle.std.proofs.Common.{rules, ◌≡◌, ◌<◌, ◌+◌, ◌*◌, ◌^◌, ◌∙◌, [], ◌∷◌, ℕ, List, length, slice_index_or, ap, sym, subst, arith}
+use Rattle.std.proofs.Common.{rules, ◌≡◌, ◌<◌, ◌+◌, ◌*◌, ◌^◌, ◌∙◌, [], ◌∷◌, ℕ, List, length, slice_index_or, refl, ap, sym, subst, arith}
 use Rattle.std.specs.Arc.{arc_value}
 use Rattle.market_units.specs.declared.units.SectionNo.{SectionNo}
 use Rattle.market_units.specs.declared.units.Tokens.{Tokens}
@@ -9,8 +9,8 @@ use Rattle.demand_api.specs.Prices.{AreLeastPrices, IsLeastFrom}
 use Rattle.demand_api.specs.Views.{data_of}
 use Rattle.demand_workers.specs.declared.remembered.Remembered.{Remembered}
 use Rattle.demand_workers.specs.Allowances.{HasSpent}
+use Rattle.demand_workers.specs.Leaving.{AreLeft}
 use Rattle.demand_workers.specs.Views.{crowd_of, price_before}
-use Rattle.demand_workers.proofs.HoldersLeave.{listed_at}
 use Rattle.demand_workers.proofs.Spending.{call_within, walk_of_one}
 use Rattle.demand_workers.proofs.pooled_demands.PooledDemandsAnyGateDemands.least_prices.Goals as goal
 use Rattle.demand_workers.proofs.pooled_demands.PooledDemandsAnyGateDemands.least_prices.Given.{Over}
@@ -46,11 +46,24 @@ after_walk : (known remembered : Remembered) (walked last : ℕ) → known ≡ r
     → RoseAtMost (length (crowd_of remembered).students) walked last
 after_walk known remembered walked last same = subst (λ (r : Remembered). RoseAtMost (length (crowd_of r).students) walked last) same
 
+-- the holders, where the same is remembered
+left_at : (known remembered : Remembered) (s t : SectionNo) (hs lent : List (ℕ × ℕ))
+    → AreLeft (crowd_of known) (price_before known) s.0 (price_before known s.0) hs → known ≡ remembered → t ≡ s → lent ≡ hs
+    → AreLeft (crowd_of remembered) (price_before remembered) t.0 (price_before remembered t.0) lent
+left_at known remembered s t hs lent left is section items =
+    subst (λ (r : Remembered). AreLeft (crowd_of r) (price_before r) t.0 (price_before r t.0) lent) is
+    (subst (λ (u : SectionNo). AreLeft (crowd_of known) (price_before known) u.0 (price_before known u.0) lent) (sym section)
+    (subst (AreLeft (crowd_of known) (price_before known) s.0 (price_before known s.0)) (sym items) left))
+
 pub least_price-requires-clause-list : goal.least_price-requires-clause-list
 least_price-requires-clause-list g c κs within =
-    listed_at c.deref-2.result.now (arc_value c.notes_with-notes.result.remembered) c.args.pairs.now c.in_ok-lists.lists.items 0 c.from.result
-    (record { 0 = 0 }, 0) c.index-list.result.now c.deref-3.result.now c.in_ok-lists.ensures.left c.deref-2.ensures (search rules) c.from.ensures
-    c.index-list.ensures c.deref-3.ensures.value
+    left_at c.deref-2.result.now (arc_value c.notes_with-notes.result.remembered) _ _ c.in_ok-holders.holders.items c.deref-3.result.now
+    c.in_ok-holders.ensures c.deref-2.ensures refl c.deref-3.ensures.value
+
+pub raised_memory-requires-clause-holders : goal.raised_memory-requires-clause-holders
+raised_memory-requires-clause-holders g c κs within =
+    left_at c.deref-2.result.now (arc_value c.in_ok-walk.walk.remembered) _ c.in_ok-walk.walk.section c.in_ok-holders.holders.items c.deref-4.result.now
+    c.in_ok-holders.ensures (c.deref-2.ensures ∙ sym c.in_ok-walk.ensures.remembered) c.in_ok-walk.ensures.section c.deref-4.ensures.value
 
 pub returns-in_err-walk-clause-inquiries : goal.returns-in_err-walk-clause-inquiries
 returns-in_err-walk-clause-inquiries g c =

@@ -1,6 +1,7 @@
 use Rattle.std.proofs.Common.{rules, ℕ, ◌≡◌, ◌<◌, ◌≤◌, ◌∙◌, List, length, ap, sym, subst, arith}
 use Rattle.std.specs.Arc.{arc_value}
 use Rattle.std.proofs.lemmas.List.{length-set}
+use Rattle.std.specs.FinSet as set
 use Rattle.bundle_rules.specs.declared.menu.Rated.{Rated}
 use Rattle.bundle_rules.specs.Demand.{price_in}
 use Rattle.demand_workers.specs.declared.note.Note.{Note}
@@ -34,17 +35,18 @@ loop-place-preserved c =
           question.listed (c.menu.ensures c.menu.result.now) c.places-places.ensures.value question.priced.same c.loop-place.place _ low));
     }
 
-pub returns-clause-right : goal.returns-clause-right
-returns-clause-right c =
+pub returns : goal.returns
+returns c =
     let question = c.args.self.now in
     let note : Note =
-    record { student = question.student; bundle = c.args.bundle; prices = c.loop-place.prices; whole = c.loop-place.invariant.len } in
+    record { student = question.student; best = c.args.best; prices = c.loop-place.prices; whole = c.result-2-1.given.0 } in
     let few : length c.menu.result.now.places ≤ 60 = c.places-places.ensures.menu.places.few in
     let len : length c.loop-place.prices ≡ 60 = c.loop-place.invariant.len in
     let stop : c.loop-place.place ≡ length c.places-places.result.now = search rules in
     let all : AreAmong c.places-places.result.now c.loop-place.prices (price_in question.prices.now) (length c.places-places.result.now) =
     subst (AreAmong c.places-places.result.now c.loop-place.prices (price_in question.prices.now)) stop c.loop-place.invariant.among in
-    asked_noted (arc_value question.remembered.now.crowd) (price_in question.prices.now) note c.menu.result.now question.listed
-    (c.menu.ensures c.menu.result.now)
+    asked_noted (arc_value question.remembered.now.crowd) (price_in question.prices.now) note c.menu.result.now (set.contains question.remembered.now.allowed)
+    question.listed (c.menu.ensures c.menu.result.now) question.remembered.now.every
     (subst (λ (places : List Rated). AreAmong places c.loop-place.prices (price_in question.prices.now) (length places)) c.places-places.ensures.value all)
-    (let goal : length c.menu.result.now.places ≤ length c.loop-place.prices = omega (arith, few, len) in goal) c.requires
+    (let goal : length c.menu.result.now.places ≤ length c.loop-place.prices = omega (arith, few, len) in goal)
+    (λ budget is. c.requires c.menu.result.now budget (c.menu.ensures c.menu.result.now) is)

@@ -17,8 +17,8 @@ rose_one : (listed list : List Inquiry) (inquiry : Inquiry) (before now : ℕ) �
 rose_one listed list inquiry before now same is rose =
     subst (λ (l : List Inquiry). RoseAtMost (length l) before now) is (subst (λ (l : List Inquiry). RoseAtMost (length l) before now) same rose)
 
-pub at_remembered-requires : goal.at_remembered-requires
-at_remembered-requires g c =
+pub at_remembered-requires-clause-inquiries : goal.at_remembered-requires-clause-inquiries
+at_remembered-requires-clause-inquiries g c =
     let remembered = arc_value c.args.notes.now.remembered in
     subst (All (IsInquiry (crowd_of remembered) 1)) (sym (c.in_ok-list.ensures.items_if_clones_equal (λ y is. is)))
     (only (crowd_of remembered) c.args.inquiry c.requires)
@@ -28,8 +28,8 @@ returns-in_err-found-clause-inquiries g c =
     rose_one c.in_ok-inquiries.inquiries.list.items c.in_ok-list.list.items c.args.inquiry c.args.self.now.inquiries c.inquire.new.self.inquiries
     c.in_ok-inquiries.ensures.list (c.in_ok-list.ensures.items_if_clones_equal (λ y is. is)) c.inquire.ensures.inquiries
 
-pub returns-in_err-add_found-clause-inquiries : goal.returns-in_err-add_found-clause-inquiries
-returns-in_err-add_found-clause-inquiries g c =
+pub returns-in_err-add-clause-inquiries : goal.returns-in_err-add-clause-inquiries
+returns-in_err-add-clause-inquiries g c =
     rose_one c.in_ok-inquiries.inquiries.list.items c.in_ok-list.list.items c.args.inquiry c.args.self.now.inquiries c.inquire.new.self.inquiries
     c.in_ok-inquiries.ensures.list (c.in_ok-list.ensures.items_if_clones_equal (λ y is. is)) c.in_ok-found.ensures.inquiries
 

@@ -39,10 +39,9 @@ least_price-requires-clause-crowd g c κs within =
 
 pub least_price-requires-clause-list : goal.least_price-requires-clause-list
 least_price-requires-clause-list g c κs within =
-    listed_at c.deref.result.now (arc_value c.loop-place.notes.remembered) c.args.pairs.now c.in_ok-lists.lists.items c.loop-place.place c.from.result
-    (record { 0 = 0 }, 0) c.index-list.result.now c.deref-in-loop-place.result.now c.in_ok-lists.ensures.left
-    (c.deref.ensures ∙ ap (λ r. arc_value r) (sym c.loop-place.invariant.same)) (search rules) c.from.ensures c.index-list.ensures
-    c.deref-in-loop-place.ensures.value
+    listed_at c.deref.result.now (arc_value c.loop-place.notes.remembered) c.in_ok-lists.lists.items _ c.from.result c.index-list.result.now
+    c.deref-in-loop-place.result.now c.in_ok-lists.ensures.left (c.deref.ensures ∙ ap (λ r. arc_value r) (sym c.loop-place.invariant.same))
+    (search rules) c.from.ensures c.index-list.ensures c.deref-in-loop-place.ensures.value
 
 -- what is given back was taken before
 pub overflow_add-left : goal.overflow_add-left
@@ -95,12 +94,6 @@ returns-in_err-push-clause-inquiries g c digits fits =
     _ _ _ _ _ _ _ (ap (λ r. crowd_of (arc_value r)) c.loop-place.invariant.same) fits (div-le_self c.loop-place.left _)
     (c.loop-place.invariant.spent digits fits) c.in_ok-walk.ensures.inquiries)
     (omega (arith, low))
-
-pub returns-in_err-self-clause-inquiries : goal.returns-in_err-self-clause-inquiries
-returns-in_err-self-clause-inquiries g c digits fits =
-    let low : c.loop-place.place < length c.args.pairs.now = search rules in
-    spent_on_some c.loop-place.place (length c.args.pairs.now) (digits * length (crowd_of (arc_value c.args.notes.now.remembered)).students) _ _ _ _
-    (c.loop-place.invariant.spent digits fits) (omega (arith, low))
 
 pub returns-clause-inquiries : goal.returns-clause-inquiries
 returns-clause-inquiries g c digits fits =

@@ -3,7 +3,7 @@ use Rattle.std.specs.FinSet as set
 use Rattle.bundle_rules.specs.Demand.{price_in}
 use Rattle.bundle_rules.specs.Bundles.{sections_of}
 use Rattle.demand_api.proofs.Takers.{priced_at, found_demand}
-use Rattle.demand_workers.proofs.taking.asked_from.Goals as goal
+use Rattle.demand_workers.proofs.taking.asked_again.Goals as goal
 
 pub demand_from-requires : goal.demand_from-requires
 demand_from-requires c =

@@ -1,8 +1,0 @@
-use Rattle.std.proofs.Common.{rules}
-use Rattle.task_board.proofs.Returning.{all_back}
-use Rattle.demand_workers.specs.Walks.{walk_rules}
-use Rattle.demand_workers.proofs.counted.walking.walk_all.Goals as goal
-
-pub returns-clause-back : goal.returns-clause-back
-returns-clause-back g c =
-    all_back walk_rules c.args.board.now c.args.seats.now c.for_each_mut.new.s _ c.requires.begun (search rules) (search rules) (search rules)
