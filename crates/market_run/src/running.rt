@@ -73,7 +73,6 @@ pub(crate) fn run<R: Threads + Wait + Sync>(
     let Shared { crowd, asked } = share(alloc, heard)?;
     let pool = Pool::reserve(alloc, workers)?;
     let mut demands = PooledDemands::make(pool, asked, gate);
-    demands.tell_seats(alloc, heard.market.catalog.all_seats())?;
     let published = publish(
         rt,
         alloc,

@@ -141,7 +141,7 @@ pub(crate) fn prove_bundles<R: Threads + Sync>(
         bundles,
     };
     let mut all = Vec::with_capacity(alloc, bundles.len())?;
-    let mut rooms = reserve_rooms(alloc, bundles.len(), writers.room)?;
+    let mut rooms = reserve_rooms(alloc, writers, bundles.len())?;
     'groups: while all.len() < bundles.len() {
         let first = all.len();
         let count = rooms.len().min(bundles.len() - first);

@@ -4,12 +4,13 @@ ghost use Rattle.proof_tree.specs.Texts.{IsTreeText};
 ghost use Rattle.published_market.specs.{Rooms.IsRoomOf, Views.bundle_in, Views.offer_of_best};
 
 use crate::best::Best;
+use crate::writers::Writers;
 use market_units::NoMemory;
 use proof_tree::{build, build_into};
 use std::alloc::Global;
 
-// The rooms that are filled before their trees are copied out: 4 MB. With twice as many the workers
-// are hardly better parted.
+// The rooms that several workers fill before their trees are copied out: 4 MB. With twice as many
+// the workers are hardly better parted.
 const GROUP: usize = 256;
 
 // For so many trees each one more worker is started: a start and its end take about as long as
@@ -61,15 +62,21 @@ impl Room {
     }
 }
 
-/// The rooms in which so many trees are written, a group of at most 256 at once; each room has this
-/// many bytes. There is at least one room, also for no tree.
-pub(crate) fn reserve_rooms(alloc: Global, trees: usize, size: usize) -> Result<Vec<Room>, NoMemory>
+/// The rooms in which so many trees are written: by several workers a group of at most 256 at once.
+/// One worker has one room, since it waits for nobody. There is at least one room, also for no
+/// tree.
+pub(crate) fn reserve_rooms(
+    alloc: Global,
+    writers: Writers,
+    trees: usize,
+) -> Result<Vec<Room>, NoMemory>
     ensures { IfOk result (λ rooms. 0 < length rooms.items) }
 {
-    let count = trees.min(GROUP).max(1);
+    let group = if writers.workers > 1 { GROUP } else { 1 };
+    let count = trees.min(group).max(1);
     let mut rooms = Vec::with_capacity(alloc, count)?;
     for _ in 0..count {
-        let bytes = vec![in alloc; 0; size]?;
+        let bytes = vec![in alloc; 0; writers.room]?;
         rooms.push(Room {
             bytes,
             written: None,

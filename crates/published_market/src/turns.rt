@@ -159,7 +159,7 @@ pub(crate) fn prove_turns<R: Threads + Sync>(
         turns,
     };
     let mut all = Vec::with_capacity(alloc, turns.len())?;
-    let mut rooms = reserve_rooms(alloc, turns.len(), writers.room)?;
+    let mut rooms = reserve_rooms(alloc, writers, turns.len())?;
     'groups: while all.len() < turns.len() {
         let first = all.len();
         let count = rooms.len().min(turns.len() - first);
