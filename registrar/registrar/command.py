@@ -99,8 +99,9 @@ def worked(arguments: argparse.Namespace, words: Sequence[str]) -> int:
             left = "left by a command that was ended; nothing reads it, and it may be removed"
             tell.warn(f"{path} is a part of a file, {left}")
         with work_log.kept(folders[0], arguments.command, words) as ended:
-            ended["status"] = int(arguments.run(arguments))
-            return ended["status"]
+            status = int(arguments.run(arguments))
+            ended["status"] = status
+            return status
 
 
 def main(words: Optional[Sequence[str]] = None) -> int:

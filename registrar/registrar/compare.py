@@ -5,7 +5,7 @@ from __future__ import annotations
 import argparse
 import os
 from dataclasses import dataclass
-from typing import Callable, Dict, List, Optional, Sequence, Tuple
+from typing import Callable, Dict, List, Optional, Tuple
 
 from registrar import figures, manifest, measures, own_names, pages, plots, ranges, register, run_market, tables, tell
 
@@ -92,13 +92,13 @@ def run(arguments: argparse.Namespace) -> int:
     groups = groups_by(arguments, made)
     one, other = (measures.measured(each, arguments.workers, not arguments.no_audit) for each in found)
     both = beside(one, other, made)
-    if arguments.out:
+    files = written(both, groups, arguments) if arguments.out else {}
+    if files:
         read = [item for each in found for item in manifest.files_read(each)]
-        files = written(both, groups, arguments)
         tables.refuse_over([os.path.join(arguments.out, name) for name in files], read)
     for line in told(both, groups, arguments):
         tell.say(line)
-    if arguments.out:
+    if files:
         tables.make_folder(arguments.out)
         for name, content in files.items():
             tables.write_whole(os.path.join(arguments.out, name), content)
@@ -148,8 +148,8 @@ def differences(both: Both) -> List[str]:
         for what in ("seats", "credits", "meetings", "parts", "course"):
             before, after = (getattr(each[code], what) for each in sections)
             if before != after:
-                told = (told_as(both, what, value) for value in (before, after))
-                lines.append("{}: {} {} in A, {} in B".format(called(code), what, *told))
+                told = [told_as(both, what, value) for value in (before, after)]
+                lines.append(f"{called(code)}: {what} {told[0]} in A, {told[1]} in B")
     rolls = [each.market.students for each in (one, other)]
     changed = [name for name in both.changes if row(rolls[0][name]) != row(rolls[1][name])]
     if changed:
@@ -212,7 +212,7 @@ def figures_of(run_of: measures.Measured) -> Dict[str, str]:
 GROUP_HEADER = ("group", "students", GAINED, LOST, SAME, OTHER, "share in A", "share in B")
 
 
-def group_rows(both: Both, groups: Dict[str, str], least: int) -> List[Tuple[str, int, int, int, int, int, str, str]]:
+def group_rows(both: Both, groups: Dict[str, str], least: int) -> List[Tuple[object, ...]]:
     """A row for each group of the students of both runs, and one for all."""
     students = list(both.changes)
     parts = measures.parted(groups, students, least) if groups else {}
@@ -227,7 +227,7 @@ def group_rows(both: Both, groups: Dict[str, str], least: int) -> List[Tuple[str
 SECTION_HEADER = ("section", "seats A", "seats B", "used A", "used B", "price A", "price B")
 
 
-def section_rows(both: Both) -> List[Tuple[str, object, object, object, object, object, object]]:
+def section_rows(both: Both) -> List[Tuple[object, ...]]:
     """A row for each section of either run, in the catalogue's order."""
     texts = [each.market.text for each in (both.one, both.other)]
     codes = list(dict.fromkeys([*texts[0].used, *texts[1].used]))
@@ -244,7 +244,7 @@ def section_rows(both: Both) -> List[Tuple[str, object, object, object, object, 
 STUDENT_HEADER = ("student", "change", "worth A", "worth B", "share A", "share B", "sections A", "sections B")
 
 
-def student_rows(both: Both) -> List[Tuple[str, str, int, int, str, str, str, str]]:
+def student_rows(both: Both) -> List[Tuple[object, ...]]:
     """A row for each student of both runs: who lost most first, who gained most last."""
     places = {name: place for place, name in enumerate(both.changes)}
     rows = []
@@ -274,9 +274,9 @@ def told(both: Both, groups: Dict[str, str], arguments: argparse.Namespace) -> L
     lines += ["", *tell.table(("", "A", "B"), figure_rows(both)), "", sum_line(both)]
     if groups:
         lines += ["", *tell.table(GROUP_HEADER, group_rows(both, groups, arguments.least))]
-    for what, sign in ((LOST, 1), (GAINED, -1)):
+    for what in (LOST, GAINED):
         those = [one for one in both.changes.values() if one.what == what]
-        found = sorted(those, key=lambda one: sign * (one.after - one.before))
+        found = sorted(those, key=lambda one: one.after - one.before, reverse=what == GAINED)
         lines += [""] * bool(found) + [f"{what}: {in_words(both, one)}" for one in found[:SHOWN]]
         lines += [f"and {len(found) - SHOWN} more, whom --out FOLDER writes"] * (len(found) > SHOWN)
     changed = [row for row in section_rows(both) if row[1:6:2] != row[2:7:2]]
@@ -296,7 +296,7 @@ def in_words(both: Both, one: Change) -> str:
 
 def written(both: Both, groups: Dict[str, str], arguments: argparse.Namespace) -> Dict[str, bytes]:
     """The files of --out."""
-    tables_of = {
+    tables_of: Dict[str, List[Tuple[object, ...]]] = {
         "students.csv": [STUDENT_HEADER, *student_rows(both)],
         "sections.csv": [SECTION_HEADER, *section_rows(both)],
         "groups.csv": [GROUP_HEADER, *group_rows(both, groups, arguments.least)],

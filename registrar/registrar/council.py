@@ -15,6 +15,7 @@ The text has lines of a head, an empty line, and paragraphs with empty lines bet
 
 from __future__ import annotations
 
+import functools
 import re
 from dataclasses import dataclass
 from typing import Callable, Dict, List, Mapping, Sequence, Tuple
@@ -80,7 +81,7 @@ class Words:
 
     def called(self, group: str) -> str:
         """The name of a group; `all` and the groups that were put together may have other ones."""
-        small = group.startswith(measures.OTHERS.split("{")[0]) and "small groups" in self.others
+        small = group.startswith(measures.OTHERS.partition("{")[0]) and "small groups" in self.others
         return self.others["small groups"] if small else self.word(group) if group == measures.ALL else group
 
 
@@ -138,9 +139,9 @@ def paragraphs(lines: Sequence[str], end: int) -> Tuple[Tuple[int, str], ...]:
 def page(words: Words, run: measures.Measured, parts: Sequence[measures.Group], column: str) -> str:
     """The page. A field that nobody knows, or of a group that is not there, is told, and ends the command."""
     values = values_of(run, parts)
-    blocks = {"table": lambda: table(words, run, parts, column)}
+    blocks: Dict[str, Callable[[], str]] = {"table": lambda: table(words, run, parts, column)}
     for name in PLOTS:
-        blocks[f"plot {name}"] = lambda name=name: plot(words, name, parts, column)  # type: ignore[misc]
+        blocks[f"plot {name}"] = functools.partial(plot, words, name, parts, column)
     faults = Faults()
     shown = []
     for line, text in words.paragraphs:

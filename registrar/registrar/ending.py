@@ -48,14 +48,14 @@ def heeded() -> Iterator[None]:
 
     A signal that was passed over before stays so, as SIGHUP under `nohup`.
     """
-    global _came
+    global _came  # pylint: disable=global-statement,invalid-name
     if threading.current_thread() is not threading.main_thread():
         yield
         return
     before = {one: signal.getsignal(one) for one in HEEDED}
 
     def end(number: int, _: object) -> None:
-        global _came
+        global _came  # pylint: disable=global-statement,invalid-name
         _came = number
         for one in before:
             signal.signal(one, signal.SIG_IGN)

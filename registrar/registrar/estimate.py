@@ -64,8 +64,8 @@ def writes(arguments: argparse.Namespace) -> List[str]:
 def run(arguments: argparse.Namespace) -> int:
     """Runs few turns, then more, and tells what they say."""
     settings = tables.read_settings(arguments.settings)
-    turns, accept = settings["turns"], settings["accept"]
-    if not all(isinstance(one, int) and not isinstance(one, bool) and one >= 0 for one in (turns, accept)):
+    turns, accept = whole_of(settings["turns"]), whole_of(settings["accept"])
+    if turns is None or accept is None:
         raise tell.Trouble(f"{arguments.settings}: \"turns\" and \"accept\" have to be whole numbers")
     samples: List[Sample] = []
     for number in numbers(turns):
@@ -90,6 +90,11 @@ def run(arguments: argparse.Namespace) -> int:
         tell.say(f"the last runs of this size took {', '.join(tell.seconds(one) for one in before[-3:])}")
     tell.keep_pace(folder, size, pace.begin, pace.turn)
     return 0
+
+
+def whole_of(value: object) -> Optional[int]:
+    """A setting that is a whole number from 0 on; nothing where it is none."""
+    return value if isinstance(value, int) and not isinstance(value, bool) and value >= 0 else None
 
 
 def numbers(turns: int) -> List[int]:

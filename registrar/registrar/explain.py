@@ -1,11 +1,14 @@
-"""`explain`: why a student has no seat in a section, as the program tells it and in words for the student."""
+"""`explain`: why a student has no seat in a section, in the second stage and at its turns, with words for the student."""
 
 from __future__ import annotations
 
 import argparse
-from typing import Tuple
+import tempfile
+from typing import List, Tuple
 
-from registrar import check, manifest, own_names, program, published, reasons, streams, tables, tell
+from registrar import (
+    aftermarket, alone, check, manifest, own_names, program, published, reasons, streams, tables, tell,
+)
 
 NAME = "explain"
 HELP = "tell why a student has no seat in a section, by the manifest, with words for the student"
@@ -31,12 +34,25 @@ def run(arguments: argparse.Namespace) -> int:
     tell.say(answer.text.rstrip("\n"))
     if answer.status == 0:
         tell.say()
-        for line in reasons.in_all_words(market_of(found), reasons.read_reason(answer.lines)):
+        for line in in_words(found, reasons.read_reason(answer.lines)):
             tell.say(line)
         check.tell_changed(found)
     else:
         tell_refusal(found, answer)
     return answer.status
+
+
+def in_words(found: manifest.Manifest, reason: reasons.Reason) -> List[str]:
+    """The answer of the second stage in words, and behind it what was at the student's turns of the aftermarket."""
+    market = market_of(found)
+    after = aftermarket.read(market, found.settings)
+    rated = [reason.section] if reason.words[0] != "unrated" else []
+    with tempfile.TemporaryDirectory() as folder:
+        room = alone.room(folder, market, streams.in_order(market.text.order, found.sessions))
+        later = aftermarket.in_words(after, reason, aftermarket.ask(after, room, reason.student, rated))
+    if later and after.was_full(reason.student, reason.section):
+        later += f" {aftermarket.order_in_words(after, reason.student)}"
+    return [*reasons.in_all_words(market, reason), *[later] * bool(later)]
 
 
 def meant(found: manifest.Manifest, student: str, section: str) -> Tuple[str, str]:

@@ -65,7 +65,7 @@ def choices(market: reasons.Market) -> List[Tuple[str, float]]:
     places = {code: place for place, code in enumerate(market.sections)}
     for name, final in market.text.finals.items():
         rated = market.ratings.get(name, {})
-        ranked = sorted(rated, key=lambda one: (-rated[one], places[one]))
+        ranked = sorted(sorted(rated, key=places.__getitem__), key=rated.__getitem__, reverse=True)
         held = {min(place, CHOICES) for place, section in enumerate(ranked) if section in final.sections}
         for place in held:
             found[place] += 1

@@ -395,7 +395,7 @@ class Guesser:
     def of_times(self) -> dict[str, str]:
         """Whether times are of 24 hours, by those of the catalogue. Where they do not tell, two readings are asked about."""
         for seen in self.of("catalogue"):
-            options = ("meetings", "start", "end")
+            options: tuple[str, ...] = ("meetings", "start", "end")
             names = [seen.values[option] for option in options if seen.values.get(option) in seen.header]
             of_day = hours_of_24(text for name in names for text in seen.column(name))
             if of_day:

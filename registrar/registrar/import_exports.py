@@ -210,8 +210,9 @@ class Importer:
     def survey(self, source: Source) -> Survey:
         """A survey. Where a table could not be read its names are not looked up: that would be a fault a row."""
         known = Known(self.mapping, self.students, self.sections, NOT_ON_ROLL in self.allowed)
-        reader = FolderReader if source.kind == "sessions" else SurveyReader
-        return reader(source, known, self.faults).read()
+        if source.kind == "sessions":
+            return FolderReader(source, known, self.faults).read()
+        return SurveyReader(source, known, self.faults).read()
 
     def number(self, export: Export, row: Row, option: str, most: int) -> str:
         """A whole number, as the program reads it; 0, with a fault, where it is none."""

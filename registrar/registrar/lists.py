@@ -10,7 +10,7 @@ from dataclasses import dataclass
 from typing import Callable, Dict, FrozenSet, Iterable, List, Optional, Sequence, Tuple
 
 from registrar import (
-    alone, explain, mails, manifest, own_names, program, published, reasons, register, run_market, sheet, streams,
+    aftermarket, alone, explain, mails, manifest, own_names, program, published, reasons, register, run_market, sheet, streams,
     tables, tell, work_log,
 )
 
@@ -28,10 +28,11 @@ BOOK = "lists.xlsx"
 
 @dataclass(frozen=True)
 class Ask:
-    """What the texts are made from: manifest, market, each student's lines, what it said, where reasons are asked."""
+    """What the texts are made from: manifest, market, turns, each student's lines, what it said, where reasons are asked."""
 
     found: manifest.Manifest
     market: reasons.Market
+    after: aftermarket.Aftermarket
     lines: Dict[str, List[int]]
     said: Dict[str, List[tables.Command]]
     room: Optional[alone.Room]
@@ -104,7 +105,8 @@ def run(arguments: argparse.Namespace) -> int:
     with tempfile.TemporaryDirectory() as folder:
         commands = streams.in_order(market.text.order, found.sessions)
         room = None if arguments.no_reasons else alone.room(folder, market, commands)
-        ask = Ask(found, market, own_lines(market.text), streams.by_student(commands), room, post, frozenset(mailed))
+        after = aftermarket.read(market, found.settings)
+        ask = Ask(found, market, after, own_lines(market.text), streams.by_student(commands), room, post, frozenset(mailed))
         write_texts(arguments.out, ask, names, arguments.workers)
     warn_of_others(arguments.out, stems_of(market, market.students))
     texts = tell.count(len(names), "text", "texts")
@@ -361,13 +363,16 @@ def reason_lines(ask: Ask, room: alone.Room, name: str) -> List[str]:
     settled, final = reasons.held_by(ask.market, name)
     if settled != final:
         lines += ["", reasons.of_second_stage(ask.market, settled)]
+    lines += ["", aftermarket.order_in_words(ask.after, name)]
     alone.enter(room, name)
-    for section in better:
-        reason = reason_of(ask, room, name, section)
-        rating = ask.market.ratings[name][section]
-        lines += ["", f"  {ask.market.section(section)} (your rating {rating})"]
-        lines.append("  " + reasons.in_words(ask.market, reason))
+    found = [reason_of(ask, room, name, section) for section in better]
+    answers = aftermarket.ask(ask.after, room, name, better)
     alone.leave(room, name)
+    for reason in found:
+        rating = ask.market.ratings[name][reason.section]
+        lines += ["", f"  {ask.market.section(reason.section)} (your rating {rating})"]
+        told = (reasons.in_words(ask.market, reason), aftermarket.in_words(ask.after, reason, answers))
+        lines += [f"  {one}" for one in told if one]
     return lines
 
 

@@ -121,9 +121,9 @@ def conclude(found: Sequence[Finding], allowed: set[str]) -> int:
     if not found:
         tell.say("nothing is found")
         return 0
-    for kind in KINDS:
+    for kind, words in KINDS.items():
         if counts[kind]:
-            tell.say(f"{counts[kind]} {kind}{' (allowed)' if kind in allowed else ''}: {KINDS[kind]}")
+            tell.say(f"{counts[kind]} {kind}{' (allowed)' if kind in allowed else ''}: {words}")
     return tell.FAULTS if set(counts) - allowed else 0
 
 
@@ -188,7 +188,7 @@ def of_session(seen: Seen, number: int, path: str) -> list[Finding]:
     for entry in entries:
         command = entry.command
         if entry.reply != "done" and not (is_export and entry.reply == "unreadable"):
-            hint = hint_of(entry, seen, sections, students)
+            hint = hint_of(entry, sections, students)
             found.append(Finding(entry.reply, f"{path}:{command.line}: {entry.reply}: {plain(command)}{hint}"))
         if command.kind == "close":
             found.append(Finding("close", f"{path}:{command.line}: close: what any session says behind it does not count"))
@@ -200,7 +200,7 @@ def plain(command: tables.Command) -> str:
     return shown(command.text) if command.kind == "unreadable" else command.text
 
 
-def hint_of(entry: Entry, seen: Seen, sections: Meant, students: Meant) -> str:
+def hint_of(entry: Entry, sections: Meant, students: Meant) -> str:
     """The name that was likely meant, where a name is nobody's."""
     words = entry.command.words
     if entry.reply == "no-student":

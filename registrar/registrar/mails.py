@@ -15,7 +15,7 @@ import re
 import unicodedata
 from dataclasses import dataclass
 from email.message import EmailMessage
-from typing import Callable, Dict, List, Mapping, Optional, Sequence, Tuple
+from typing import Callable, Dict, List, Mapping, Optional, Sequence, Tuple, cast
 
 from registrar import fields, own_names, register, tables, tell
 
@@ -223,7 +223,7 @@ def plain(name: str) -> str:
 
 def read_back(written: bytes, wanted: Mapping[str, "str | Tuple[str, str]"], session: bytes) -> Optional[str]:
     """What differs in a mail that is read as a mail program reads it; nothing where all is as it was meant."""
-    again = email.message_from_bytes(written, policy=POLICY)
+    again = cast(EmailMessage, email.message_from_bytes(written, policy=POLICY))
     if sorted(again.keys()) != sorted([*wanted, "X-Unsent", "MIME-Version", "Content-Type"]):
         return "head"
     for title, meant in wanted.items():

@@ -111,7 +111,7 @@ def unit_of(own: Own) -> Decimal:
     return Decimal(own.get(UNIT, {}).get(CREDIT, "1").replace(",", "."))
 
 
-def credits(own: Own, number: int) -> str:
+def credits(own: Own, number: int) -> str:  # pylint: disable=redefined-builtin
     """So many credits of the program in the school's own units and with its own decimal sign."""
     value = plain(number * unit_of(own))
     return value.replace(".", ",") if "," in own.get(UNIT, {}).get(CREDIT, "1") else value

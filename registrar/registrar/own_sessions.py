@@ -8,7 +8,7 @@ from __future__ import annotations
 
 import os
 import re
-from typing import Iterator
+from typing import Iterator, Optional
 
 from registrar import tables
 from registrar.faults import Faults, plain
@@ -89,6 +89,7 @@ class FolderReader:
         Where such files are left out there is no fault.
         """
         again = AGAIN.fullmatch(text)
+        last: Optional[NameFault] = None
         for code in [text, *([again.group(1)] if again else [])]:
             try:
                 return self.known.students.find(code)

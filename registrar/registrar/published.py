@@ -112,8 +112,7 @@ def read_published(path: str) -> Published:
     if b"\r" in raw:
         line = raw[: raw.index(b"\r")].count(b"\n") + 1
         raise Trouble(f"{path}, line {line}: a carriage return. Lines of a published text end with a line feed alone")
-    text = raw.decode("utf-8", "replace")
-    lines = text.split("\n")
+    lines = raw.decode("utf-8", "replace").split("\n")
     whole = lines.pop() == ""
     reader = Reader(path, lines)
     version = reader.number(reader.take("course-match", 1)[0])

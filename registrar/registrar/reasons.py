@@ -1,11 +1,14 @@
-"""Why a student has no seat in a section: the answer of the program's `explain` in the guide's words."""
+"""Why a student has no seat in a section: the answer of the program's `explain` in the guide's words.
+
+It speaks of the second stage; of the turns behind it `aftermarket` does.
+"""
 
 from __future__ import annotations
 
 from dataclasses import dataclass, field
 from typing import Dict, List, Optional, Sequence, Tuple
 
-from registrar import own_names, published, tables
+from registrar import own_names, published, tables, tell
 
 
 @dataclass(frozen=True)
@@ -89,39 +92,28 @@ def held_by(market: Market, student: str) -> Tuple[Tuple[str, ...], Tuple[str, .
 
 
 def of_second_stage(market: Market, settled: Sequence[str]) -> str:
-    """That answers speak of the second stage, in which the student had these sections."""
-    return (
-        f"(These answers speak of the second stage, in which you had {market.listed(settled)}. What the aftermarket changed, "
-        "your turn lines tell.)"
-    )
+    """That the student had these sections in the second stage, and others in the end."""
+    return f"(In the second stage you had {market.listed(settled)}. What the aftermarket changed, your turn lines tell.)"
 
 
 def why_in_words(market: Market, reason: Reason) -> str:
     """The first line in words."""
     section = market.section(reason.section)
     costs = f"{section} costs {market.text.prices[reason.section]}."
-    caps = market.students[reason.student]
-    limits = {
-        "price": f"your budget of {market.text.budgets[reason.student]}",
-        "credits": f"your cap of {own_names.credits_in_words(market.own, caps.credits)}",
-        "courses": f"your cap of {caps.courses} sections",
-    }
     first = reason.words[0]
     if first == "held":
         return held_in_words(market, reason)
     if first == "unrated":
         return f"You gave {section} no rating above 0, so you did not ask for it."
     if first == "alone":
-        return f"{costs} It alone passes {limits[reason.words[1]]}."
+        budget = f"your budget of {market.text.budgets[reason.student]}"
+        return f"{costs} It alone passes {budget if reason.words[1] == 'price' else cap_in_words(market, reason)}."
     if first == "beside":
         cost = f"cost more than your {market.text.budgets[reason.student]} tokens"
-        passes = cost if reason.words[1] == "price" else f"pass {limits[reason.words[1]]}"
+        passes = cost if reason.words[1] == "price" else f"pass {cap_in_words(market, reason)}"
         return f"{costs} Together with what your budget bought in the second stage it would {passes}."
     if first == "clash":
-        other = reason.words[1]
-        same = market.sections[other].course == market.sections[reason.section].course
-        is_like = "of the same course as" if same else "at the same time as"
-        return f"{costs} It is {is_like} {market.section(other)}, which your budget bought in the second stage."
+        return f"{costs} It is {clash_in_words(market, reason)}, which your budget bought in the second stage."
     return f"{costs} You could have had it besides all else: the adjustments that you gave make the bundle worth less with it."
 
 
@@ -130,10 +122,27 @@ def held_in_words(market: Market, reason: Reason) -> str:
     section = market.section(reason.section)
     if reason.section in held_by(market, reason.student)[1]:
         return f"You have {section}: your bundle of the second stage has it, and so has your final one."
-    return (
-        f"Your bundle of the second stage had {section}: you gave it up at one of your turns for a bundle that you like better. "
-        "Your turn lines show it."
-    )
+    return f"Your bundle of the second stage had {section}, and your final one has not."
+
+
+def cap_in_words(market: Market, reason: Reason) -> str:
+    """The cap that a reason names."""
+    caps = market.students[reason.student]
+    if reason.words[1] == "credits":
+        return f"your cap of {own_names.credits_in_words(market.own, caps.credits)}"
+    return f"your cap of {tell.count(caps.courses, 'section', 'sections')}"
+
+
+def clash_in_words(market: Market, reason: Reason) -> str:
+    """How the section clashes with the one that a reason names."""
+    other = reason.words[1]
+    same = market.sections[other].course == market.sections[reason.section].course
+    return f"{'of the same course as' if same else 'at the same time as'} {market.section(other)}"
+
+
+def more_in_words(reason: Reason) -> str:
+    """How much more the bundle is worth than the best one with the section."""
+    return f"{reason.lost} more" if reason.lost else "as much"
 
 
 def best_in_words(market: Market, reason: Reason) -> List[str]:
@@ -141,8 +150,7 @@ def best_in_words(market: Market, reason: Reason) -> List[str]:
     if reason.lost is None:
         return []
     bought = reason.worth + reason.lost
-    more = f"{reason.lost} more" if reason.lost else "as much"
     return [
         f"The best that your budget could have bought with it is {market.listed(reason.best)}, worth {reason.worth} to you by your own "
-        f"ratings. What it bought is worth {bought}, {more}.",
+        f"ratings. What it bought is worth {bought}, {more_in_words(reason)}.",
     ]

@@ -205,9 +205,9 @@ class Template:
         opening, _, title = name.partition(" ")
         table = {"register": made.students, "timetable": made.sections}.get(opening)
         if title and table is not None:
-            column = table.column(title)
+            column, text = table.column(title), table.text
             who = 1 if opening == "register" else 0
-            return lambda row: table.text(row.seat[who], column) if column else ""
+            return lambda row: text(row.seat[who], column) if column else ""
         plain: Dict[str, Callable[[Row], str]] = {
             "student": lambda row: own_names.spelt(made.own, "student", row.seat[1]),
             "section": lambda row: own_names.spelt(made.own, "section", row.seat[0]),
@@ -235,7 +235,7 @@ class Template:
     def written(self, rows: Sequence[Row]) -> bytes:
         """The file with these rows."""
         self.seen = {}
-        cells = [[title for title in self.columns]] if self.options["header"] == "yes" else []
+        cells = [list(self.columns)] if self.options["header"] == "yes" else []
         cells += [list(row) for row in self.filled(rows)]
         out = io.StringIO(newline="")
         end = "\r\n" if self.options["line end"] == "crlf" else "\n"

@@ -9,7 +9,7 @@ from __future__ import annotations
 import datetime
 import re
 from dataclasses import dataclass
-from typing import Iterable, Sequence
+from typing import Sequence
 
 from registrar.exported import Export, Row
 
@@ -187,7 +187,7 @@ class Chooser:
         if self.is_long and not self.together and self.is_timed_by_row(several):
             self.export.missing("submission", "", f"{TOGETHER}: the time differs in each row of a student")
             return found
-        order = self.order(one for sent in several.values() for one in sent)
+        order = self.order()
         for student, sent in several.items():
             timed = [(time, one) for one in sent for time in [self.time_at(one, order)] if time is not None]
             if len(timed) < len(sent):
@@ -221,7 +221,7 @@ class Chooser:
         is_single = all(len(one.rows) == 1 for sent in several.values() for one in sent)
         return is_single and any(len(sent) > 2 for sent in several.values())
 
-    def order(self, sent: Iterable[Submission]) -> str:
+    def order(self) -> str:
         """The order of day and month: that of the mapping, or the one in which all times of the column can be read.
 
         Where both can, and they differ in which submission is the last, the mapping has to say it: a fault.

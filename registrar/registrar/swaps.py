@@ -73,8 +73,8 @@ def swaps_of(asked: Sequence[Request], replies: Sequence[str]) -> List[Swap]:
         if request.is_swap:
             rows.setdefault(request.place, {})[request.words[0]] = at
     found = []
-    for at in rows.values():
-        drop, add = at["drop"], at["add"]
+    for pair in rows.values():
+        drop, add = pair["drop"], pair["add"]
         got = replies[add] in ("added", "holding") or is_called(asked[add], asked[add + 1 :], replies[add + 1 :])
         found.append(Swap(asked[drop], replies[drop], asked[add], replies[add], got))
     return found

@@ -148,13 +148,13 @@ def far_of(folder: str, size: Size, turns: object) -> Optional[Callable[[float],
     paces = [one for one in read_times(folder) if is_like(one.get("estimate"), size) and is_pace(one)]
     if not paces or not isinstance(turns, int):
         return None
-    begin, turn = float(paces[-1]["begin"]), float(paces[-1]["turn"])
+    begin, turn, most = float(paces[-1]["begin"]), float(paces[-1]["turn"]), turns
 
     def far(elapsed: float) -> str:
         now = int((elapsed - begin) / turn)
-        if now > turns:
-            return f"by an estimate behind the {turns} turns of the search"
-        return f"by an estimate at turn {max(0, now)} of at most {turns}"
+        if now > most:
+            return f"by an estimate behind the {most} turns of the search"
+        return f"by an estimate at turn {max(0, now)} of at most {most}"
 
     return far
 
@@ -177,7 +177,7 @@ def keep_time(folder: str, size: Size, elapsed: float) -> None:
 def keep(folder: str, entry: Dict[str, Any]) -> None:
     """Keeps one entry more in the file of times, of which the last hundred stay."""
     # Here and not above, since `whole` needs `Trouble`.
-    from registrar import whole
+    from registrar import whole  # pylint: disable=cyclic-import
 
     kept = read_times(folder)[-99:] + [entry]
     content = json.dumps(kept, indent=1) + "\n"

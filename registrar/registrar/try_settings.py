@@ -188,7 +188,7 @@ def write(path: str, settings: Dict[str, object], turns: int, accept: int) -> No
     tell.say(f"{path}: turns {turns}, accept {accept}, the rest as it was")
 
 
-def write_settings(path: str, settings: Dict[str, object], turns: int, accept: int) -> None:
+def write_settings(path: str, settings: Dict[str, object], turns: object, accept: object) -> None:
     """Writes settings, one a line, in the order in which they stood."""
     values: Dict[str, object] = {**settings, "turns": turns, "accept": accept}
     lines = [f"  {json.dumps(name)}: {json.dumps(value)}" for name, value in values.items()]

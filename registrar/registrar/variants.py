@@ -18,7 +18,7 @@ import configparser
 import difflib
 import itertools
 from dataclasses import dataclass
-from typing import Dict, List, Sequence, Tuple
+from typing import Dict, Iterable, List, Sequence, Tuple
 
 from registrar import own_names, tables
 from registrar.faults import Faults
@@ -133,7 +133,7 @@ def parts(text: str) -> List[str]:
     return split(text) or [""]
 
 
-def near(name: str, known: Dict[str, object]) -> str:
+def near(name: str, known: Iterable[str]) -> str:
     """The nearest of the known names, in words."""
     found = difflib.get_close_matches(name, list(known), n=1)
     return f"; nearest: {found[0]}" if found else ""

@@ -165,7 +165,8 @@ def catalogue_rows(school: School) -> list[list[str]]:
         when, length = shown_meetings(section, at)
         seats = f"{section.seats}.0" if at % 5 == 0 else f"{section.seats:,}"
         credits = f"{section.credits / 2:.1f}"
-        rows.append([section.code, section.course, f"Topics in {section.course}", seats, credits, when, length, f"R{at % 30}", str(20001 + 7 * at)])
+        room, number = f"R{at % 30}", str(20001 + 7 * at)
+        rows.append([section.code, section.course, f"Topics in {section.course}", seats, credits, when, length, room, number])
         if section.has_practice:
             rows.append([section.code, section.course, "Practice", "", "", "Fri 13:00-13:50", "", "R31", ""])
         if at % 10 == 9:
@@ -218,7 +219,7 @@ def request_rows(school: School) -> list[list[str]]:
     course_of = {section.code: section.course for section in school.sections}
     asked: list[tuple[str, str, str]] = []
     for one in draw.sample(school.students, min(6, len(school.students))):
-        best = max(sorted(one.ratings), key=lambda code: one.ratings[code])
+        best = max(sorted(one.ratings), key=one.ratings.__getitem__)
         others = [code for code in course_of if code != best]
         others = [code for code in others if course_of[code] == course_of[best]] or others
         asked += [(one.number, "Drop", best), (one.number, "Add", draw.choice(others))]

@@ -19,7 +19,7 @@ class Stops(InFolder):
 
     def test_each_kind(self) -> None:
         """Each is told with its place, ends with 65, and leaves the last good text; `--allow` of its kind alone lets it pass."""
-        cases = [
+        cases: list[tuple[str, dict[str, str], list[str], str]] = [
             ("two-sessions", {"b.session": "rate v X 80\nrate u Y 40\n"}, [], "a.session:1, b.session:2: two-sessions: u"),
             ("twice", {}, ["b.session"], "b.session: twice: it is given twice"),
             ("empty", {"c.session": "# nothing\n"}, ["c.session"], "c.session: empty: it has no commands"),

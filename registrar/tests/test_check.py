@@ -280,14 +280,14 @@ class Reading(unittest.TestCase):
         market = explain.market_of(term())
         for student, section, words, wanted in (
             ("n.jones", "FNCE-601-A", ("held",), ["You have FNCE-601-A: your bundle of the second stage has it, and so has your final one."]),
-            ("n.jones", "HCMG-841-A", ("held",), ["Your bundle of the second stage had HCMG-841-A: you gave it up"]),
+            ("n.jones", "HCMG-841-A", ("held",), ["Your bundle of the second stage had HCMG-841-A, and your final one has not."]),
             ("y.chen", "COMM-620-A", ("beside", "credits"), [
                 "You won COMM-620-A in the aftermarket; this is why you did not have it before.",
-                "(These answers speak of the second stage, in which you had FNCE-601-A, MGMT-691-B and HCMG-841-A. ",
+                "(In the second stage you had FNCE-601-A, MGMT-691-B and HCMG-841-A. ",
                 "Together with what your budget bought in the second stage it would pass your cap of 10 credits.",
             ]),
             ("n.jones", "FNCE-601-B", ("clash", "FNCE-601-A"), [
-                "(These answers speak of the second stage, in which you had ACCT-611-B, FNCE-601-A and HCMG-841-A. ",
+                "(In the second stage you had ACCT-611-B, FNCE-601-A and HCMG-841-A. ",
                 "It is of the same course as FNCE-601-A, which your budget bought in the second stage.",
             ]),
         ):  # fmt: skip

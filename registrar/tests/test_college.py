@@ -8,6 +8,7 @@ import io
 import os
 import shutil
 import sys
+import types
 import unittest
 
 from registrar import program, tell
@@ -18,9 +19,10 @@ COLLEGE = os.path.join(program.TOP, "examples", "college")
 SURVEYS = ("choices", "list", "ranks", "stars")
 
 
-def load_maker():
+def load_maker() -> types.ModuleType:
     """The script that makes the exports."""
     found = importlib.util.spec_from_file_location("college_make", os.path.join(COLLEGE, "make.py"))
+    assert found is not None and found.loader is not None
     module = importlib.util.module_from_spec(found)
     sys.modules[found.name] = module
     found.loader.exec_module(module)
@@ -70,7 +72,8 @@ class College(InFolder):
         """Each line that was written into the guess is needed: without it nothing is imported, and the fault names it."""
         cases = [
             ("fill down = Course | Title | Credits", "fill down =", "timetable.csv rows 5, 8-9, 23, column Credits: blank where this was expected: a number of credits, in steps of 0.5; `credits default`"),
-            ("reserved seats = all", "reserved seats =", 'column Seats: "15 (5 reserved)" where this was expected: a number of seats: this may be 15 or 10'),
+            ("reserved seats = all", "reserved seats =",
+             'column Seats: "15 (5 reserved)" where this was expected: a number of seats: this may be 15 or 10'),
             ("courses default = 5", "courses default =", "[roll] courses: blank"),
             ("says = rank", "says =", "ranks.csv, column [survey ranks] says: blank"),
             ("again = first row", "again = refuse", "choices.csv row 51, column Matriculation number"),
@@ -155,7 +158,8 @@ class College(InFolder):
 
     def assert_carried(self, held: dict[str, list[str]]) -> None:
         """Budget less prices of what is held, by the lines of the published text, and 0 where these come to more."""
-        names = {row["original"]: row["name"] for row in csv.DictReader(io.StringIO(self.read("out/names.csv"))) if row["kind"] == "section"}
+        rows = csv.DictReader(io.StringIO(self.read("out/names.csv")))
+        names = {row["original"]: row["name"] for row in rows if row["kind"] == "section"}
         lines = [line.split(" ") for line in self.read("out/published.txt").splitlines()]
         budgets = {one[1]: int(one[2]) for one in lines if one[0] == "budget"}
         prices = {one[1]: int(one[2]) for one in lines if one[0] == "price"}

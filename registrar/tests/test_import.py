@@ -215,7 +215,8 @@ class Imports(WithSchool):
         mapping = self.read("mapping.ini")
         self.write("register.csv", "Student ID,Name,Tokens,Max Credits,Max Courses\n")
         wanted = "register.csv: there are no students below the header\n"
-        self.assertEqual(self.imported(), (tell.FAULTS, wanted + "nothing is written; correct the exports, or mapping.ini, and run again\n"))
+        wanted += "nothing is written; correct the exports, or mapping.ini, and run again\n"
+        self.assertEqual(self.imported(), (tell.FAULTS, wanted))
         self.settle("file", "none.csv", "roll")
         status, told = self.imported()
         self.assertEqual((status, told.splitlines()[0]), (tell.NO_FILE, "none.csv: none.csv can not be read (No such file or directory)"))
@@ -229,7 +230,8 @@ class Imports(WithSchool):
     def test_what_is_no_mapping_is_the_one_fault(self) -> None:
         mapping = self.read("mapping.ini")
         for old, new, wanted in (
-            ("[catalogue]", "[catalogue]\nstudent = a\nstudent = b", "row 7: this is no mapping: [catalogue] has the option student already"),
+            ("[catalogue]", "[catalogue]\nstudent = a\nstudent = b",
+             "row 7: this is no mapping: [catalogue] has the option student already"),
             ("[catalogue]", "[catalogue]\na stray line", "row 6: this is no mapping: this line is no option"),
             ("[catalogue]", "[catalogue]\n[catalogue]", "row 6: this is no mapping: the section [catalogue] stands there already"),
             ("[catalogue]", "a = b", "row 5: this is no mapping: no section in brackets stands above this line"),

@@ -262,7 +262,8 @@ class Reasons(InFolder):
         ]
         roll = [f"p{i},100,{dice.randint(3, 9)},{dice.randint(1, 3)}" for i in range(self.STUDENTS)]
         wishes = [
-            f"rate p{i} S{j} {dice.choice((0, dice.randint(1, 100)))}" for i in range(self.STUDENTS) for j in range(self.SECTIONS) if dice.random() < 0.7
+            f"rate p{i} S{j} {dice.choice((0, dice.randint(1, 100)))}"
+            for i in range(self.STUDENTS) for j in range(self.SECTIONS) if dice.random() < 0.7
         ]
         wishes += [f"pair p{i} S0 S{dice.randint(1, 7)} {dice.choice((-150, 20))}" for i in range(self.STUDENTS)]
         self.put("catalogue.csv", "section,course,seats,credits,meetings,parts\n" + "\n".join(sections) + "\n")

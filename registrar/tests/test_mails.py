@@ -4,9 +4,12 @@ from __future__ import annotations
 
 import email
 import email.policy
+import functools
 import os
 import unittest
 from email.headerregistry import Address
+from email.message import EmailMessage
+from typing import Callable, cast
 
 from registrar import mails, register, tell
 from registrar.faults import Faults
@@ -28,6 +31,21 @@ TEMPLATE = (
 )
 
 
+def read(written: bytes) -> EmailMessage:
+    """A mail as a mail program reads it."""
+    return cast(EmailMessage, email.message_from_bytes(written, policy=email.policy.default))
+
+
+def in_brackets(name: str) -> str:
+    """What stands for the value of a field."""
+    return f"({name})"
+
+
+def text_of(mail: EmailMessage) -> str:
+    """The text of a mail."""
+    return str(cast(EmailMessage, mail.get_body()).get_content())
+
+
 class WithMails(WithTerm):
     """A test that writes mails for examples/term."""
 
@@ -40,10 +58,10 @@ class WithMails(WithTerm):
         chosen = ("--student", "n.jones", "--student", "r.grant")
         return say("lists", "--mapping", "mapping.ini", "--mail", "mail.txt", "--out", "lists", *chosen, *words)
 
-    def mail(self, name: str) -> email.message.EmailMessage:
-        """A mail as a mail program reads it."""
+    def mail(self, name: str) -> EmailMessage:
+        """A mail that was written, as a mail program reads it."""
         with open(f"lists/mails/{name}.eml", "rb") as file:
-            return email.message_from_bytes(file.read(), policy=email.policy.default)
+            return read(file.read())
 
     def called(self, name: str, row: str) -> None:
         """Gives a student another row in the register."""
@@ -67,7 +85,7 @@ class Mails(WithMails):
         self.assertEqual(mail["Reply-To"], "desk@school.example")
         self.assertEqual(mail["Subject"], "Your sections, N.JONES Ünal")
         self.assertNotIn("Date", mail)
-        text = mail.get_body().get_content()
+        text = text_of(mail)
         self.assertIn("Dear N.JONES Ünal (n.jones, ", text)
         # GUIDE, "What is carried over": 851 + 1942 + 2137 of 4542.
         self.assertIn("{credits}: ", text)
@@ -126,6 +144,7 @@ class Mails(WithMails):
 class Attacks(WithMails):
     """A name is a name, whatever stands in it. One case goes through the command, the others through what it calls."""
 
+    post: mails.Post
     ADDRESSES = ["n.jones@school.example"]
     HEAD = ["From", "To", "Reply-To", "Subject", "X-Unsent", "MIME-Version", "Content-Type"]
 
@@ -140,15 +159,15 @@ class Attacks(WithMails):
     def written(self, row: str) -> bytes:
         """The mail of n.jones, who has this row in the register."""
         self.assertEqual(self.faults(row), [])
-        values = {name: (lambda name=name: f"({name})") for name in mails.FIELDS}
+        values: dict[str, Callable[[], str]] = {name: functools.partial(in_brackets, name) for name in mails.FIELDS}
         values["name"] = lambda: self.post.register.said("n.jones", "name")
         return mails.mail(self.post, "n.jones", values, b"rate n.jones X 1\n")
 
     def assert_one_head(self, written: bytes) -> None:
         """The head has its own lines alone, none of them long, and one address."""
-        read = email.message_from_bytes(written, policy=email.policy.default)
-        self.assertEqual(list(read.keys()), self.HEAD)
-        self.assertEqual([one.addr_spec for one in read["To"].addresses], self.ADDRESSES)
+        mail = read(written)
+        self.assertEqual(list(mail.keys()), self.HEAD)
+        self.assertEqual([one.addr_spec for one in mail["To"].addresses], self.ADDRESSES)
         head = written.split(b"\r\n\r\n")[0]
         self.assertLessEqual(max(len(line) for line in head.split(b"\r\n")), 78)
         self.assertNotIn(b"evil", head)
@@ -181,7 +200,7 @@ class Attacks(WithMails):
 
     def test_a_name_s_braces_are_no_field(self) -> None:
         written = self.written("n.jones;{budget};n.jones@school.example;Law")
-        text = email.message_from_bytes(written, policy=email.policy.default).get_body().get_content()
+        text = text_of(read(written))
         self.assertIn("Dear {budget} ((student), Law)", text)
 
     def test_control_signs_are_refused(self) -> None:

@@ -140,6 +140,7 @@ class Counted(Asked):
 
     def test_a_rating_of_0_in_a_long_sheet(self) -> None:
         status, told = self.survey("section = s\nvalue = v\nsays = rating\n", "id,s,v\na,A-1,0\na,B-1,4\n")
+        self.assertEqual(status, 0, told)
         self.assertIn("w.csv: 2 rows, 1 taken, 1 not: 1 with a rating of 0, which says nothing", told)
 
     def test_respondents_off_the_roll(self) -> None:
@@ -179,11 +180,14 @@ class Submissions(Asked):
         cases = [
             (self.LONG.replace("time = t\n", "again = last\n"), self.TWICE, "[survey w] time: blank"),
             (self.LONG.replace("time = t\n", "again = last row\n"), self.TWICE, "[survey w] submission: blank"),
-            (self.LONG + "again = last\n", "id,s,v,t\na,A-1,5,3/4/2026\na,B-1,4,4/3/2026\na,A-2,4,4/3/2026\n", 'dates: blank where this was expected: day first or month first: "3/4/2026" does not tell'),
+            (self.LONG + "again = last\n", "id,s,v,t\na,A-1,5,3/4/2026\na,B-1,4,4/3/2026\na,A-2,4,4/3/2026\n",
+             'dates: blank where this was expected: day first or month first: "3/4/2026" does not tell'),
             (self.LONG + "again = last\n", "id,s,v,t\na,A-1,5,2026-11-01 8:00\na,B-1,4,2026-11-01 8:01\na,A-2,4,2026-11-01 8:02\n", "the time differs in each row of a student"),
             (self.LONG + "again = last\n", "id,s,v,t\na,A-1,5,2026-11-01 8:00:01\na,B-1,4,2026-11-01 8:00:01\na,A-2,4,2026-11-01 8:00:02\n", "rows 2 and 4 of a are less than a minute apart, and of different sections"),
-            (self.LONG + "again = last\n", "id,s,v,t\na,A-1,5,yesterday\na,B-1,4,2026-11-01\na,A-2,4,2026-11-01\n", '"yesterday" where this was expected: a time, as'),
-            (self.LONG + "again = last\nsubmission = u\n", "id,s,v,t,u\na,A-1,5,2026-11-01,1\na,B-1,4,2026-11-01,2\n", "a time of its own: rows 2 and 3 of a have the same"),
+            (self.LONG + "again = last\n", "id,s,v,t\na,A-1,5,yesterday\na,B-1,4,2026-11-01\na,A-2,4,2026-11-01\n",
+             '"yesterday" where this was expected: a time, as'),
+            (self.LONG + "again = last\nsubmission = u\n", "id,s,v,t,u\na,A-1,5,2026-11-01,1\na,B-1,4,2026-11-01,2\n",
+             "a time of its own: rows 2 and 3 of a have the same"),
         ]  # fmt: skip
         for options, text, wanted in cases:
             with self.subTest(wanted):
@@ -218,7 +222,8 @@ class Times(unittest.TestCase):
     def test_what_is_read(self) -> None:
         """Seconds since 1970 by `date -u -d .. +%s`."""
         cases = [
-            ("2026-11-10 10:05:12", "", 1794305112), ("2026/11/10 10:05:12 AM GMT+1", "", 1794301512), ("2026-11-10T10:05:12Z", "", 1794305112),
+            ("2026-11-10 10:05:12", "", 1794305112), ("2026/11/10 10:05:12 AM GMT+1", "", 1794301512),
+            ("2026-11-10T10:05:12Z", "", 1794305112),
             ("11/10/2026 3:05:00 PM", "month first", 1794323100), ("11/10/2026 15:05", "day first", 1791731100),
             ("10.11.2026 15:05", "day first", 1794323100), ("10 Nov 2026 15:05", "", 1794323100), ("Nov 10, 2026, 3:05 PM", "", 1794323100),
             ("2026-11-10 12:30 am", "", 1794270600), ("11/10/26", "month first", 1794268800), ("46336.5", "", 46336.5),

@@ -55,13 +55,16 @@ class Folder(InFolder):
 
     def test_each_fault_is_told_with_its_file_and_line(self) -> None:
         cases = [
-            ("b.session", "rate b B-1 5\nrate a.b B-1 5\n", 'forms/b.session row 2: "a.b" where this was expected: lines of b alone, whose file this is by its name'),
+            ("b.session", "rate b B-1 5\nrate a.b B-1 5\n",
+             'forms/b.session row 2: "a.b" where this was expected: lines of b alone, whose file this is by its name'),
             ("b (1).session", "rate b B-1 5\n", 'forms/b (1).session: "b" where this was expected: one file of each student'),
             ("zz.session", "rate zz B-1 5\n", 'forms/zz.session: "zz" where this was expected: a student of the roll'),
             ("D00.session", "rate b B-1 5\n", "forms/D00.session"),
             ("notes.txt", "x", "forms/notes.txt: a file named like `*.session`, the * standing for the student"),
-            ("b.session", "rate b B-1 5\nclose\nrate b C-1 1\n", 'forms/b.session row 2: "close" where this was expected: a line as the form saves it'),
-            ("b.session", "student,B-1\nb,5\n", "forms/b.session row 1: \"student,B-1\" where this was expected: a session; 2 of its 2 lines are none of its lines"),
+            ("b.session", "rate b B-1 5\nclose\nrate b C-1 1\n",
+             'forms/b.session row 2: "close" where this was expected: a line as the form saves it'),
+            ("b.session", "student,B-1\nb,5\n",
+             "forms/b.session row 1: \"student,B-1\" where this was expected: a session; 2 of its 2 lines are none of its lines"),
             ("b.session", "rate b B-1 101\n", '"101" where this was expected: a whole number from 0 to 100'),
             ("b.session", "pair b B-1 B-1 5\n", "two different sections"),
             ("b.session", "pair b B-1 C-1 -201\n", "a whole number from -200 to 200"),
@@ -89,14 +92,16 @@ class Folder(InFolder):
         self.write("forms/zz.session", "rate zz B-1 5\n")
         status, told = self.imported("--allow", "not-on-roll")
         self.assertEqual(status, 0, told)
-        self.assert_told(told, ("1 with the content of another file of that student", "1 of nobody on the roll", "not on the roll, left out: zz.session"))
+        left = ("1 with the content of another file of that student", "1 of nobody on the roll")
+        self.assert_told(told, (*left, "not on the roll, left out: zz.session"))
 
     def test_what_a_mapping_of_a_folder_lacks(self) -> None:
         for old, new, wanted in (
             ("folder = forms", "folder =", "[sessions forms] folder: blank"),
             ("folder = forms", "folder = none", "none can not be read"),
             ("folder = forms", "folder = forms\nfiles = x.session", "a name with one * for the student"),
-            ("[sessions forms]", "[survey forms]\nfile = c.csv\nstudent = s\nsays = rating\n[sessions forms]", "another section makes forms.session"),
+            ("[sessions forms]", "[survey forms]\nfile = c.csv\nstudent = s\nsays = rating\n[sessions forms]",
+             "another section makes forms.session"),
         ):
             with self.subTest(wanted):
                 self.write("mapping.ini", MAPPING.replace(old, new))
@@ -117,7 +122,8 @@ class Folder(InFolder):
 
     @needs_program
     def test_a_run(self) -> None:
-        self.write("settings.json", '{"seed": 1, "spread": 1, "accept": 50, "turns": 5, "tabu": 5, "patience": 5, "steps": [5], "raise": 0}\n')
+        settings = '{"seed": 1, "spread": 1, "accept": 50, "turns": 5, "tabu": 5, "patience": 5, "steps": [5], "raise": 0}\n'
+        self.write("settings.json", settings)
         self.assertEqual(self.imported()[0], 0)
         words = ["out/catalogue.csv", "out/roll.csv", "settings.json", "out/forms.session", "--text", "out/published.txt"]
         status, told = say("run", *words)

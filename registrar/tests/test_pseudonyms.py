@@ -32,7 +32,8 @@ class Drawn(InFolder):
         self.write("office/r.csv", "id\n" + "".join(f"{own}\n" for own in OWN))
         self.write("office/w.csv", "id,s,v\n12,ÖK 1,90\n12,B-1,50\nÜmit,ÖK 1,80\n=cmd(),B-1,70\nN.JONES,B-1,60\nN.JONES,ÖK 1,10\n")
         self.write("office/q.csv", "id,a,d\nN.Jones,,B-1\n12,B-1,\n")
-        self.write("settings.json", '{"seed": 1, "spread": 10, "accept": 9, "turns": 20, "tabu": 5, "patience": 5, "steps": [1, 10], "raise": 0}\n')
+        settings = '{"seed": 1, "spread": 10, "accept": 9, "turns": 20, "tabu": 5, "patience": 5, "steps": [1, 10], "raise": 0}\n'
+        self.write("settings.json", settings)
 
     def imported(self, *words: str) -> tuple[int, str]:
         """Imports into the folder `term`."""
@@ -68,6 +69,7 @@ class Drawn(InFolder):
         self.assertEqual(self.imported()[0], 0)
         self.write("office/r.csv", self.read("office/r.csv") + "new\n")
         status, told = self.imported("--replace")
+        self.assertEqual(status, 0, told)
         self.assertIn("5 drawn names, 1 of them new", told)
         self.assertEqual({own: drawn for own, drawn in self.key().items() if own != "new"}, before)
         os.remove("office/pseudonyms.csv")

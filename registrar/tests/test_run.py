@@ -30,10 +30,13 @@ REFUSED = (
     ("settings.json", "[]", ("settings.json", "no JSON object")),
     ("settings.json", SCARCE["settings.json"].replace('"seed": 1, ', ""), ('no "seed"',)),
     ("settings.json", SCARCE["settings.json"].replace('"raise"', '"rase": 1, "raise"'), ("rase",)),
-    ("settings.json", SCARCE["settings.json"].replace('"spread": 10', '"spread": 50'), ('"spread" is 50, which is out of its range', "0 to 49")),
-    ("settings.json", SCARCE["settings.json"].replace('"accept": 0', '"accept": "40"'), ('"accept" is "40", which is a text in quotes', "1000000000000")),
+    ("settings.json", SCARCE["settings.json"].replace('"spread": 10', '"spread": 50'),
+     ('"spread" is 50, which is out of its range', "0 to 49")),
+    ("settings.json", SCARCE["settings.json"].replace('"accept": 0', '"accept": "40"'),
+     ('"accept" is "40", which is a text in quotes', "1000000000000")),
     ("settings.json", SCARCE["settings.json"].replace('"raise": 0', '"raise": true'), ('"raise" is true, which is no number', "0 to 50")),
-    ("settings.json", SCARCE["settings.json"].replace("[1, 10]", "[0]"), ('"steps" is [0], which is out of its range', "an array of 1 to 16")),
+    ("settings.json", SCARCE["settings.json"].replace("[1, 10]", "[0]"),
+     ('"steps" is [0], which is out of its range', "an array of 1 to 16")),
 )
 
 

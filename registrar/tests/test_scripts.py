@@ -4,7 +4,7 @@ import os
 import shutil
 import subprocess
 import unittest
-from typing import List, Optional
+from typing import List, Optional, Tuple
 
 from registrar import program, tell
 from tests.support import MARKET, SCRIPTS, InFolder, needs_program
@@ -28,7 +28,7 @@ class Scripts(InFolder):
 
     def script(
         self, name: str, words: List[str], named: Optional[str] = None, path: Optional[str] = None, scripts: str = SCRIPTS
-    ) -> subprocess.CompletedProcess:
+    ) -> "subprocess.CompletedProcess[str]":
         """Calls a script, with another program, another search path, or from another folder of scripts."""
         there = dict(os.environ)
         if named is not None:
@@ -49,6 +49,12 @@ class Scripts(InFolder):
         for name in ("examples", "program", "registrar"):
             self.assertEqual(self.script(name, ["--help"]).returncode, 0)
 
+    def test_a_closed_output(self) -> None:
+        """Where nothing can be printed a command ends with its status all the same."""
+        words = ["sh", "-c", 'exec "$@" >&-', "", os.path.join(SCRIPTS, "registrar"), "--help"]
+        told = subprocess.run(words, capture_output=True, text=True, check=False)
+        self.assertEqual(told.returncode, 0, told.stderr)
+
     def without_program(self) -> str:
         """The scripts in a folder beside which nothing was built."""
         shutil.copytree(SCRIPTS, "top/scripts")
@@ -67,8 +73,9 @@ class Scripts(InFolder):
     def test_another_program_that_is_none(self) -> None:
         """Where COURSE_MATCH_PROGRAM names none, no other one is called: neither with words nor for the example."""
         self.put("none", "no program")
+        examples: List[Tuple[str, List[str]]] = [("check", []), ("examples", [])]
         for named in ("missing", "none", self.folder):
-            for name, words in (*FORMS.items(), ("check", []), ("examples", [])):
+            for name, words in (*FORMS.items(), *examples):
                 with self.subTest(name + named):
                     told = self.script(name, words + ["more"] if words else [], named=named)
                     self.assertEqual((told.returncode, told.stdout), (tell.NO_PROGRAM, ""))

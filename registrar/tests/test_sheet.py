@@ -98,7 +98,7 @@ class Sheets(unittest.TestCase):
     @unittest.skipUnless(sheet.has_xlsx(), "openpyxl is not installed")
     def test_a_book_is_read_as_it_was_written(self) -> None:
         path = os.path.join(self.folder.name, "book.xlsx")
-        rows = [["student", "left"], ["00123", 5], ["=1+1", 7]]
+        rows: list[list[object]] = [["student", "left"], ["00123", 5], ["=1+1", 7]]
         sheet.write_book(path, {"students: all": rows, "empty": []})
         self.assertEqual(list(sheet.read_rows(path)), [["student", "left"], ["00123", "5"], ["=1+1", "7"]])
         with self.assertRaises(sheet.SheetFault) as told:

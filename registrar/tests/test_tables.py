@@ -3,6 +3,7 @@
 import os
 import tempfile
 import unittest
+from typing import List
 
 from registrar import own_names, program, published, tables, tell
 
@@ -20,7 +21,8 @@ class Guarded(unittest.TestCase):
             with self.subTest(text):
                 self.assertEqual(tables.guarded(text), there)
                 self.assertEqual(tables.unguarded(there), text)
-        self.assertEqual(tables.sheet_text([["a", "b"], ["=1+1", -5], ['x,"y"', "é\nz"]]), "a,b\r\n'=1+1,-5\r\n\"x,\"\"y\"\"\",\"é\nz\"\r\n")
+        rows: List[List[object]] = [["a", "b"], ["=1+1", -5], ['x,"y"', "é\nz"]]
+        self.assertEqual(tables.sheet_text(rows), "a,b\r\n'=1+1,-5\r\n\"x,\"\"y\"\"\",\"é\nz\"\r\n")
 
     def test_names_come_back(self) -> None:
         """A student's own number that begins with a sign is read from names.csv as it was."""
@@ -51,7 +53,8 @@ class Reading(unittest.TestCase):
 
     def test_a_text_of_unknown_names(self) -> None:
         """Whoever reads a text that was not checked meets no name without a price or a budget."""
-        lines = ["course-match 1", "order", "budget u 5", "start X 0", "error 0", "price X 0", "bundle u [X] *", "final u [X]", "used X 1 1", "end"]
+        lines = ["course-match 1", "order", "budget u 5", "start X 0", "error 0", "price X 0", "bundle u [X] *", "final u [X]"]
+        lines += ["used X 1 1", "end"]
         for old, new, wanted in (("final u [X]", "final u [Z]", "the section Z"), ("bundle u [X]", "bundle w [X]", "the student w")):
             with tempfile.TemporaryDirectory() as folder, self.subTest(new):
                 path = os.path.join(folder, "text")

@@ -74,7 +74,8 @@ class AtOnce(InFolder):
         for name in TERM_WORDS:
             shutil.copy(os.path.join(TERM, name), name)
         # No prices have the error 0, so that each run goes on until a test ends it.
-        self.put("settings.json", self.read("settings.json").replace('"accept": 60', '"accept": 0').replace('"turns": 120', '"turns": 10000'))
+        settings = self.read("settings.json").replace('"accept": 60', '"accept": 0').replace('"turns": 120', '"turns": 10000')
+        self.put("settings.json", settings)
         self.put("published.txt", "the last good text\n")
 
     def begun(self, *words: str) -> tuple[subprocess.Popen[str], int]:
@@ -163,9 +164,16 @@ class Targets(InFolder):
             "link.txt": "a symbolic link", "dangling.txt": "a symbolic link", "folder.txt": "a folder", "pipe.txt": "a pipe",
             "protected.txt": "protected against writing", "/dev/full": "a device",
         }  # fmt: skip
+
+        def alone(target: str) -> None:
+            whole.write_whole(target, b"new")
+
+        def beside_another(target: str) -> None:
+            whole.write_all({"other.txt": b"new", target: b"new"})
+
         for target in self.targets():
             before = os.lstat(target)
-            for write in (lambda one: whole.write_whole(one, b"new"), lambda one: whole.write_all({"other.txt": b"new", one: b"new"})):
+            for write in (alone, beside_another):
                 with self.subTest(target), self.assertRaises(tell.Trouble) as caught:
                     write(target)
                 self.assertEqual(str(caught.exception), f"{target} can not be written: it is {words[target]}")
@@ -263,7 +271,8 @@ def has_small_disk() -> bool:
     """Whether a test may have a disk of its own here."""
     if not shutil.which("unshare"):
         return False
-    return subprocess.run(["unshare", "-rm", "mount", "-t", "tmpfs", "none", "/mnt"], check=False, stderr=subprocess.DEVNULL).returncode == 0
+    words = ["unshare", "-rm", "mount", "-t", "tmpfs", "none", "/mnt"]
+    return subprocess.run(words, check=False, stderr=subprocess.DEVNULL).returncode == 0
 
 
 @needs_program
