@@ -8,7 +8,7 @@
 // the tree is the same.
 
 import { encoded } from './bytes.js';
-import { eachCommand } from './lines.js';
+import { LINE_FEED, commandsIn, eachCommand, firstWords } from './lines.js';
 
 /** The greatest budget that a roll can give to one student alone. */
 export const MOST_BASE = 900000;
@@ -17,21 +17,20 @@ export const MOST_BASE = 900000;
 const LAST_SESSION = 64;
 
 const SETTINGS = encoded('{"seed":0,"spread":0,"accept":0,"turns":0,"tabu":1,"patience":1,"steps":[1],"raise":0}');
-const WITH_MARK = new TextDecoder('utf-8', { ignoreBOM: true });
+
+/** The comment that comes first, so that no line stands where a byte order mark is dropped. */
+const HEAD = encoded('# The lines of one student.\n');
 
 /**
- * The lines of a session that are commands, in their order, each with its bytes (without the line feed) and its words.
- * A byte order mark at the beginning of the session belongs to no line.
+ * The lines of a session that are commands, in their order, without the line feed. A byte order mark at the beginning
+ * of the session belongs to no line.
  * @param {Uint8Array} bytes
- * @returns {{ bytes: Uint8Array, words: string[] }[]}
+ * @returns {Uint8Array[]}
  */
 export function commandLines(bytes) {
-  /** @type {{ bytes: Uint8Array, words: string[] }[]} */
+  /** @type {Uint8Array[]} */
   const found = [];
-  eachCommand(bytes, (from, to) => {
-    const line = bytes.subarray(from, to);
-    found.push({ bytes: line, words: WITH_MARK.decode(line).replace(/\r$/, '').split(/[ \t]+/).filter(Boolean) });
-  });
+  eachCommand(bytes, (from, to) => found.push(bytes.subarray(from, to)));
   return found;
 }
 
@@ -45,25 +44,25 @@ export function namedIn(bytes) {
   /** @type {Map<string, number>} */
   const names = new Map();
   let others = 0;
-  for (const { words } of commandLines(bytes)) {
-    if (['rate', 'pair', 'clear'].includes(words[0]) && words[1]) names.set(words[1], (names.get(words[1]) ?? 0) + 1);
+  eachCommand(bytes, (from, to) => {
+    const { first, second } = firstWords(bytes, from, to);
+    if (['rate', 'pair', 'clear'].includes(first) && second) names.set(second, (names.get(second) ?? 0) + 1);
     else others++;
-  }
+  });
   return { names, others };
 }
 
 /**
- * A session of lines, byte for byte. The comment comes first so that no line stands where a byte order mark is dropped.
+ * A session of lines, byte for byte, behind the comment.
  * @param {Uint8Array[]} lines
  */
 export function sessionOf(lines) {
-  const head = encoded('# The lines of one student.\n');
-  const all = new Uint8Array(lines.reduce((sum, it) => sum + it.length + 1, head.length));
-  all.set(head);
-  let at = head.length;
+  const all = new Uint8Array(lines.reduce((sum, it) => sum + it.length + 1, HEAD.length));
+  all.set(HEAD);
+  let at = HEAD.length;
   for (const it of lines) {
     all.set(it, at);
-    all[at + it.length] = 10;
+    all[at + it.length] = LINE_FEED;
     at += it.length + 1;
   }
   return all;
@@ -76,28 +75,64 @@ export function sessionOf(lines) {
  * @returns {Said}
  */
 export function saidIn(bytes, name) {
-  const lines = commandLines(bytes).filter(({ words }) => words[1] === name).map(it => it.bytes);
+  /** @type {Uint8Array[]} */
+  const lines = [];
+  eachCommand(bytes, (from, to) => {
+    if (firstWords(bytes, from, to).second === name) lines.push(bytes.subarray(from, to));
+  });
   return { bytes: sessionOf(lines), count: lines.length };
 }
 
 /**
- * The lines of each student among all sessions, in the order of the text, up to the first `close`.
+ * The lines of each student among all sessions, in the order of the text, up to the first `close`. All lie in one piece
+ * of memory, which goes from the worker to the page as one.
  * @param {number[]} order the number of a session, from 1, for each command
  * @param {Uint8Array[]} sessions
  * @returns {Map<string, Said>}
  */
 export function saidByAll(order, sessions) {
-  const left = sessions.map(commandLines), at = sessions.map(() => 0);
-  /** @type {Map<string, Uint8Array[]>} */
-  const lines = new Map();
-  for (const it of order) {
-    const { bytes, words } = left[it - 1][at[it - 1]++];
-    if (words.length === 1 && words[0] === 'close') break;
-    if (words[1] === undefined) continue;
-    if (!lines.has(words[1])) lines.set(words[1], []);
-    lines.get(words[1]).push(bytes);
+  const commands = sessions.map(commandsIn);
+  /** @type {Map<string, { count: number, size: number, at: number }>} */
+  const students = new Map();
+  const each = (/** @type {(name: string, line: Uint8Array) => void} */ take) => {
+    const at = sessions.map(() => 0);
+    for (const it of order) {
+      const number = at[it - 1]++, bytes = sessions[it - 1];
+      const from = commands[it - 1].from[number], to = commands[it - 1].to[number];
+      const { first, second } = firstWords(bytes, from, to);
+      if (first === 'close' && second === undefined) break;
+      if (second !== undefined) take(second, bytes.subarray(from, to));
+    }
+  };
+  each((name, line) => {
+    const of = students.get(name) ?? { count: 0, size: HEAD.length, at: 0 };
+    students.set(name, { count: of.count + 1, size: of.size + line.length + 1, at: 0 });
+  });
+  return filled(students, each);
+}
+
+/**
+ * The lines of students, each behind the head of its own session.
+ * @param {Map<string, { count: number, size: number, at: number }>} students how much each has
+ * @param {(take: (name: string, line: Uint8Array) => void) => void} each tells the lines
+ * @returns {Map<string, Said>}
+ */
+function filled(students, each) {
+  const all = new Uint8Array([...students.values()].reduce((sum, it) => sum + it.size, 0));
+  let end = 0;
+  for (const it of students.values()) {
+    all.set(HEAD, end);
+    it.at = end + HEAD.length;
+    end += it.size;
   }
-  return new Map([...lines].map(([name, said]) => [name, { bytes: sessionOf(said), count: said.length }]));
+  each((name, line) => {
+    const of = students.get(name);
+    all.set(line, of.at);
+    of.at += line.length + 1;
+    all[of.at - 1] = LINE_FEED;
+  });
+  return new Map([...students].map(([name, { count, size, at }]) =>
+    [name, { bytes: all.subarray(at - size, at), count }]));
 }
 
 /**

@@ -3,23 +3,41 @@
 
 import { code, el, opening, p } from './elements.js';
 import { demandedWith, linesInText } from './one_student.js';
-import { raisedBudget } from './reckoning.js';
+import { priceOf, raisedBudget } from './reckoning.js';
 import { CAUSES } from './signs.js';
-import { sections, stageName, studentName, tokens } from './stage_words.js';
+import { grouped, sections, stageName, studentName, tokens } from './stage_words.js';
+import { linesOf } from './texts.js';
 import { weekView } from './week_view.js';
+import { shortList } from './wording.js';
 import { findingWords } from './words.js';
 import { work } from './work.js';
 
 /**
- * What a student holds in the end, and its week.
- * @param {Market} market @param {number} student
+ * What a student holds in the end, with its prices, and its week.
+ * @param {Market} market
+ * @param {number} student
  */
 export function heldWeek(market, student) {
   const held = market.text.finals[student], name = studentName(market, student);
   const shown = (/** @type {string} */ it) => market.spelling.shown('section', it);
   return el('div', { class: 'held' },
-    el('p', { class: 'holds' }, `In the end ${name} holds `, el('b', {}, sections(market, held)), '.'),
+    el('p', { class: 'holds' }, `In the end ${name} holds `, el('b', {}, sections(market, held)),
+      heldPrices(market, student)),
     held.length ? weekView(held.map(it => market.sectionOf.get(it)), `The week of ${name}`, shown) : null);
+}
+
+/**
+ * The prices of what a student holds in the end, and of which budget they are: of the raised one, where the aftermarket
+ * changed what it holds.
+ * @param {Market} market @param {number} student
+ */
+export function heldPrices(market, student) {
+  const held = market.text.finals[student], budget = market.text.budgets[student], { raise } = market.settings;
+  if (!held.length) return '.';
+  const isChanged = held.join() !== market.text.bundles[student].names.join();
+  const of = isChanged ? `${tokens(raisedBudget(market, student))} in the aftermarket (${grouped(budget)} raised by `
+    + `${raise} percent)` : tokens(budget);
+  return `, prices together ${grouped(priceOf(market, held))} of ${of}.`;
 }
 
 /**
@@ -29,20 +47,26 @@ export function heldWeek(market, student) {
 export async function answerNodes(market, student, judged) {
   const wrong = judged.find(it => it.finding), unjudged = judged.find(it => it.unjudged);
   if (wrong) return wrongNodes(market, student, judged, wrong);
-  if (!unjudged) return [lead('right', yesWords(market, student)), basisPart(market, student, judged)];
+  const yes = yesWords(market, student, judged.length > 1);
+  if (!unjudged) return [lead('right', yes), basisPart(market, student, judged)];
   const whole = market.isOwn ? '' : ' The check of the whole text holds for it.';
-  return [lead('open', `Not judged alone: ${stageName(unjudged).toLowerCase()}.`), p(unjudged.unjudged + whole)];
+  const title = `No answer: the ${stageName(unjudged).toLowerCase()} was not judged.`;
+  return [lead('open', title), p(unjudged.unjudged + whole)];
 }
 
 /** @param {string} kind @param {...any} children */
 const lead = (kind, ...children) => el('p', { class: `lead ${kind}` }, ...children);
 
-/** @param {Market} market @param {number} student */
-function yesWords(market, student) {
+/**
+ * That nothing better was to be had: of each budget that the student had.
+ * @param {Market} market @param {number} student @param {boolean} hasTurns
+ */
+export function yesWords(market, student, hasTurns) {
   const budget = tokens(market.text.budgets[student]), wishes = market.wishes.get(market.roll[student].name);
   const hasRated = [...wishes?.ratings.values() ?? []].some(it => it > 0);
-  return hasRated ? `Yes: at these prices nothing better was to be had for ${budget}.`
-    : `${studentName(market, student)} rated nothing, so nothing was to be had for its ${budget}.`;
+  if (!hasRated) return `${studentName(market, student)} rated nothing, so nothing was to be had for its ${budget}.`;
+  const later = hasTurns ? `, nor at its turns in the aftermarket for ${grouped(raisedBudget(market, student))}` : '';
+  return `Yes: at these prices nothing better was to be had for ${budget}${later}.`;
 }
 
 /**
@@ -67,7 +91,8 @@ function saidByProgram(market, student, judged) {
   const turns = judged.length - 1, at = turns === 1 ? 'its turn' : `each of its ${turns} turns`;
   return [
     market.isOwn
-      ? 'of the whole text: its form, and that each budget is the one that the roll, the settings and the draw give;'
+      ? 'of the whole text: that each line has its due form, and that each budget is the one that the roll, the '
+        + 'settings and the draw give;'
       : 'of the whole text, with all sessions: it holds;',
     `of ${studentName(market, student)} alone, by its own lines, its budget and the printed prices: the bundle of the `
       + `second stage is the best that ${tokens(judged[0].budget)} buy, and the signs beside it prove so;`,
@@ -87,7 +112,7 @@ const saidByPage = market => [
 
 const UNKNOWN = [
   'what others said, and so whether their bundles are their best, the clearing error, and envy;',
-  'whether these are the lines that the desk took.',
+  'whether these are all the lines that the school took.',
 ];
 
 /**
@@ -98,18 +123,46 @@ async function wrongNodes(market, student, judged, wrong) {
   const isTree = / tree \w+ at /.test(wrong.finding) && !wrong.pass;
   const asked = isTree ? await demandedWith(work, market, student, { budget: wrong.budget }) : null;
   const best = asked && 'demanded' in asked ? asked.demanded : null;
+  const line = lineOf(market, student, wrong), { name } = market.parts.text;
+  const isSigns = best?.names.join() === wrong.names.join();
   const others = judged.filter(it => it.finding && it !== wrong).map(it => stageName(it).toLowerCase());
   return [
     lead('wrong', wrongTitle(market, wrong, best)),
+    p(isSigns ? signsAdvice(line, name) : ownAdvice(market, line)),
     p(`The text gives ${sections(market, wrong.names)}. ${findingWords(wrong.finding)}`),
-    others.length ? p(`Nor do these hold: ${others.join('; ')}.`) : null,
+    others.length ? p(`Nor are these right: ${others.join('; ')}.`) : null,
     p('One of these may be the cause:'), el('ul', {}, possibleCauses(market).map(it => el('li', {}, it))),
   ];
 }
 
+/**
+ * The number of the line of the text that has the bundle of a stage.
+ * @param {Market} market @param {number} student @param {{ pass: number }} stage
+ */
+export function lineOf({ roll, catalogue, text }, student, { pass }) {
+  const at = linesOf(roll.length, catalogue.length, text.turns.length);
+  const turn = pass && text.turns.find(it => it.student === student && it.pass === pass);
+  return turn ? at.turns + turn.number : at.bundles + student;
+}
+
+/** @param {number} line @param {string} text the text's name */
+const signsAdvice = (line, text) => `These signs stand in line ${line} of ${text}. Take ${text} anew from the school; `
+  + `if the line is the same there, tell the school: line ${line} of ${text}.`;
+
+/**
+ * What to do first where by these lines the answer is no.
+ * @param {Market} market @param {number} line
+ */
+function ownAdvice({ isOwn, files, parts }, line) {
+  const { name } = parts.text, own = files.filter(it => !Object.values(parts).includes(it)).map(it => it.name);
+  const tell = `tell the school: line ${line} of ${name}.`;
+  return isOwn ? `First compare ${shortList(own)} with what you told the school: one rating that differs is enough for `
+    + `this answer. If each line is right, ${tell}` : `If the files are those of the school, ${tell}`;
+}
+
 /** @param {Market} market @param {JudgedStage} wrong @param {Demanded | null} best */
 function wrongTitle(market, { budget, names, ...stage }, best) {
-  if (!best) return `No: the ${stageName(stage).toLowerCase()} does not hold by these lines.`;
+  if (!best) return `No: by these lines the bundle of the ${stageName(stage).toLowerCase()} is not right.`;
   return best.names.join() === names.join()
     ? `The bundle is the best that ${tokens(budget)} buy, but the signs beside it do not prove it.`
     : `No: by these lines and prices a better bundle was to be had for ${tokens(budget)}: `

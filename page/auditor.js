@@ -5,7 +5,7 @@ import { bar, button, el, namesCell, opening, p, part } from './elements.js';
 import { envyPart } from './envy.js';
 import { KINDS } from './files.js';
 import { tableOf } from './grid.js';
-import { errorOf, menuOf, priceOf, worthOf } from './reckoning.js';
+import { errorOf, priceOf } from './reckoning.js';
 import { meetingWords } from './tables.js';
 import { changesOf } from './texts.js';
 import { plural, timed } from './wording.js';
@@ -86,14 +86,10 @@ const linkTo = (name, show) => button(name, () => show(name), { class: 'link' })
 /** @param {Market} market @param {ShowStudent} show */
 function studentTable(market, show) {
   const { text, roll } = market;
-  const rows = roll.map((it, at) => {
-    const menu = menuOf(market, at);
-    const worth = (/** @type {string[]} */ names) => worthOf(menu, names.map(name => menu.of.get(name)));
-    const second = text.bundles[at].names, end = text.finals[at];
-    return {
-      name: it.name, budget: text.budgets[at], spent: priceOf(market, second), rated: menu.places.length,
-      second, worth: worth(second), end, endWorth: worth(end),
-    };
+  const rows = roll.map(({ name, at }) => {
+    const second = text.bundles[at].names, end = text.finals[at], { rated, ...worths } = market.worths[at];
+    const budget = text.budgets[at], spent = priceOf(market, second);
+    return { name, budget, spent, rated, second, worth: worths.second, end, endWorth: worths.end };
   });
   const words = (/** @type {string[]} */ names) => names.join(', ') || 'nothing';
   return tableOf('Students: budgets and bundles', [
@@ -142,7 +138,8 @@ function budgetsPart(market) {
   const picture = drawn('svg', { viewBox: `0 0 ${wide} ${high}`, class: 'chart', 'aria-hidden': 'true' },
     drawn('line', { x1: side, y1: high - 25, x2: wide - 5, y2: high - 25 }),
     drawn('line', { x1: side, y1: 10, x2: side, y2: high - 25 }),
-    ...budgets.map((it, at) => drawn('circle', { cx: across(at), cy: up(it), r: radius })),
+    drawn('path', { d: budgets.map((it, at) => `M${across(at).toFixed(1)} ${up(it).toFixed(1)}h0`).join(''),
+      'stroke-width': 2 * radius }),
     label(side - 6, up(least), String(least)), label(side - 6, up(most) + 8, String(most)),
     label(side, high - 6, 'least budget', 'start'), label(wide - 8, high - 6, 'greatest budget'));
   return [p('The budgets of the second stage, before the raise, a dot for each student: '

@@ -16,7 +16,19 @@ export const encoded = text => new TextEncoder().encode(text);
  * Whether two arrays of bytes are the same.
  * @param {Uint8Array} one @param {Uint8Array} other
  */
-export const isSame = (one, other) => one.length === other.length && one.every((it, at) => it === other[at]);
+export function isSame(one, other) {
+  if (one.length !== other.length) return false;
+  for (let at = 0; at < one.length; at++) if (one[at] !== other[at]) return false;
+  return true;
+}
+
+/**
+ * An answer with its text, which is decoded where it is read: a published text is long, and mostly its bytes are saved.
+ * @param {Omit<Answer, 'text'>} answer @returns {Answer}
+ */
+export const withText = answer => ({
+  ...answer, get text() { return new TextDecoder('utf-8', { ignoreBOM: true }).decode(answer.out); },
+});
 
 /**
  * The SHA-256 of bytes, in hexadecimal digits; null where the browser computes none (of a page that came by http).

@@ -1,21 +1,30 @@
 // Checks a text, and puts together what the views show of one that holds.
 
-import { hashOf } from './bytes.js';
 import { callOf } from './program.js';
-import { orderOf, possibleOrders } from './wishes.js';
+import { wishesBy } from './wishes.js';
 import { read, work } from './work.js';
 
 const MOST_ORDERS = 24;
 
 /**
- * Checks the text, with the sessions in the orders that the text allows, until one is accepted or the most are tried.
+ * The orders of the sessions that the text allows, one more than are tried; where there is none, whether these are the
+ * own lines of students. Null where that was stopped.
  * @param {Parts} parts
- * @param {number[] | null} sizes how many commands each session has; null where a manifest says the order
+ * @returns {Promise<{ orders: number[][], areOwn: boolean } | null>}
+ */
+export async function ordersOf({ text, sessions }) {
+  if (!text || !sessions.length) return { orders: [], areOwn: false };
+  return read('Reading the sessions', 'orders', text.bytes, sessions.map(it => it.bytes), MOST_ORDERS + 1);
+}
+
+/**
+ * Checks the text, with the sessions in the given orders, until one is accepted or the most are tried.
+ * @param {Parts} parts
+ * @param {number[][]} orders none where the order of the sessions is known
  * @returns {Promise<Checked>}
  */
-export async function checked(parts, sizes) {
+export async function checked(parts, orders) {
   const given = parts.sessions.map((_, at) => at);
-  const orders = sizes ? possibleOrders(sizes, orderOf(parts.text.bytes), MOST_ORDERS + 1) : [];
   /** @type {Checked | undefined} */
   let first;
   for (const order of orders.length ? orders.slice(0, MOST_ORDERS) : [given]) {
@@ -26,6 +35,21 @@ export async function checked(parts, sizes) {
     if (answer.status !== 8 || /^finding: line/.test(answer.text)) break;
   }
   return first;
+}
+
+/**
+ * Computes the SHA-256 of files, of each once; null stands for that of a browser that computes none.
+ * @param {GivenFile[]} files
+ * @returns {Promise<boolean>} whether it was not stopped
+ */
+export async function summed(files) {
+  for (const it of files) {
+    if (it.sum !== undefined) continue;
+    const found = await read('Computing the sums', 'sum', it.bytes);
+    if (!found) return false;
+    it.sum = found.sum;
+  }
+  return true;
 }
 
 /** @type {Answer} */
@@ -48,30 +72,32 @@ export async function marketOf({ answer, parts }, spelling) {
   const found = await read('Reading the text, and what the students want', 'whole', parts);
   if (!found) return { refusal: stopped(parts) };
   if (found.refusal) return { refusal: found.refusal };
-  return { market: await withFiles(found.market, parts, parts.sessions, answer.ms, spelling) };
+  const market = await withFiles(found.market, parts, parts.sessions, answer.ms, spelling);
+  return market ? { market } : { refusal: stopped(parts) };
 }
 
 /**
  * What the views need of a text as far as one student can know it.
  * @param {Parts} parts @param {GivenFile[]} lines the students' own @param {Spelling} spelling the school's
- * @returns {Promise<{ market?: Market, notes?: string[], refusal?: Checked, finding?: string }>}
+ * @returns {Promise<{ market?: Market, refusal?: Checked, finding?: string }>}
  */
 export async function ownMarket(parts, lines, spelling) {
   const found = await read('Checking the text', 'own', parts, lines);
   if (!found) return { refusal: stopped(parts) };
   if (!found.market) return { refusal: found.refusal, finding: found.finding };
   const given = { ...parts, sessions: /** @type {GivenFile[]} */ ([]) };
-  return { notes: found.notes, market: await withFiles(found.market, given, lines, found.ms, spelling) };
+  const market = await withFiles(found.market, given, lines, found.ms, spelling);
+  return market ? { market } : { refusal: stopped(parts) };
 }
 
 /**
- * A market with its files, each with its sum.
+ * A market with its files, each with its sum; null where that was stopped.
  * @param {ReadMarket} market @param {Parts} parts @param {GivenFile[]} lines of the students @param {number} ms
  * @param {Spelling} spelling
- * @returns {Promise<Market>}
+ * @returns {Promise<Market | null>}
  */
-async function withFiles(market, parts, lines, ms, spelling) {
+async function withFiles({ wished, ...market }, parts, lines, ms, spelling) {
   const files = [parts.catalogue, parts.roll, parts.settings, parts.text, ...lines];
-  for (const it of files) it.sum ??= await hashOf(it.bytes);
-  return { ...market, parts, files, ms, spelling };
+  if (!await summed(files)) return null;
+  return { ...market, wishes: wishesBy(wished), parts, files, ms, spelling };
 }

@@ -4,11 +4,9 @@
 import { code, el, opening, p } from './elements.js';
 import { tableOf } from './grid.js';
 import { TAKES, boundOf, closedBy, firstUndue, losesTies, nodesOf } from './reckoning.js';
-import { leftWords, points } from './signs.js';
+import { keyOf, sign } from './sign_key.js';
+import { leftWords, pairedWorth, points } from './signs.js';
 import { listed, plural } from './wording.js';
-
-/** @param {string} symbol */
-const sign = symbol => el('span', { class: 'sign' }, symbol);
 
 /**
  * The line of one section that may not be taken, or of several.
@@ -16,9 +14,9 @@ const sign = symbol => el('span', { class: 'sign' }, symbol);
  */
 function closedLine(walk, chosen, places) {
   const words = (/** @type {number} */ it) =>
-    el('span', {}, el('b', {}, walk.menu.places[it].name), ` ${closedBy(walk, chosen, it) ?? 'may not be taken'}`);
+    el('span', {}, el('b', {}, walk.menu.places[it].shown), ` ${closedBy(walk, chosen, it) ?? 'may not be taken'}`);
   if (places.length === 1) return el('li', { class: 'closed' }, sign('-'), ' ', words(places[0]), '.');
-  const names = listed(places.map(it => walk.menu.places[it].name));
+  const names = listed(places.map(it => walk.menu.places[it].shown));
   return el('li', { class: 'closed' }, opening(
     [sign('-'.repeat(places.length)), ' ', `${places.length} sections may not be taken: ${names}`],
     () => el('ul', { class: 'plain' }, places.map(it => el('li', {}, words(it), '.')))));
@@ -53,8 +51,9 @@ function rateWords(walk, node, it) {
   const all = points(1000 * it.value + it.rate * it.left);
   return [
     p(`What is chosen is worth ${it.value}, and ${plural(it.left, `${one} is`, `${many} are`)} left. `
-      + `Say that a ${one} is worth what it is worth at ${by.name}: `
-      + `${it.by?.worth ?? 0} for ${plural(takes, one, many)}, ${points(it.rate)} a ${one}. `
+      + `Say that a ${one} is worth what it is worth at ${by.shown}: `
+      + `${it.by ? pairedWorth(by.rating, it.by.worth) : 0} for ${plural(takes, one, many)}, ${points(it.rate)} points `
+      + `a ${one}. `
       + 'Who could spend all that is left at that rate, and besides got what each course brings above it, would have '
       + 'at most'),
     el('ul', { class: 'plain' },
@@ -67,18 +66,20 @@ function rateWords(walk, node, it) {
 
 /** @param {Walk} walk @param {number[]} chosen @param {number} from @param {TreeNode} node */
 function leafLine(walk, chosen, from, node) {
-  const names = listed(chosen.map(it => walk.menu.places[it].name));
+  const names = listed(chosen.map(it => walk.menu.places[it].shown));
   if (node.symbol === '*') {
     return el('li', { class: 'champion' }, sign('*'), ` This is the bundle: ${names}, worth ${walk.worth}.`);
   }
   if (node.symbol === 'x') {
-    const why = closedBy(walk, chosen, walk.forced), { name } = walk.menu.places[walk.forced];
-    return el('li', { class: 'leaf' }, sign('x'), ` ${name} can no more be taken: it ${why}.`);
+    const why = closedBy(walk, chosen, walk.forced), { shown } = walk.menu.places[walk.forced];
+    return el('li', { class: 'leaf' }, sign('x'), ` ${shown} can no more be taken: it ${why}.`);
   }
   const most = Math.floor(boundOf(walk, chosen, from, node).bound / 1000);
   const rest = chosen.length ? `${names}, with what else may come to ${chosen.length === 1 ? 'it' : 'them'}`
     : 'All that is left';
-  const summary = ` ${rest}: worth ${most} at most, and the bundle is worth ${walk.worth}`;
+  const by = node.number === undefined ? '' : ` (${node.number} is ${walk.menu.places[node.number].shown}):`;
+  const end = most < walk.worth ? `less than the ${walk.worth} of the bundle` : 'and a tie goes to the bundle';
+  const summary = `${by} ${rest}: worth ${most} at most, ${end}`;
   return el('li', { class: 'leaf' },
     opening([sign(node.symbol + (node.number ?? '')), summary], () => boundWords(walk, chosen, from, node)));
 }
@@ -93,8 +94,8 @@ function takenLine(walk, chosen, node, place) {
   const isOnTheWay = now.every(that => walk.champion.includes(that))
     && walk.champion.every(that => that > place || now.includes(that));
   const must = node.symbol === '!' ? ', which has to be taken' : '';
-  const rest = `${must} (rating ${it.rating}, price ${it.price}): ${leftWords(walk, now)}`;
-  const summary = [sign(node.symbol), ' with ', el('b', {}, it.name), rest];
+  const rest = `${must} (place ${place}, rating ${it.rating}, price ${it.price}): ${leftWords(walk, now)}`;
+  const summary = [sign(node.symbol), ' with ', el('b', {}, it.shown), rest];
   return el('li', { class: isOnTheWay ? 'way' : '' },
     opening(summary, () => levelOf(walk, now, place + 1, node.with), isOnTheWay));
 }
@@ -118,27 +119,6 @@ function levelOf(walk, chosen, from, node) {
   return el('ul', { class: 'tree' }, lines);
 }
 
-const KEY = [
-  ['+', 'the section may be taken: below the line stands what follows with it, on the next line what follows without '
-    + 'it'],
-  ['-', 'the section may not be taken, or the sections, one sign for each'],
-  ['!', 'the section that is asked for comes next, and has to be taken'],
-  ['x', 'the section that is asked for can no more be taken'],
-  ['*', 'this is the bundle that the tree proves to be the best'],
-  ['n', 'what is chosen, with all that may still come, is no better than the bundle'],
-  ['b', 'what is chosen, with all that the tokens left can bring, is no better than the bundle; the number is the '
-    + 'place by whose worth a token is counted'],
-  ['c', 'the same with the credits left'],
-  ['m', 'the same with the number of sections left'],
-];
-
-/**
- * What the signs of a tree mean, of those that it has.
- * @param {string} text
- */
-const keyOf = text => el('ul', { class: 'plain quiet', 'aria-label': 'What the signs mean' },
-  KEY.filter(([it]) => text.includes(it)).map(([it, words]) => el('li', {}, sign(it), ` ${words}`)));
-
 /**
  * The whole drawing, with the tree's text and the table of its places. What is drawn agrees with each sign of the tree.
  * @param {Walk} walk @param {string} text
@@ -152,17 +132,18 @@ export function drawingOf(walk, text) {
       el('p', { class: 'tree-text' }, code(text)),
     ];
   }
-  const places = tableOf('The places of the tree', [
+  const places = tableOf('The places of the signs', [
     { head: 'Place', of: it => it.place },
-    { head: 'Section', of: it => it.name, isText: true },
+    { head: 'Section', of: it => it.shown, isText: true },
     { head: 'Rating', of: it => it.rating },
     { head: 'Price', of: it => it.price },
   ], walk.menu.places, { filterAt: 20 });
   return [
     p('Read from the top down. A line that opens takes its section, and shows what follows; the next line does without '
       + `it. At first ${leftWords(walk, [])}.`),
-    keyOf(text),
+    keyOf(text, walk.menu),
     levelOf(walk, [], 0, root),
-    opening('The tree as it is published, and its places', () => [el('p', { class: 'tree-text' }, code(text)), places]),
+    opening('The signs as they are published, and their places',
+      () => [el('p', { class: 'tree-text' }, code(text)), places]),
   ];
 }

@@ -1,6 +1,6 @@
 // Tells files by what stands in them, and puts those of one market together.
 
-import { decoded, hashOf } from './bytes.js';
+import { decoded } from './bytes.js';
 import { listed, shortList, visible } from './wording.js';
 
 /**
@@ -23,6 +23,9 @@ export const NEEDED = {
 
 /** What is missing where there are no sessions, in words. */
 export const SESSIONS = 'the sessions (what the students wished)';
+
+/** What a student gives in their place, in words. */
+export const OWN = 'your own lines (what you told the school; ask it for them)';
 
 const LONGEST = 2 ** 27, LONGEST_MANIFEST = 2 ** 20, MOST_SESSIONS = 64;
 
@@ -162,9 +165,9 @@ const baseName = path => String(path).split(/[\\/]/).at(-1);
 /**
  * The files that a manifest names, in its order; the faults are in words. Where somebody's own lines are there,
  * sessions may be missing.
- * @param {GivenFile} manifest @param {GivenFile[]} files
+ * @param {GivenFile} manifest @param {GivenFile[]} files with their sums
  */
-async function byManifest(manifest, files) {
+function byManifest(manifest, files) {
   const hasOwn = files.some(it => it.kind === 'own');
   const entries = entriesIn(manifest.bytes), faults = [];
   /** @type {Parts} */
@@ -180,7 +183,7 @@ async function byManifest(manifest, files) {
       faults.push(`${manifest.name} names ${base}, which is not among the files: give it, or remove ${manifest.name}.`);
       continue;
     }
-    const sum = await hashOf(named.bytes);
+    const { sum } = named;
     if (sum && sha256 && sum !== String(sha256).toLowerCase()) {
       faults.push(`${named.name} is not the file that ${manifest.name} tells of: its SHA-256 is another. `
         + `Give that file, or remove ${manifest.name}.`);
@@ -193,15 +196,15 @@ async function byManifest(manifest, files) {
 }
 
 /**
- * The parts of the market among the files; faults and lacks are in words. What a manifest names goes before what the
- * files' content tells, and its order of the sessions before that of the list; `unused` are the files of a market that
- * it does not name.
+ * The parts of the market among the files; faults and lacks are in words. What a manifest names, by the sums that the
+ * files have, goes before what the files' content tells, and its order of the sessions before that of the list;
+ * `unused` are the files of a market that it does not name.
  * @param {GivenFile[]} files
  * @param {string[]} [wanted] the kinds that must be there, besides sessions
  */
-export async function partsOf(files, wanted = Object.keys(NEEDED)) {
+export function partsOf(files, wanted = Object.keys(NEEDED)) {
   const of = (/** @type {string} */ kind) => files.filter(it => it.kind === kind), manifests = of('manifest');
-  const { found, faults } = manifests.length ? await byManifest(manifests[0], files)
+  const { found, faults } = manifests.length ? byManifest(manifests[0], files)
     : { found: /** @type {Parts} */ ({ sessions: [] }), faults: [] };
   const isByManifest = found.sessions.length > 0;
   /** @type {any} */

@@ -49,7 +49,7 @@ export function tableOf(caption, columns, rows, options = {}) {
 }
 
 /** How many rows are drawn at once. */
-const ROWS_AT_ONCE = 60;
+const ROWS_AT_ONCE = 30;
 
 /**
  * Draws the first rows, and more as the last one comes into view. What is drawn anew draws no more of what it was. All

@@ -6,7 +6,6 @@ a `clang` that keeps the module and then is the kit's. What is kept is therefore
 compiled from, whatever the time of day and whatever else the machine builds."""
 
 import hashlib
-import os
 import shutil
 import subprocess
 import sys
@@ -57,7 +56,7 @@ def view_of(kit: Path, view: Path, kept: Path) -> None:
 
 def call(words: list[str | Path], folder: Path) -> int:
     """Runs a command with what it says on standard error; answers its status."""
-    return subprocess.run(words, cwd=folder, stdin=subprocess.DEVNULL, stdout=sys.stderr).returncode
+    return subprocess.run(words, cwd=folder, stdin=subprocess.DEVNULL, stdout=sys.stderr, check=False).returncode
 
 
 def proved_module(crate: Path, room: Path) -> Path:
@@ -140,7 +139,7 @@ def built_from_libraries(crate: Path, room: Path, kept: Path) -> Path:
     words += ["--links", f"{crate.name}=", "--toolchain", f"{view}/toolchain", "--backend", "llvm"]
     program, made = room / crate.name, room / f"{crate.name}.o"
     status = call([kit / "bin/rattle", "build", *words, "-o", made], crate)
-    link = ["--target", "x86_64-unknown-linux-gnu", "--toolchain", kit / "toolchain", "-o", program, made]
+    link: list[str | Path] = ["--target", "x86_64-unknown-linux-gnu", "--toolchain", kit / "toolchain", "-o", program, made]
     status = status or call([kit / "bin/rattle-link", *link, kit / "c/libos_c.a", kit / "c/liblibc_c.a"], crate)
     shutil.rmtree(view)
     if status or not kept.is_file():

@@ -48,17 +48,17 @@ define internal <16 x i8> @byte_shuffle(<16 x i8> %bytes, <16 x i8> %places)
 )
 
 
-def run(words: list[str], **how) -> subprocess.CompletedProcess:
-    """Runs a command and stops where it fails."""
-    ran = subprocess.run(words, text=True, stdout=subprocess.PIPE, **how)
+def run(words: list[str | Path], given: str = "") -> str:
+    """Runs a command, whose input this is, and stops where it fails; answers what it prints."""
+    ran = subprocess.run(words, text=True, stdout=subprocess.PIPE, input=given, check=False)
     if ran.returncode:
         sys.exit(f"page: this failed: {' '.join(map(str, words))}")
-    return ran
+    return ran.stdout
 
 
 def data_layout(clang: Path) -> str:
     """The line of the target's data layout, as the kit's clang writes it."""
-    text = run([clang, *TARGET, "-S", "-emit-llvm", "-x", "c", "-", "-o", "-"], input="int x;").stdout
+    text = run([clang, *TARGET, "-S", "-emit-llvm", "-x", "c", "-", "-o", "-"], "int x;")
     return next(line for line in text.splitlines() if line.startswith("target datalayout"))
 
 
@@ -96,7 +96,7 @@ def retarget(clang: Path, module: Path, text: Path) -> None:
             printed,
         ]
     )
-    with open(printed) as lines, open(text, "w") as to:
+    with open(printed, encoding="utf-8") as lines, open(text, "w", encoding="utf-8") as to:
         for number, line in enumerate(lines, 1):
             line = retargeted(line.rstrip("\n"), layout)
             if "x86" in line:

@@ -4,7 +4,8 @@ import { MOST_BASE, roomOf, sessionOf } from './alone.js';
 import { encoded } from './bytes.js';
 import { callOf } from './program.js';
 import { menuOf, priceOf, raisedBudget, worthOf } from './reckoning.js';
-import { linesOf, namesOf, turnsOf } from './texts.js';
+import { grouped, tokens } from './stage_words.js';
+import { linesOf, namesOf, treeAt, turnsOf } from './texts.js';
 
 /**
  * Runs one call of the program and tells that it works.
@@ -24,11 +25,12 @@ const NOTHING_SAID = { bytes: sessionOf([]), count: 0 };
  * @returns {Stage[]}
  */
 export function stagesOf(market, student) {
-  const { bundles, budgets } = market.text, raised = raisedBudget(market, student);
+  const { bundles, budgets } = market.text, raised = raisedBudget(market, student), first = bundles[student];
+  const tree = (/** @type {PrintedBundle} */ it) => treeAt(market.parts.text.bytes, it);
   return [
-    { ...bundles[student], pass: 0, budget: budgets[student], before: [] },
-    ...turnsOf(market, student).map(({ names, tree, pass, before, free, allowed }) =>
-      ({ names, tree, pass, before, free, allowed, budget: raised })),
+    { names: first.names, tree: tree(first), pass: 0, budget: budgets[student], before: [] },
+    ...turnsOf(market, student).map(({ pass, before, free, allowed, ...turn }) =>
+      ({ names: turn.names, tree: tree(turn), pass, before, free, allowed, budget: raised })),
   ];
 }
 
@@ -47,14 +49,15 @@ export function roomOfStage(market, student, { names, tree, budget, allowed }) {
  * @param {Market} market @param {number} student
  * @returns {{ number: number, text: string }[]}
  */
-export function linesInText({ roll, catalogue, text }, student) {
+export function linesInText({ roll, catalogue, text, parts }, student) {
   const { name } = roll[student], at = linesOf(roll.length, catalogue.length, text.turns.length);
-  const bundle = (/** @type {string[]} */ names) => `[${names.join()}]`, { names, tree } = text.bundles[student];
+  const bundle = (/** @type {string[]} */ names) => `[${names.join()}]`;
+  const printed = (/** @type {PrintedBundle} */ it) => `${bundle(it.names)} ${treeAt(parts.text.bytes, it)}`;
   return [
     { number: at.budgets + student, text: `budget ${name} ${text.budgets[student]}` },
-    { number: at.bundles + student, text: `bundle ${name} ${bundle(names)} ${tree}` },
+    { number: at.bundles + student, text: `bundle ${name} ${printed(text.bundles[student])}` },
     ...text.turns.filter(it => it.student === student).map(it => (
-      { number: at.turns + it.number, text: `turn ${it.pass} ${name} ${bundle(it.names)} ${it.tree}` })),
+      { number: at.turns + it.number, text: `turn ${it.pass} ${name} ${printed(it)}` })),
     { number: at.finals + student, text: `final ${name} ${bundle(text.finals[student])}` },
   ];
 }
@@ -64,18 +67,20 @@ export function linesInText({ roll, catalogue, text }, student) {
  * @param {Stage} stage
  */
 export const unjudgedWords = ({ budget }) => budget <= MOST_BASE ? ''
-  : `The budget of ${budget} is more than a roll can give to one student alone, so the program cannot be asked.`;
+  : `The budget of ${tokens(budget)} is more than a roll can give, which is ${grouped(MOST_BASE)} at most, so the `
+    + 'program cannot be asked about this student alone.';
 
 /**
  * Has the program check a student's stages, each in a market of this student alone.
  * @param {Ask} ask
  * @param {Market} market
  * @param {number} student
+ * @param {Stage[]} [stages]
  * @returns {Promise<JudgedStage[]>}
  */
-export async function judgedStages(ask, market, student) {
+export async function judgedStages(ask, market, student, stages = stagesOf(market, student)) {
   const judged = [];
-  for (const stage of stagesOf(market, student)) {
+  for (const stage of stages) {
     const unjudged = unjudgedWords(stage);
     const call = callOf('check', roomOfStage(market, student, stage));
     judged.push({ ...stage, ...findingOf(unjudged ? null : await ask('Checking the bundles', call), unjudged) });
@@ -161,8 +166,8 @@ function withRating(market, name, section, points) {
   if (section === undefined) return market;
   /** @type {Wishes} */
   const wishes = market.wishes.get(name) ?? { ratings: new Map(), pairs: [] };
-  const ratings = new Map(wishes.ratings).set(section, points);
-  return { ...market, wishes: new Map(market.wishes).set(name, { ...wishes, ratings }) };
+  const changed = { ...wishes, ratings: new Map(wishes.ratings).set(section, points) };
+  return { ...market, wishes: { get: (/** @type {string} */ it) => it === name ? changed : market.wishes.get(it) } };
 }
 
 /**

@@ -7,7 +7,7 @@ import { callOf } from './program.js';
 import { findingWithoutRatings } from './seats_and_turns.js';
 import { catalogueIn, rollIn } from './tables.js';
 import { countsOf, publishedOf } from './texts.js';
-import { orderOf, possibleOrders, preferencesOf, repliesOf } from './wishes.js';
+import { REPLIES, orderOf, repliesOf, wishedLines } from './wishes.js';
 import { listed, plural, shortList, visible } from './wording.js';
 
 /** The findings that `check` tells before it looks at a bundle: with these a text is refused, whoever said what. */
@@ -18,13 +18,11 @@ const BEFORE_BUNDLES = /^finding: (?:line|journal|budget)/;
  * sessions, where each names one student and the text does not take so many commands.
  * @param {GivenFile[]} files
  * @param {Parts} parts
- * @param {{ size: number, isOwn: boolean }[]} sizes of each session
+ * @param {boolean} areOwn whether the sessions are so
  * @returns {GivenFile[]}
  */
-export function ownFiles(files, { text, sessions }, sizes) {
-  if (!sessions.length) return files.filter(it => it.kind === 'own');
-  if (!text || possibleOrders(sizes.map(it => it.size), orderOf(text.bytes), 1).length) return [];
-  return sizes.every(it => it.isOwn) ? sessions : [];
+export function ownFiles(files, { sessions }, areOwn) {
+  return sessions.length ? areOwn ? sessions : [] : files.filter(it => it.kind === 'own');
 }
 
 /**
@@ -46,7 +44,8 @@ export function ownLines(files, roll) {
       said.set(it, saidIn(bytes, it));
     }
     if (strange.length) {
-      notes.push(`${file} has lines of ${shortList(strange.map(visible))}, whom the roll does not have: they are left out.`);
+      notes.push(`${file} has lines of ${shortList(strange.map(visible))}, whom the roll does not have: they are left `
+        + 'out.');
     }
     const [name, is] = others > 1 ? ['name', 'are'] : ['names', 'is'];
     if (others) notes.push(`${plural(others, 'line')} of ${file} ${name} no student, and ${is} left out.`);
@@ -54,8 +53,15 @@ export function ownLines(files, roll) {
   return { said, notes };
 }
 
-const TAKEN_AS_OWN = 'The text takes other sessions than these. Each of them names one student alone, so they are '
-  + 'taken for the own lines of these students.';
+/**
+ * Why files are taken for own lines that do not say so themselves.
+ * @param {string[]} names the files'
+ */
+const takenWords = names => names.length === 1
+  ? `${names[0]} names one student alone, so it is taken for what this student told the school. The school made the `
+    + 'text from other files, which have everybody\'s lines.'
+  : `Each of ${shortList(names)} names one student alone, so it is taken for what this student told the school. The `
+    + 'school made the text from other files, which have everybody\'s lines.';
 
 /**
  * The market of whoever has its own lines alone; or the answer by which a file or the text is refused. A finding of the
@@ -63,7 +69,7 @@ const TAKEN_AS_OWN = 'The text takes other sessions than these. Each of them nam
  * @param {import('./one_student.js').Ask} ask
  * @param {Parts} parts without sessions
  * @param {GivenFile[]} lines
- * @returns {Promise<{ market?: ReadMarket, ms?: number, notes?: string[], refusal?: Checked, finding?: string }>}
+ * @returns {Promise<{ market?: ReadMarket, ms?: number, refusal?: Checked, finding?: string }>}
  */
 export async function ownMarketOf(ask, parts, lines) {
   const blank = { ...parts, sessions: blankSessions(orderOf(parts.text.bytes)) };
@@ -72,19 +78,20 @@ export async function ownMarketOf(ask, parts, lines) {
     return { refusal: { answer, call, parts: blank } };
   }
   const catalogue = catalogueIn(parts), roll = rollIn(parts), settings = JSON.parse(decoded(parts.settings.bytes));
-  const text = publishedOf(decoded(parts.text.bytes), catalogue, roll);
+  const text = publishedOf(parts.text.bytes, catalogue, roll);
   const finding = findingWithoutRatings({ text, catalogue, roll, settings });
   if (finding) return { finding };
   const { said, notes } = ownLines(lines, roll);
-  if (lines.some(it => it.kind === 'session')) notes.unshift(TAKEN_AS_OWN);
+  const sessions = lines.filter(it => it.kind === 'session').map(it => it.name);
+  if (sessions.length) notes.unshift(takenWords(sessions));
   const heard = { ...parts, sessions: [sessionOfAll(said)] };
   const wished = said.size ? callOf('prefer', heard) : null;
   const preferred = wished && await ask('Reading what was wished', wished);
   if (preferred && preferred.status !== 0) return { refusal: { answer: preferred, call: wished, parts: heard } };
   if (preferred) notes.push(...repliesWords(repliesOf(preferred.text, heard.sessions)));
-  return { notes, ms: answer.ms, market: {
-    isOwn: true, catalogue, roll, text, settings, said,
-    wishes: preferred ? preferencesOf(preferred.text) : new Map(),
+  return { ms: answer.ms, market: {
+    isOwn: true, notes, catalogue, roll, text, settings, said,
+    wished: preferred ? wishedLines(preferred.text) : new Map(),
     sectionOf: new Map(catalogue.map(it => [it.name, it])),
     counts: countsOf(text.bundles.map(it => it.names), catalogue), endCounts: countsOf(text.finals, catalogue),
   } };
@@ -96,7 +103,7 @@ export async function ownMarketOf(ask, parts, lines) {
  */
 const sessionOfAll = said => ({
   name: 'own lines', kind: 'session',
-  bytes: sessionOf([...said.values()].flatMap(it => commandLines(it.bytes).map(that => that.bytes))),
+  bytes: sessionOf([...said.values()].flatMap(it => commandLines(it.bytes))),
 });
 
 /**
@@ -105,7 +112,7 @@ const sessionOfAll = said => ({
  */
 function repliesWords(replies) {
   if (!replies.length) return [];
-  const told = replies.slice(0, 5).map(it => `“${it.command}” (${it.reply})`);
+  const told = replies.slice(0, 5).map(it => `“${it.command}” (${REPLIES[it.reply] ?? it.reply})`);
   const more = replies.length > told.length ? ` and ${replies.length - told.length} more` : '';
   return [`The desk carries out all of the lines but ${listed(told)}${more}.`];
 }

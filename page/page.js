@@ -2,17 +2,17 @@
 
 import { saidByAll } from './alone.js';
 import { decoded, encoded } from './bytes.js';
-import { checked, marketOf, ownMarket, stopped } from './checking.js';
+import { checked, marketOf, ordersOf, ownMarket, stopped, summed } from './checking.js';
 import { $ } from './elements.js';
 import { FileList } from './file_list.js';
 import { SESSIONS, filesDropped, kindOf, loaded, partsOf } from './files.js';
 import { ownFiles } from './own_market.js';
 import { RatingForm } from './rating_form.js';
 import { Registrar } from './registrar.js';
-import { spellingIn } from './spelling.js';
+import { AS_NAMED, spellingBy } from './spelling.js';
 import { changesIn, exampleIn, held, showSums } from './sums.js';
 import {
-  clearVerdict, showAccepted, showChanged, showFailure, showFound, showOpen, showOwn, showRefused, showUnopened,
+  clearVerdict, showAccepted, showChanged, showFailure, showFound, showStrangers, showOpen, showRefused, showUnopened,
 } from './verdict.js';
 import { drawReaders, listenToViews, recall, remember, show, shownView } from './views.js';
 import { orderOf } from './wishes.js';
@@ -20,12 +20,20 @@ import { refusalOf } from './words.js';
 import { isWorking, read, startProgram, stopWork } from './work.js';
 
 const GIVE = 'First give the published files above. When their text holds, this part shows what it says.';
+const GIVE_OWN = 'The published files are there. Give your own lines too: then this part shows what they say.';
 const CHECKING = 'The files are being checked. When their text holds, this part shows what it says.';
+const READING = 'The text holds, and is being read. Then this part shows what it says.';
 const NOTHING = 'The text does not hold, so nothing of it is shown here.';
 
 /** @type {About} */
 const about = JSON.parse($('about').textContent);
 const list = new FileList(() => check()), registrar = new Registrar(about, takeRun), form = new RatingForm();
+
+/**
+ * How the school spells names, by the files that are there.
+ * @type {Spelling}
+ */
+let spelling = AS_NAMED;
 
 /** How many checks were begun: the answers of one that is not the last are of old files. */
 let checks = 0;
@@ -61,47 +69,60 @@ async function check() {
   clearVerdict();
   document.body.classList.remove('answered');
   drawReaders(null, list.files.length ? CHECKING : GIVE);
-  const { parts, faults, lacks, isByManifest, unused } = await partsOf(list.files);
+  const areSummed = !list.files.some(it => it.kind === 'manifest') || await summed(list.files);
+  if (isOld()) return false;
+  const { parts, faults, lacks, isByManifest, unused } = partsOf(list.files);
   if (isOld()) return false;
   list.isByManifest = isByManifest;
   list.draw();
-  const view = await registrar.view(list.files);
+  const tables = await tablesOf(parts);
   if (isOld()) return false;
-  $('registrar').replaceChildren(...view);
-  $('rate').replaceChildren(...form.view(list.files, spellingIn(list.files)));
+  if (!tables || !areSummed) return refuse(stopped(parts), isOld);
+  spelling = tables.originals ? spellingBy(tables.originals) : AS_NAMED;
+  $('registrar').replaceChildren(...registrar.view(list.files, tables.roll.length));
+  $('rate').replaceChildren(...form.view(list.files, parts.catalogue, tables, spelling));
   if (!list.files.length) return false;
-  const sizes = await sizesOf(parts);
+  const found = await ordersOf(parts);
   if (isOld()) return false;
-  if (!sizes) return refuse(stopped(parts), isOld);
-  const own = ownFiles(list.files, parts, sizes), missing = own.length ? lacks.filter(it => it !== SESSIONS) : lacks;
+  if (!found) return refuse(stopped(parts), isOld);
+  const own = ownFiles(list.files, parts, found.areOwn);
+  const missing = own.length ? lacks.filter(it => it !== SESSIONS) : lacks;
   if (missing.length || faults.length) {
     showOpen(list.files, faults, missing);
-    drawReaders(null, GIVE);
+    drawReaders(null, !faults.length && missing.every(it => it === SESSIONS) ? GIVE_OWN : GIVE);
     return false;
   }
   if (own.length) return checkOwn(parts, own, isOld);
-  return checkParts(parts, isByManifest ? null : sizes.map(it => it.size), unused, isOld);
+  const counts = { students: tables.roll.length, sections: tables.catalogue.length };
+  return checkParts(parts, isByManifest ? [] : found.orders, counts, unused, isOld);
 }
 
 /**
- * How many commands the sessions have, where a text is there that takes them; null where that was stopped.
+ * What the form shows of the files; null where reading them was stopped.
  * @param {Parts} parts
- * @returns {Promise<{ size: number, isOwn: boolean }[] | null>}
+ * @returns {Promise<ReadTables | null>}
  */
-async function sizesOf({ text, sessions }) {
-  return text && sessions.length ? read('Reading the sessions', 'sizes', sessions.map(it => it.bytes)) : [];
+async function tablesOf({ catalogue, roll }) {
+  const names = list.files.filter(it => it.kind === 'names').at(-1);
+  return catalogue || roll || names ? read('Reading the files', 'tables', catalogue, roll, names)
+    : { catalogue: [], roll: [], originals: null, strange: [] };
 }
 
-/** @param {Parts} parts @param {number[] | null} sizes @param {GivenFile[]} unused @param {() => boolean} isOld */
-async function checkParts(parts, sizes, unused, isOld) {
-  const answered = await checked(parts, sizes), isRefused = answered.answer.status !== 0;
+/**
+ * Checks the whole text. The verdict is told as soon as it is there; what the views show is read behind it.
+ * @param {Parts} parts @param {number[][]} orders @param {{ students: number, sections: number }} counts
+ * @param {GivenFile[]} unused @param {() => boolean} isOld
+ */
+async function checkParts(parts, orders, counts, unused, isOld) {
+  const answered = await checked(parts, orders);
   if (isOld()) return false;
-  const { market, refusal } = isRefused ? { market: null, refusal: answered }
-    : await marketOf(answered, spellingIn(list.files));
+  if (answered.answer.status !== 0) return refuse(answered, isOld);
+  closeFiles();
+  showAccepted(answered, counts, unused);
+  drawReaders(null, READING);
+  const { market, refusal } = await marketOf(answered, spelling);
   if (isOld()) return false;
   if (!market) return refuse(refusal, isOld);
-  closeFiles();
-  showAccepted(market, unused);
   drawReaders(market, '');
   return true;
 }
@@ -111,7 +132,7 @@ async function checkParts(parts, sizes, unused, isOld) {
  * @param {Parts} parts @param {GivenFile[]} own @param {() => boolean} isOld
  */
 async function checkOwn(parts, own, isOld) {
-  const { market, notes, refusal, finding } = await ownMarket(parts, own, spellingIn(list.files));
+  const { market, refusal, finding } = await ownMarket(parts, own, spelling);
   if (isOld()) return false;
   if (refusal) return refuse(refusal, isOld);
   if (finding) {
@@ -122,7 +143,7 @@ async function checkOwn(parts, own, isOld) {
     return false;
   }
   if (market.said.size) closeFiles();
-  showOwn(market, notes);
+  else showStrangers(market, own);
   drawReaders(market, '');
   return true;
 }

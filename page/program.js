@@ -1,6 +1,13 @@
 // The program in a worker thread, and its calls.
 
+import { withText } from './bytes.js';
+import { PIECE, lifted } from './pieces.js';
+
 /** @typedef {Omit<Answer, 'text'>} Raw */
+
+/** A run that held more bytes of memory than this leaves none of it behind: its thread ends with it, and another stands
+ * ready. */
+const MUCH = 2 ** 26;
 
 /** The program in a worker thread. One run follows another; a stop ends the thread, and the next run has a new one. */
 export class Program {
@@ -27,6 +34,10 @@ export class Program {
     this.worker.onmessage = ({ data }) => {
       this.waiting.get(data.id)?.(data);
       this.waiting.delete(data.id);
+      if (data.memory > MUCH && !this.waiting.size) {
+        this.end('stopped');
+        this.start();
+      }
     };
     this.worker.onerror = event => this.end('fault', event.message);
     this.worker.postMessage({ module: this.module });
@@ -38,14 +49,7 @@ export class Program {
    * @returns {Promise<Answer>}
    */
   async ask({ words, files }) {
-    if (!this.worker) this.start();
-    const id = ++this.count;
-    /** @type {Raw} */
-    const answer = await new Promise(done => {
-      this.waiting.set(id, done);
-      this.worker.postMessage({ id, words, files, limit: this.limit });
-    });
-    return { ...answer, text: new TextDecoder('utf-8', { ignoreBOM: true }).decode(answer.out) };
+    return withText(await this.told({ words, files }));
   }
 
   /**
@@ -54,15 +58,40 @@ export class Program {
    * @returns {Promise<any>}
    */
   async read(reading, given) {
-    if (!this.worker) this.start();
-    const id = ++this.count;
-    /** @type {any} */
-    const answer = await new Promise(done => {
-      this.waiting.set(id, done);
-      this.worker.postMessage({ id, reading, given, limit: this.limit });
-    });
+    const answer = await this.told({ reading, given });
     if (answer.fault) throw new Error(answer.fault);
     return answer.status === 'stopped' ? null : answer.value;
+  }
+
+  /**
+   * What the worker answers to a message.
+   * @param {any} message
+   * @returns {Promise<any>}
+   */
+  told(message) {
+    if (!this.worker) this.start();
+    const id = ++this.count;
+    return new Promise(done => {
+      this.waiting.set(id, done);
+      this.post({ ...message, id, limit: this.limit });
+    });
+  }
+
+  /**
+   * Sends a message: what is long in it goes ahead, in pieces between which the page answers, until it is stopped.
+   * @param {any} message
+   */
+  async post(message) {
+    const { worker } = this, { shell, ahead } = lifted(message);
+    for (const [key, bytes] of ahead) {
+      for (let from = 0; from < bytes.length; from += PIECE) {
+        const piece = bytes.slice(from, from + PIECE);
+        worker.postMessage({ of: message.id, key, size: bytes.length, from, piece }, [piece.buffer]);
+        await pause();
+        if (worker !== this.worker) return;
+      }
+    }
+    worker.postMessage(shell);
   }
 
   /** @param {'stopped' | 'fault'} status @param {string} [fault] */
@@ -77,6 +106,9 @@ export class Program {
     this.end('stopped');
   }
 }
+
+/** Lets the page do what else it has to do. */
+const pause = () => new Promise(done => setTimeout(done));
 
 /**
  * The files of each form, in the order of its words.

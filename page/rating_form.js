@@ -1,20 +1,15 @@
 // The form before the desk closes: a student rates sections, sees its best bundle at prices of 0, and saves its lines.
 
-import { roomOf, saidIn } from './alone.js';
-import { decoded } from './bytes.js';
 import { button, el, p, save } from './elements.js';
-import { callOf } from './program.js';
 import { RatedSections } from './rated_sections.js';
 import { AS_NAMED } from './spelling.js';
-import { catalogueOf, rollOf } from './tables.js';
 import { weekView } from './week_view.js';
 import {
   MOST_PAIRS, MOST_RATED, adjust, adjustmentOf, emptyList, isName, keptIn, notesOf, pairKey, quoteOf, sessionFile,
 } from './wish_list.js';
-import { preferencesOf } from './wishes.js';
 import { listed, plural, shortList } from './wording.js';
-import { answerWords } from './words.js';
-import { work } from './work.js';
+import { STOPPED_WORDS } from './words.js';
+import { read, toldOf, work } from './work.js';
 
 const ABOUT_RATING = 'Before the desk closes a student says here what it wants. Nothing is sent: what is saved at the '
   + 'end is a file, which the student gives to its school.';
@@ -30,9 +25,11 @@ export class RatingForm {
     this.list = emptyList('');
     this.caps = { credits: 800, courses: 8 };
     /** @type {RatingFiles} */
-    this.given = { catalogue: [], roll: [], sessions: [], spelling: AS_NAMED };
+    this.given = { catalogue: [], roll: [], sessions: [], spelling: AS_NAMED, strange: [] };
     /** Whether something is in the form that no file has. */
     this.isUnsaved = false;
+    /** How often earlier lines were looked for. */
+    this.looks = 0;
     /** Whether the best bundle is being asked for, and whether something was changed since. */
     this.asking = { isBusy: false, isOld: false };
     /**
@@ -49,18 +46,16 @@ export class RatingForm {
 
   /**
    * The form for these files; what was rated before stays.
-   * @param {GivenFile[]} files
+   * @param {GivenFile[]} files @param {GivenFile | undefined} file the catalogue
+   * @param {ReadTables} tables what stands in the catalogue and the roll
    * @param {Spelling} spelling
    */
-  view(files, spelling) {
-    const of = (/** @type {string} */ kind) => files.filter(it => it.kind === kind), file = of('catalogue').at(-1);
-    const roll = of('roll').at(-1), sessions = [...of('own'), ...of('session')];
-    this.given = {
-      file, sessions, spelling, catalogue: file ? catalogueOf(decoded(file.bytes)) : [],
-      roll: roll ? rollOf(decoded(roll.bytes)) : [],
-    };
+  view(files, file, { catalogue: sections, roll, strange }, spelling) {
+    const of = (/** @type {string} */ kind) => files.filter(it => it.kind === kind);
+    this.given = { file, spelling, roll, strange, sessions: [...of('own'), ...of('session')], catalogue: sections };
     const head = [el('h2', { tabindex: '-1' }, 'Rate sections'), p(ABOUT_RATING)];
     if (!file) return [...head, p('First give the catalogue above, and the roll if you have it.')];
+    if (strange.includes(file.name)) return [...head, p(`${file.name} is no catalogue: a field in it is too long.`)];
     const { catalogue } = this.given, changed = () => this.changed(true);
     const rows = this.drawn.rows = new RatedSections(catalogue, spelling, this.list, changed);
     const who = this.whoPart(), beside = this.besidePart(), pairs = this.pairsPart();
@@ -82,7 +77,7 @@ export class RatingForm {
     const earlier = el('p', { class: 'buttons' });
     const named = () => {
       this.takeName(name.value.trim(), credits, courses, told);
-      earlier.replaceChildren(...this.earlierButtons());
+      this.lookEarlier(earlier);
     };
     const capped = () => this.takeCaps(credits.value, courses.value, told);
     name.addEventListener('input', named);
@@ -130,24 +125,32 @@ export class RatingForm {
     this.changed(false);
   }
 
-  /** Buttons that take what this student said before, by the files that were given. */
-  earlierButtons() {
-    const { name } = this.list;
-    return this.given.sessions.map(file => ({ file, said: saidIn(file.bytes, name) })).filter(it => it.said.count)
-      .map(({ file, said }) =>
-        button(`Take the ${plural(said.count, 'line')} of ${name} in ${file.name}`, () => this.takeEarlier(said)));
+  /**
+   * Looks for what this student said before in the files that were given, and makes buttons that take it. Whoever types
+   * a name has typed others on the way: the answer on the last one counts.
+   * @param {HTMLElement} to
+   */
+  async lookEarlier(to) {
+    const { name } = this.list, { sessions, roll } = this.given, number = ++this.looks;
+    to.replaceChildren();
+    if (!sessions.length || !(roll.length ? roll.some(it => it.name === name) : isName(name))) return;
+    const counts = await read('Looking for your lines', 'counts', sessions.map(it => it.bytes), name) ?? [];
+    if (number !== this.looks) return;
+    const words = (/** @type {number} */ at) =>
+      `Take the ${plural(counts[at], 'line')} of ${name} in ${sessions[at].name}`;
+    to.replaceChildren(...sessions.flatMap((file, at) =>
+      counts[at] ? button(words(at), () => this.takeEarlier(file)) : []));
   }
 
   /**
    * Asks the program what earlier lines come to, and takes that in the place of all that stands in the form.
-   * @param {Said} said
+   * @param {GivenFile} session
    */
-  async takeEarlier(said) {
-    const { name } = this.list, { file, catalogue } = this.given, prices = catalogue.map(() => 0);
-    const room = roomOf(catalogue, { name, ...this.caps, budget: 0, prices, names: [], tree: '*', said });
-    const call = callOf('prefer', { ...room, catalogue: file }), answer = await work('Reading the lines', call);
-    if (answer.status !== 0) return this.tell(answerWords(answer, call).words);
-    const wishes = preferencesOf(answer.text).get(name), sectionOf = new Map(catalogue.map(it => [it.name, it]));
+  async takeEarlier(session) {
+    const { name } = this.list, { file, catalogue } = this.given, student = { name, ...this.caps };
+    const found = await read('Reading the lines', 'earlier', file, catalogue, session.bytes, student);
+    if (!found || 'failed' in found) return this.tell(found ? found.failed : STOPPED_WORDS.words);
+    const { wishes } = found, sectionOf = new Map(catalogue.map(it => [it.name, it]));
     const pairs = (wishes?.pairs ?? []).map(([one, other, points]) =>
       /** @type {[string, number]} */ ([pairKey(sectionOf.get(one), sectionOf.get(other)), points]));
     this.list.ratings = new Map([...wishes?.ratings ?? []].filter(([, it]) => it > 0));
@@ -201,15 +204,15 @@ export class RatingForm {
       const name = isName(this.list.name) ? this.list.name : 'you';
       const call = quoteCall(this.given.file, this.lines(name), name, this.caps);
       const answer = await work('Asking for the best bundle', call);
-      if (!this.asking.isOld && answer.status !== 'stopped') this.drawBest(answer, call);
+      if (!this.asking.isOld && answer.status !== 'stopped') await this.drawBest(answer, call);
     }
     this.asking.isBusy = false;
   }
 
   /** @param {Answer} answer @param {Call} call */
-  drawBest(answer, call) {
+  async drawBest(answer, call) {
     const to = this.drawn.best;
-    if (answer.status !== 0) return to.replaceChildren(p(answerWords(answer, call).words));
+    if (answer.status !== 0) return to.replaceChildren(p((await toldOf(answer, call)).words));
     const { names, worth } = quoteOf(answer.text), shown = (/** @type {string} */ it) => this.shown(it);
     if (!names.length) return to.replaceChildren(p('With these ratings and caps the best bundle has no section.'));
     const sections = names.map(it => this.given.catalogue.find(that => that.name === it));

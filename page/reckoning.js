@@ -24,7 +24,8 @@ export const noWishes = () => ({ ratings: new Map(), pairs: [] });
 
 /**
  * The places of a student's menu: the rated sections in the order of the catalogue, and the adjustments between them.
- * @param {{ catalogue: Section[], roll: Student[], wishes: Map<string, Wishes>, text: { prices: number[] } }} market
+ * @param {{ catalogue: Section[], roll: Student[], wishes: WishesOfAll, text: { prices: number[] },
+ *   spelling?: Spelling }} market
  * @param {number} student
  * @returns {Menu}
  */
@@ -32,7 +33,8 @@ export function menuOf(market, student) {
   const wishes = market.wishes.get(market.roll[student].name) ?? noWishes();
   const rated = market.catalogue.filter(it => wishes.ratings.get(it.name) > 0);
   const places = rated.map((section, place) => ({
-    place, section, name: section.name, rating: wishes.ratings.get(section.name), price: market.text.prices[section.at],
+    place, section, name: section.name, shown: market.spelling?.shown('section', section.name) ?? section.name,
+    rating: wishes.ratings.get(section.name), price: market.text.prices[section.at],
   }));
   const of = new Map(places.map(it => [it.name, it.place])), together = places.map(() => new Map());
   for (const [one, other, worth] of wishes.pairs) {
@@ -144,7 +146,7 @@ export function closedBy(walk, chosen, place) {
   if (walk.allowed && !walk.allowed.has(name)) return 'had no free seat at that turn';
   for (const it of chosen) {
     const clash = clashOf(section, walk.menu.places[it].section);
-    if (clash) return `${clash} ${walk.menu.places[it].name}`;
+    if (clash) return `${clash} ${walk.menu.places[it].shown}`;
   }
   if (price > left.b) return `has the price ${price}, and ${plural(left.b, 'token is', 'tokens are')} left`;
   if (section.credits > left.c) {
@@ -189,7 +191,7 @@ export function boundOf(walk, chosen, from, node) {
   for (const { place, worth } of open) {
     const it = walk.menu.places[place], brings = 1000 * worth - rate * takes(it);
     if (brings > (best.get(it.section.course)?.brings ?? 0)) {
-      best.set(it.section.course, { name: it.name, brings, worth, takes: takes(it) });
+      best.set(it.section.course, { name: it.shown, brings, worth, takes: takes(it) });
     }
   }
   const left = leftOf(walk, chosen)[/** @type {'b' | 'c' | 'm'} */ (node.symbol)] ?? 0;

@@ -1,16 +1,19 @@
 // What a registrar does here: chooses settings, looks what the desk replies, runs the market and saves what it
 // publishes.
 
-import { decoded, hashOf, isSame } from './bytes.js';
+import { isSame } from './bytes.js';
+import { summed } from './checking.js';
 import { $, button, el, p, save } from './elements.js';
 import { partsOf } from './files.js';
 import { tableOf } from './grid.js';
 import { callOf } from './program.js';
-import { NAMES, RANGES, settingsFile, settingsIn, settingsNotes, usual, wrongField } from './settings.js';
-import { rollIn } from './tables.js';
+import {
+  NAMES, RANGES, settingsFile, settingsIn, settingsNotes, settingsText, usual, wrongField,
+} from './settings.js';
+import { REPLIES } from './wishes.js';
 import { listed, plural, quoted, shortList, timed } from './wording.js';
-import { answerWords } from './words.js';
-import { read, work } from './work.js';
+import { STOPPED_WORDS } from './words.js';
+import { read, toldOf, work } from './work.js';
 
 /**
  * What each setting does.
@@ -31,15 +34,6 @@ const ABOUT = {
     + 'lowers it by so many for each free seat, all sections at once. Each is one more question to all students, each '
     + 'turn.',
   raise: 'By how many percent budgets rise in the aftermarket, where the free seats go.',
-};
-
-/** @type {Record<string, string>} */
-const REPLIES = {
-  unreadable: 'the line is no command', closed: 'a session has closed the desk',
-  'no-student': 'the student is not on the roll',
-  'no-section': 'the section is not in the catalogue', 'same-pair': 'the two sections are the same',
-  'out-of-range': 'a rating is 0 to 100, an adjustment -200 to 200',
-  'too-many': 'a student has at most 60 ratings and 200 adjustments',
 };
 
 /**
@@ -72,6 +66,7 @@ export class Registrar {
     this.typed = null;
     this.isRunning = false;
     this.isStopped = false;
+    this.students = 0;
   }
 
   /** Whether something would be lost with the page. */
@@ -86,10 +81,12 @@ export class Registrar {
 
   /**
    * The whole view.
-   * @param {GivenFile[]} files @returns {Promise<any[]>}
+   * @param {GivenFile[]} files @param {number} students how many the roll has
+   * @returns {any[]}
    */
-  async view(files) {
-    const { parts, faults, lacks, isByManifest } = await partsOf(files, ['catalogue', 'roll']);
+  view(files, students) {
+    this.students = students;
+    const { parts, faults, lacks, isByManifest } = partsOf(files, ['catalogue', 'roll']);
     const head = [el('h2', { tabindex: '-1' }, 'Run a market'),
       p('This makes the text that is to be published, out of the catalogue, the roll, the settings and the sessions. '
         + 'The files stay on this machine.')];
@@ -129,7 +126,7 @@ export class Registrar {
       await this.runWith(parts, formValues(form), told);
       isBusy = false;
     };
-    const values = this.typed?.of === of && this.typed?.values || (of ? settingsIn(decoded(of.bytes)) : {});
+    const values = this.typed?.of === of && this.typed?.values || (of ? settingsIn(settingsText(of)) : {});
     const form = el('form', { onsubmit, oninput }, of ? settingsNotes(of).map(it => p(el('b', {}, it))) : '',
       settingsFields(values), el('p', { class: 'buttons' },
         button('Look at the wishes', () => lookAtWishes(parts, looked)),
@@ -157,9 +154,12 @@ export class Registrar {
 
   /** @param {Parts} parts @param {GivenFile} settings @param {HTMLElement} told */
   async run(parts, settings, told) {
-    const call = callOf('run', { ...parts, settings }), note = timeWords(rollIn(parts).length, settings);
+    const call = callOf('run', { ...parts, settings }), note = timeWords(this.students, settings);
     const answer = await work('Running the market', call, note);
-    if (answer.status !== 0) return told.replaceChildren(...refusedRun(answerWords(answer, call), answer, call.inputs));
+    if (answer.status !== 0) {
+      const words = await toldOf(answer, call);
+      return told.replaceChildren(...refusedRun(words, answer, call.inputs));
+    }
     /** @type {GivenFile} */
     const text = { name: 'published.txt', kind: 'text', bytes: answer.out };
     const manifest = await this.manifestOf({ ...parts, settings }, text, answer.ms);
@@ -177,11 +177,11 @@ export class Registrar {
       ['catalogue', parts.catalogue], ['roll', parts.roll], ['settings', parts.settings],
       ...parts.sessions.map(it => /** @type {[string, GivenFile]} */ (['session', it])),
     ];
-    const inputs = await Promise.all(kinds.map(async ([role, it]) =>
-      ({ role, file: it.name, sha256: await hashOf(it.bytes) })));
+    await summed([...kinds.map(([, it]) => it), text]);
+    const inputs = kinds.map(([role, it]) => ({ role, file: it.name, sha256: it.sum ?? null }));
     return JSON.stringify({
       inputs, words: ['run', '1', ...inputs.map(it => it.file)], program: this.about.sums.module,
-      text: { file: text.name, sha256: await hashOf(text.bytes) }, elapsed: Math.round(ms / 100) / 10,
+      text: { file: text.name, sha256: text.sum ?? null }, elapsed: Math.round(ms / 100) / 10,
       made: new Date().toISOString(), page: this.about.version,
       ...this.about.proved ? {} : { unproved: 'built without proofs: trust nothing in it' },
     }, null, 2) + '\n';
@@ -189,7 +189,7 @@ export class Registrar {
 
   /** @param {Made} made */
   madePart(made) {
-    const settings = settingsIn(decoded(made.settings.bytes)), said = NAMES.map(it => `${it} ${settings[it]}`);
+    const settings = settingsIn(settingsText(made.settings)), said = NAMES.map(it => `${it} ${settings[it]}`);
     return [el('h3', {}, 'The market has prices'),
       p(`The run took ${timed(made.ms)}, with these settings: ${said.join('; ')}.`),
       made.warning ? p(el('b', {}, made.warning)) : '',
@@ -204,13 +204,13 @@ export class Registrar {
 }
 
 /**
- * What is known of how long a run takes: it tells nothing before its end. (With one worker the native program takes some
- * 5 s for 2,000 students and 400 contested sections; a page takes about twice that, and a phone longer.)
+ * What is known of how long a run takes: it tells nothing before its end. (With one worker the native program takes
+ * some 5 s for 2,000 students and 400 contested sections; a page takes about twice that, and a phone longer.)
  * @param {number} students @param {GivenFile} settings
  */
 function timeWords(students, settings) {
   const mostly = students <= 150 ? 'about a second' : students <= 600 ? 'some seconds' : 'less than a minute';
-  const { turns } = settingsIn(decoded(settings.bytes));
+  const { turns } = settingsIn(settingsText(settings));
   return `How far it is cannot be told. The search has at most ${plural(Number(turns), 'turn')}; `
     + `with ${plural(students, 'student')} it takes mostly ${mostly}, and longer where the turns are many.`;
 }
@@ -274,11 +274,9 @@ function lookPart({ replies, all, silent, unwanted, several }) {
  * @param {Parts} parts
  */
 async function wishesWarning(parts) {
-  const answer = await work('Reading what the students want', callOf('prefer', parts));
-  if (answer.status !== 0) return '';
-  const look = await read('Reading what the desk replies', 'look', answer.text, parts);
-  if (!look) return '';
-  const { all, replies, silent } = look;
+  const found = await read('Reading what the students want', 'look', parts);
+  if (!found?.look) return '';
+  const { all, replies, silent } = found.look;
   const told = [
     replies.length ? `the desk did not carry out ${replies.length} of ${all} commands` : '',
     silent.length ? `${plural(silent.length, 'student wants', 'students want')} nothing` : '',
@@ -288,14 +286,11 @@ async function wishesWarning(parts) {
 
 /** @param {Parts} parts @param {HTMLElement} to */
 async function lookAtWishes(parts, to) {
-  const call = callOf('prefer', parts), answer = await work('Reading what the students want', call);
-  if (answer.status === 0) {
-    const look = await read('Reading what the desk replies', 'look', answer.text, parts);
-    if (look) to.replaceChildren(el('h3', {}, 'What the desk replies'), ...lookPart(look));
-    return;
-  }
-  const told = answerWords(answer, call);
-  to.replaceChildren(el('h3', {}, told.title), p(told.words), told.help ? p(told.help) : '');
+  const found = await read('Reading what the students want', 'look', parts), look = found?.look;
+  /** @type {Told} */
+  const told = found?.told ?? STOPPED_WORDS;
+  if (look) to.replaceChildren(el('h3', {}, 'What the desk replies'), ...lookPart(look));
+  else to.replaceChildren(el('h3', {}, told.title), p(told.words), told.help ? p(told.help) : '');
 }
 
 /**

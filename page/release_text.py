@@ -61,7 +61,8 @@ published text stays what it is: `check` of either version says the same of it, 
 | `CHANGELOG.md`, `VERSION` | what is new |
 | `SHA256SUMS` | the sum of each file |
 """
-PROVED = """The program is built from commit {commit}, each crate of which is proved, with `{kit}`. Its checks, all tests and all edits that must be refused run by `rt ci` in the repository.
+PROVED = """The program is built from commit {commit}, each crate of which is proved, with `{kit}`. \
+Its checks, all tests and all edits that must be refused run by `rt ci` in the repository.
 
 The page holds the program compiled to WebAssembly from the same module of LLVM; the module's SHA-256 is `{module}`."""
 UNPROVED = "THIS ARCHIVE WAS MADE WITHOUT PROOFS, for work on the archive alone. Trust nothing in it."

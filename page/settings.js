@@ -30,6 +30,12 @@ export const usual = name => USUAL[name];
 const LONGEST_SETTINGS = 2 ** 20;
 
 /**
+ * The text of settings, as far as any settings are long.
+ * @param {{ bytes: Uint8Array }} of
+ */
+export const settingsText = ({ bytes }) => bytes.length > LONGEST_SETTINGS ? '' : decoded(bytes);
+
+/**
  * What the browser says of a text that is not JSON; nothing of one that is.
  * @param {string} text @returns {string}
  */
@@ -111,7 +117,7 @@ export function settingsIn(text) {
  * @param {GivenFile} of
  */
 export function settingsNotes({ name, bytes }) {
-  const { isObject, lacking, strange } = settingsLacks(decoded(bytes));
+  const { isObject, lacking, strange } = settingsLacks(settingsText({ bytes }));
   if (!isObject) return [`${name} is no JSON object, so that the usual settings stand here.`];
   return [
     lacking.length ? `${name} does not say ${listed(lacking)}: what stands here is the usual.` : '',

@@ -95,9 +95,20 @@ struct taken rattle_alloc(size bytes, size align) {
 
 void rattle_dealloc(void *block) { free(block); }
 
+// The last block of the heap grows where it lies, so that a list which grows leaves no holes behind it.
+static int has_grown_in_place(void *block, size had, size bytes) {
+    if ((size)block + had != heap_at || bytes > heap_limit) return 0;
+    int class = class_of(bytes);
+    size more = size_of(class) - had;
+    if (!has_grown(more)) return 0;
+    heap_at += more;
+    ((size *)block)[-2] = (size)class;
+    return 1;
+}
+
 struct taken rattle_realloc(void *block, size kept, size bytes, size align) {
     size had = size_of(class_at(block));
-    if (bytes <= had) return (struct taken){1, block};
+    if (bytes <= had || has_grown_in_place(block, had, bytes)) return (struct taken){1, block};
     struct taken more = rattle_alloc(bytes, align);
     if (!more.is_there) return more;
     __builtin_memcpy(more.block, block, had);

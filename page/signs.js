@@ -118,7 +118,7 @@ export function* stepsOf(walk, text) {
 
 /** @type {Record<string, Step['kind']>} */
 const STEP_KINDS = { '+': 'taken', '!': 'taken', '*': 'bundle' };
-const END = 'All signs fit: every bundle that the budget buys was looked at, and none is better.';
+const END = 'All signs fit: every bundle that the budget buys was looked at or ruled out, and none is better.';
 
 /** How many places from this one on are closed, each with its sign `-`. */
 function closedRun(/** @type {Walk} */ walk, /** @type {number[]} */ chosen, /** @type {number} */ place,
@@ -132,23 +132,23 @@ function closedRun(/** @type {Walk} */ walk, /** @type {number[]} */ chosen, /**
 function closedWords({ walk, chosen, place }, run) {
   return Array.from({ length: run }, (_, at) => {
     const it = walk.menu.places[place + at];
-    return `Place ${it.place}, ${it.name}, may not be taken: it ${closedBy(walk, chosen, it.place)}.`;
+    return `Place ${it.place}, ${it.shown}, may not be taken: it ${closedBy(walk, chosen, it.place)}.`;
   }).join(' ');
 }
 
 /** @param {NodeAt} node @param {string} sign */
 function signWords(node, sign) {
-  const { walk, chosen, place } = node, names = listed(chosen.map(it => walk.menu.places[it].name));
+  const { walk, chosen, place } = node, names = listed(chosen.map(it => walk.menu.places[it].shown));
   if (sign === '*') return `Nothing is left to decide, and this is the bundle: ${names}, worth ${walk.worth}.`;
   if (sign === 'x') {
-    return `${walk.menu.places[walk.forced].name}, which has to be taken, can no more be: it `
+    return `${walk.menu.places[walk.forced].shown}, which has to be taken, can no more be: it `
       + `${closedBy(walk, chosen, walk.forced)}.`;
   }
   if (sign !== '+' && sign !== '!') return boundSentence(node, sign);
   const it = walk.menu.places[place], left = leftWords(walk, [...chosen, place]);
   const may = sign === '!' ? 'is the section that is asked for and has to be taken' : 'may be taken';
-  return `Place ${place}, ${it.name}, ${may} (rating ${it.rating}, price ${it.price}). First comes what begins with `
-    + `${listed([...chosen, place].map(that => walk.menu.places[that].name))}: ${left}.`;
+  return `Place ${place}, ${it.shown}, ${may} (rating ${it.rating}, price ${it.price}). First comes what begins with `
+    + `${listed([...chosen, place].map(that => walk.menu.places[that].shown))}: ${left}.`;
 }
 
 /**
@@ -167,11 +167,18 @@ export function leftWords(walk, chosen) {
  */
 export const points = thousandths => (thousandths / 1000).toFixed(3).replace(/\.?0+$/, '');
 
+/**
+ * What a section brings, and, where pairs change its rating, of what that is the sum.
+ * @param {number} rating @param {number} worth
+ */
+export const pairedWorth = (rating, worth) => worth === rating ? String(worth)
+  : `${worth} (its rating ${rating} ${worth > rating ? '+' : '-'} ${Math.abs(worth - rating)} with its pairs)`;
+
 /** @param {NodeAt} node @param {string} sign */
 function boundSentence({ walk, chosen, place }, sign) {
   const symbol = sign[0], number = Number(sign.slice(1));
   const it = boundOf(walk, chosen, place, /** @type {any} */ ({ symbol, number }));
-  const begins = beginsWith(place, listed(chosen.map(that => walk.menu.places[that].name)), chosen.length, it.value);
+  const begins = beginsWith(walk, chosen, place, it.value);
   const most = Math.floor(it.bound / 1000), isTie = most === walk.worth;
   const end = isTie
     ? `So at most ${most}, as much as the bundle; and of bundles of equal worth the one with the earlier section wins, `
@@ -186,15 +193,21 @@ function boundSentence({ walk, chosen, place }, sign) {
   const above = it.brought.map(that => `${points(that.brings)} (${that.name}: ${that.worth} less ${rate} · `
     + `${that.takes})`);
   const sum = [`${it.value}`, `${rate} · ${it.left}`, ...above].join(' + ');
-  return `${begins} ${plural(it.left, `${one} is`, `${many} are`)} left. At place ${number}, ${by.name}, `
-    + `${plural(TAKES[symbol](by), one, many)} bring ${it.by.worth}, ${rate} each. Counted at that rate, with what `
+  return `${begins} ${plural(it.left, `${one} is`, `${many} are`)} left. At place ${number}, ${by.shown}, `
+    + `${plural(TAKES[symbol](by), one, many)} bring ${pairedWorth(by.rating, it.by.worth)}, ${rate} points a ${one}. `
+    + 'Counted at that rate, with what '
     + `each course may bring above it: ${sum} = ${points(it.bound)}. ${end}`;
 }
 
-/** @param {number} place @param {string} names @param {number} count @param {number} value */
-function beginsWith(place, names, count, value) {
-  if (!count) return `Without the places below ${place}: nothing is chosen yet.`;
-  return `With ${names}, worth ${value}, and ${place ? `no other of the places below ${place}` : 'nothing else'}:`;
+/**
+ * What is chosen of the places below one, and that the others of these are not.
+ * @param {{ menu: Menu }} walk @param {number[]} chosen @param {number} place @param {number} value
+ */
+export function beginsWith({ menu }, chosen, place, value) {
+  const last = place ? `up to place ${place - 1}, ${menu.places[place - 1].shown}` : '';
+  if (!chosen.length) return `${last ? `Without the sections ${last}: nothing` : 'Nothing'} is chosen yet.`;
+  const names = listed(chosen.map(it => menu.places[it].shown));
+  return `With ${names}, worth ${value}${chosen.length < place ? `, and no other section ${last}` : ''}:`;
 }
 
 /**
@@ -203,7 +216,7 @@ function beginsWith(place, names, count, value) {
 function faultAt(walk, chosen, text, at, due) {
   const stands = at < text.length ? `“${signAt(text, at) ?? text[at]}” stands here` : 'the signs end here';
   const what = chosen === null ? 'nothing more is due' : due === null
-    ? `${listed(chosen.map(it => walk.menu.places[it].name))} ${chosen.length === 1 ? 'is' : 'are'} worth `
+    ? `${listed(chosen.map(it => walk.menu.places[it].shown))} ${chosen.length === 1 ? 'is' : 'are'} worth `
       + `${worthOf(walk.menu, chosen)}, better than the ${walk.worth} of the bundle`
     : `“${due}” is due`;
   const words = `Behind ${plural(at, 'character')} ${stands}, and by these ratings, prices and this budget ${what}.`;

@@ -1,7 +1,7 @@
 // The school's own spelling of names, by the `names.csv` that the registrar's tools write: kind, original, name.
 
 import { decoded } from './bytes.js';
-import { records } from './tables.js';
+import { eachRecord } from './tables.js';
 import { visible } from './wording.js';
 
 /**
@@ -10,29 +10,50 @@ import { visible } from './wording.js';
  */
 export const AS_NAMED = { shown: (_, name) => name, meant: () => [], count: 0 };
 
+/** How many names are taken: a school has fewer. */
+const MOST_NAMES = 20000;
+
+/** The longest spelling that is taken. */
+const LONGEST_SPELLING = 200;
+
 /**
- * Reads `names.csv`. A row without a kind, a name or an original is passed over; of a name that stands twice the first
- * spelling counts.
+ * The originals of `names.csv` by kind and name. A row without a kind, a name or an original is passed over, and so is
+ * one with a spelling that is none; of a name that stands twice the first spelling counts.
  * @param {Uint8Array} bytes
- * @returns {Spelling}
+ * @returns {Originals}
  */
-export function spellingOf(bytes) {
-  const [head = [], ...rows] = records(decoded(bytes));
+export function originalsIn(bytes) {
+  const rows = eachRecord(decoded(bytes)), head = rows.next().value || [];
   const [kindAt, originalAt, nameAt] = ['kind', 'original', 'name'].map(it => head.indexOf(it));
-  /** @type {Map<string, Map<string, string>>} */
+  /** @type {Originals} */
   const kinds = new Map();
+  let count = 0;
   for (const row of rows) {
     const [kind, original, name] = [row[kindAt], row[originalAt], row[nameAt]];
-    if (!kind || !original || !name) continue;
+    if (!kind || !original || !name || [kind, original, name].some(it => it.length > LONGEST_SPELLING)) continue;
     if (!kinds.has(kind)) kinds.set(kind, new Map());
     if (!kinds.get(kind).has(name)) kinds.get(kind).set(name, original);
+    if (++count === MOST_NAMES) break;
   }
-  return {
-    shown: (kind, name) => visible(kinds.get(kind)?.get(name) ?? name),
-    meant: (kind, typed) => meantOf(kinds.get(kind) ?? new Map(), typed.trim()),
-    count: [...kinds.values()].reduce((sum, it) => sum + it.size, 0),
-  };
+  return kinds;
 }
+
+/**
+ * How a school spells names.
+ * @param {Originals} kinds
+ * @returns {Spelling}
+ */
+export const spellingBy = kinds => ({
+  shown: (kind, name) => visible(kinds.get(kind)?.get(name) ?? name),
+  meant: (kind, typed) => meantOf(kinds.get(kind) ?? new Map(), typed.trim()),
+  count: [...kinds.values()].reduce((sum, it) => sum + it.size, 0),
+});
+
+/**
+ * The spelling that a `names.csv` tells.
+ * @param {Uint8Array} bytes
+ */
+export const spellingOf = bytes => spellingBy(originalsIn(bytes));
 
 /** @param {Map<string, string>} originals by name @param {string} typed */
 function meantOf(originals, typed) {
@@ -40,13 +61,4 @@ function meantOf(originals, typed) {
   const folded = typed.toLowerCase();
   const near = typed ? [...originals].filter(([, original]) => original.toLowerCase().includes(folded)) : [];
   return (exact.length ? exact : near).map(([name]) => name);
-}
-
-/**
- * The spelling that the files tell, by the last of them that has names.
- * @param {GivenFile[]} files
- */
-export function spellingIn(files) {
-  const last = files.filter(it => it.kind === 'names').at(-1);
-  return last ? spellingOf(last.bytes) : AS_NAMED;
 }

@@ -1,6 +1,6 @@
 // What is said of a student's stages and of why it has no seat, in words.
 
-import { clashOf, priceOf } from './reckoning.js';
+import { clashOf, menuOf, priceOf, worthOf } from './reckoning.js';
 import { listed, plural } from './wording.js';
 
 /**
@@ -59,27 +59,37 @@ export function changeWords(market, before, after) {
 /**
  * What a reason speaks of.
  * @typedef {{ of: Section, name: string, price: number, left: number, budget: number, caps: Student, held: string,
- *   spent: number, credits: number, other: string, clash: string, student: string, isTurn: boolean }} Facts
+ *   spent: number, credits: number, other: string, clash: string, student: string, isTurn: boolean, isKept: boolean,
+ *   isTie: boolean }} Facts
  */
 
 /** @param {Facts} it */
-const took = it => it.isTurn ? 'took' : 'bought';
+const took = it => !it.isTurn ? 'bought' : it.isKept ? 'kept' : 'took';
+
+/**
+ * What a student had left of something, in words.
+ * @param {Facts} it @param {number} left @param {string} all of how much
+ */
+const hadLeft = (it, left, all) => `of ${all} ${it.student} had ${left ? grouped(left) : 'none'} left`;
 
 /**
  * The reasons of `explain`, each short for a line.
  * @type {Record<string, (it: Facts) => string>}
  */
 const SHORT = {
-  held: it => it.isTurn ? 'taken at that turn' : 'bought, and given up later for a better bundle',
-  unrated: () => 'no rating above 0',
-  'alone price': it => `its price is ${grouped(it.price)}, more than the whole budget`,
-  'alone credits': it => `its ${plural(it.of.credits, 'credit')} pass the cap of ${it.caps.credits}`,
-  'alone courses': () => 'the roll allows no section at all',
-  'beside price': it => `its price is ${grouped(it.price)}, and ${grouped(it.left)} were left`,
-  'beside credits': it => `it has ${plural(it.of.credits, 'credit')}, and ${it.caps.credits - it.credits} were left`,
-  'beside courses': it => `it would be one section more than ${it.caps.courses}`,
-  clash: it => `it ${it.clash} ${it.other}`,
-  less: () => 'by the own adjustments the bundle is worth no more with it',
+  held: it => `${it.student} ${took(it)} it, and gave it up later for `
+    + (it.isTie ? 'a bundle that is as good, which the tie rule chose' : 'a better bundle'),
+  unrated: it => `${it.student} gave it no rating above 0`,
+  'alone price': it => `its price is ${grouped(it.price)}, more than the whole budget of ${tokens(it.budget)}`,
+  'alone credits': it => `it has ${plural(it.of.credits, 'credit')}, and the roll allows ${it.caps.credits} in all`,
+  'alone courses': it => `the roll allows ${it.student} no section at all`,
+  'beside price': it => `its price is ${grouped(it.price)}; ${hadLeft(it, it.left, tokens(it.budget))}`,
+  'beside credits': it => `it has ${plural(it.of.credits, 'credit')}; `
+    + hadLeft(it, it.caps.credits - it.credits, plural(it.caps.credits, 'credit')),
+  'beside courses': it =>
+    `${it.student} ${took(it)} ${plural(it.caps.courses, 'section')}, and the roll allows no more`,
+  clash: it => `it ${it.clash} ${it.other}, which ${it.student} ${took(it)}`,
+  less: it => `${it.student} could have had it too, but with it the bundle is worth no more, by its adjustments`,
 };
 
 /**
@@ -87,8 +97,9 @@ const SHORT = {
  * @type {Record<string, (it: Facts) => string>}
  */
 const LONG = {
-  held: it => it.isTurn ? `${it.student} took ${it.name}.` : `${it.student} bought ${it.name} in the second stage, and `
-    + 'gave it up in the aftermarket for a bundle that it prefers.',
+  held: it => `${it.student} ${took(it)} ${it.name}${it.isTurn ? '' : ' in the second stage'}, and gave it up `
+    + `${it.isTurn ? 'later' : 'in the aftermarket'} for a bundle that `
+    + (it.isTie ? `is as good, which the tie rule chose: ${TIE}.` : 'it prefers.'),
   unrated: it => `${it.student} gave ${it.name} no rating above 0, and so did not ask for it.`,
   'alone price': it =>
     `The price of ${it.name} is ${grouped(it.price)}, more than the whole budget of ${grouped(it.budget)}.`,
@@ -117,17 +128,53 @@ function factsOf(market, student, stage, name, told) {
     spent, caps: market.roll[student], held: sections(market, stage.names),
     credits: stage.names.reduce((sum, it) => sum + market.sectionOf.get(it).credits, 0),
     other: other ? section(market, other.name) : '', clash: other ? clashOf(of, other) : '',
-    student: studentName(market, student), isTurn: stage.pass > 0,
+    student: studentName(market, student), isTurn: stage.pass > 0, isKept: stage.before.join() === stage.names.join(),
+    isTie: told.reason === 'held' && isTieLater(market, student, stage, name),
   };
+}
+
+/**
+ * Whether the bundle for which a section was given up later is worth as much as the one before it, by the ratings.
+ * @param {Market} market @param {number} student @param {Stage} stage @param {string} name
+ */
+function isTieLater(market, student, stage, name) {
+  const turns = market.text.turns.filter(it => it.student === student && it.pass > stage.pass);
+  const at = turns.findIndex(it => !it.names.includes(name)), menu = menuOf(market, student);
+  if (at < 0) return false;
+  const worth = (/** @type {string[]} */ names) =>
+    names.every(it => menu.of.has(it)) ? worthOf(menu, names.map(it => menu.of.get(it))) : NaN;
+  return worth(at ? turns[at - 1].names : stage.names) === worth(turns[at].names);
 }
 
 /**
  * Why a student has no seat in a section in a stage, in a few words; a tie is said to be one.
  * @param {Market} market @param {number} student @param {Stage} stage @param {string} name @param {Explanation} told
  */
-export function shortReason(market, student, stage, name, told) {
-  const words = SHORT[told.reason](factsOf(market, student, stage, name, told));
-  return told.lost === 0 ? `${words} (a tie: with it the best is worth as much)` : words;
+export const shortReason = (market, student, stage, name, told) =>
+  SHORT[told.reason](factsOf(market, student, stage, name, told)) + worthWords(told);
+
+/**
+ * The same of a later stage, behind the reason of an earlier one: what is as it was is not said again.
+ * @param {Market} market @param {number} student @param {Stage} stage @param {string} name @param {Explanation} told
+ * @param {Explanation} before
+ */
+export function laterReason(market, student, stage, name, told, before) {
+  const isSame = told.reason === before.reason && told.other === before.other;
+  if (!isSame) return shortReason(market, student, stage, name, told);
+  const it = factsOf(market, student, stage, name, told);
+  const isWorth = told.worth === before.worth && told.lost === before.lost;
+  return (told.reason === 'beside price' ? hadLeft(it, it.left, tokens(it.budget)) : 'the same holds')
+    + (isWorth ? '' : worthWords(told));
+}
+
+/**
+ * What the best bundle with the section is worth, and what the best one without it; nothing where that was not said.
+ * @param {Explanation} told
+ */
+function worthWords({ worth, lost }) {
+  if (lost === undefined) return '';
+  return lost ? ` (with it the best was worth ${worth}, without it ${worth + lost})`
+    : ' (a tie: with it the best is worth as much)';
 }
 
 /**

@@ -6,6 +6,7 @@ import { drawingOf } from './drawing.js';
 import { button, el, opening, p, part } from './elements.js';
 import { envyOfOne, envyPart, isSmall } from './envy.js';
 import { tableOf } from './grid.js';
+import { knownNodes } from './known_view.js';
 import { judgedStages, stagesOf, unjudgedWords, unratedIn } from './one_student.js';
 import { menuOf, priceOf, raisedBudget, walkOf, worthOf } from './reckoning.js';
 import { sheetNodes } from './sheet.js';
@@ -14,7 +15,7 @@ import { changeWords, grouped, section, sections, stagesName, studentName, token
 import { meetingWords } from './tables.js';
 import { whatIfNodes } from './what_if_view.js';
 import { whyNodes } from './why_view.js';
-import { listed, plural } from './wording.js';
+import { plural } from './wording.js';
 import { work } from './work.js';
 
 /** @param {Market} market @param {number} student */
@@ -41,8 +42,9 @@ const STAGES = 'First a search finds prices, in tokens. The second stage raises 
  */
 function stageNodes(market, student, stages) {
   const { credits, courses } = market.roll[student], budget = market.text.budgets[student];
+  const raised = grouped(raisedBudget(market, student));
   return [
-    opening([el('b', {}, 'Budget: '), tokens(budget)], () => [
+    opening([el('b', {}, 'Budget: '), `${tokens(budget)}, and ${raised} in the aftermarket`], () => [
       p(budgetWords(market, student)),
       p(`By the roll at most ${plural(credits, 'credit')} and ${plural(courses, 'section')}.`),
     ], false, { class: 'paper' }),
@@ -78,18 +80,19 @@ function stageLine(market, student, { stages, change }) {
 /** @param {Market} market @param {number} student @param {Stage} stage */
 function bundleWords(market, student, { names, budget, pass, before, allowed }) {
   const { of, places } = menuOf(market, student), isRated = names.every(it => of.has(it));
-  const worth = isRated ? `, worth ${worthOf(menuOf(market, student), names.map(it => of.get(it)))}` : '';
+  const points = isRated && worthOf(menuOf(market, student), names.map(it => of.get(it)));
+  const worth = isRated ? `, by its ratings worth ${points}` : '';
   const spent = `${grouped(priceOf(market, names))} of ${tokens(budget)}`;
   const free = places.map(it => it.name).filter(it => allowed?.has(it) && !before.includes(it));
-  const rest = `Of what ${studentName(market, student)} rated and did not hold, seats were free in: `
-    + `${sections(market, free)}.`;
+  const rest = `Of what ${studentName(market, student)} rated and did not hold, `
+    + (free.length ? `seats were free in: ${sections(market, free)}.` : 'nothing had a free seat.');
   return `${sections(market, names)}${worth}, prices together ${spent}.${pass ? ` ${rest}` : ''}`;
 }
 
 /** @param {Market} market @param {number} student @param {Stage} stage @param {boolean} isOne */
 function treePart(market, student, stage, isOne) {
   const strange = unratedIn(market, student, stage.names);
-  if (strange.length) return p(`Its signs cannot be drawn, since not rated above 0: ${listed(strange)}.`);
+  if (strange.length) return p(`Its signs cannot be drawn, since not rated above 0: ${sections(market, strange)}.`);
   const walk = walkOf(market, student, { budget: stage.budget, allowed: stage.allowed, champion: stage.names });
   const title = `The proof that nothing better was to be had${isOne ? `, pass ${stage.pass}` : ''}`;
   return opening(title, () => drawingOf(walk, stage.tree));
@@ -135,37 +138,66 @@ function onScreen(title, ...children) {
 
 /**
  * Where the answer comes, as soon as the program has judged all stages.
- * @param {Market} market @param {number} student
+ * @param {Market} market @param {number} student @param {Stage[]} stages
+ * @param {() => void} ended is called when it is there, or cannot come
  */
-function answerPart(market, student) {
+function answerPart(market, student, stages, ended) {
   const answer = el('div', { id: 'answer', 'aria-live': 'polite' });
   const judge = async () => {
     answer.replaceChildren(el('p', { class: 'lead' }, 'Asking the program ..'));
-    const judged = await judgedStages(work, market, student), nodes = await answerNodes(market, student, judged);
+    const judged = await judgedStages(work, market, student, stages);
+    const nodes = await answerNodes(market, student, judged);
     const mayAsk = judged.some(it => it.unjudged && !unjudgedWords(it));
     answer.replaceChildren(...nodes.filter(Boolean), mayAsk ? button('Ask again', judge, { class: 'small' }) : '');
   };
-  judge();
+  judge().finally(ended);
   return answer;
 }
 
 /**
- * All of one student: what it holds stands at once, and the answer above it as soon as the program has judged.
+ * All of one student: what it holds stands at once, the answer above it as soon as the program has judged, and the
+ * parts below once the answer is drawn, which would else wait for them.
  * @param {Market} market @param {number} student
  * @returns {any[]}
  */
 export function studentView(market, student) {
   const stages = stagesOf(market, student), name = market.roll[student].name, shown = studentName(market, student);
+  const below = el('div');
+  const drawBelow = () => { if (below.isConnected) below.append(...partsBelow(market, student, stages)); };
   return [
     el('h2', { tabindex: '-1' }, shown, shown === name ? '' : el('span', { class: 'quiet' }, ` ${name}`)),
-    answerPart(market, student),
+    answerPart(market, student, stages, () => setTimeout(drawBelow)),
     heldWeek(market, student),
-    part('Stage by stage', ...stageNodes(market, student, stages)),
-    part('Why not?', ...whyNodes(market, student, stages)),
-    onScreen('What if?', ...whatIfNodes(market, student)),
-    onScreen('What the signs mean', ...signsNodes(market, student, stages)),
-    part('Ratings and prices', ratedTable(market, student), adjustmentWords(market, student)),
-    market.isOwn ? null : part('What others have', envyPart(market, () => envyOfOne(market, student), isSmall(market))),
-    part('On paper', ...sheetNodes(market)),
-  ].filter(Boolean);
+    ...knownNodes(market),
+    below,
+  ];
+}
+
+/**
+ * The parts below the answer, and above them a line that leads to each: on a phone they are screens long.
+ * @param {Market} market @param {number} student @param {Stage[]} stages
+ * @returns {any[]}
+ */
+function partsBelow(market, student, stages) {
+  const envy = () => part('What others have', envyPart(market, () => envyOfOne(market, student), isSmall(market)));
+  /** @type {[string, HTMLElement][]} */
+  const parts = [
+    ['Stages', part('Stage by stage', ...stageNodes(market, student, stages))],
+    ['Why not?', part('Why not?', ...whyNodes(market, student, stages))],
+    ['What if?', onScreen('What if?', ...whatIfNodes(market, student))],
+    ['Signs', onScreen('What the signs mean', ...signsNodes(market, student, stages))],
+    ['Prices', part('Ratings and prices', ratedTable(market, student), adjustmentWords(market, student))],
+    ...market.isOwn ? [] : /** @type {[string, HTMLElement][]} */ ([['Others', envy()]]),
+    ['Print', part('On paper', ...sheetNodes(market))],
+  ];
+  const ways = parts.map(([words, it]) => button(words, () => goTo(it)));
+  return [el('nav', { class: 'ways on-screen', 'aria-label': 'Parts below' }, ways), ...parts.map(([, it]) => it)];
+}
+
+/** @param {HTMLElement} shown */
+function goTo(shown) {
+  const title = shown.querySelector('h3');
+  title.tabIndex = -1;
+  title.focus({ preventScroll: true });
+  shown.scrollIntoView();
 }

@@ -109,6 +109,17 @@ interface Spelling {
   count: number;
 }
 
+/** A school's spellings: of each kind, by names. */
+type Originals = Map<string, Map<string, string>>;
+
+/** What the worker reads of the files for the form, as far as they can be read; of a strange one the name is told. */
+interface ReadTables {
+  catalogue: Section[];
+  roll: Student[];
+  originals: Originals | null;
+  strange: string[];
+}
+
 /** What the form is made of: the files that were given, as far as they play a part in it. */
 interface RatingFiles {
   file?: GivenFile;
@@ -116,4 +127,5 @@ interface RatingFiles {
   roll: Student[];
   sessions: GivenFile[];
   spelling: Spelling;
+  strange: string[];
 }

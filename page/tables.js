@@ -77,6 +77,28 @@ export function recordAt(text, row) {
   return [];
 }
 
+/** The most students of a market, and the most sections. */
+export const MOST_STUDENTS = 2000;
+export const MOST_SECTIONS = 400;
+
+/** The longest field that is shown: ten meetings are shorter, and so is any name. */
+const LONGEST_FIELD = 200;
+
+/**
+ * The first records of a text, the header with them; null where one of them has a field that no table of a market has.
+ * @param {string} text @param {number} most
+ * @returns {string[][] | null}
+ */
+export function firstRecords(text, most) {
+  const found = [];
+  for (const it of eachRecord(text)) {
+    if (found.length === most) break;
+    if (it.length > 10 || it.some(field => field.length > LONGEST_FIELD)) return null;
+    found.push(it);
+  }
+  return found;
+}
+
 /** @type {Record<string, string>} */
 const DAYS = { M: 'Mon', T: 'Tue', W: 'Wed', R: 'Thu', F: 'Fri', S: 'Sat', U: 'Sun' };
 /** @type {Record<string, string>} */
@@ -108,8 +130,14 @@ export function meetingWords(section) {
  * The rows of a catalogue.
  * @param {string} text @returns {Section[]}
  */
-export function catalogueOf(text) {
-  return records(text).slice(1).map(([name, course, seats, credits, meetings = '', parts = '12'], at) =>
+export const catalogueOf = text => sectionsOf(records(text));
+
+/**
+ * The sections of a catalogue's records, of which the first is the header.
+ * @param {string[][]} rows @returns {Section[]}
+ */
+export function sectionsOf(rows) {
+  return rows.slice(1).map(([name, course, seats, credits, meetings = '', parts = '12'], at) =>
     ({ at, name, course, seats: Number(seats), credits: Number(credits), meetings: meetingsOf(meetings), parts }));
 }
 
@@ -117,8 +145,14 @@ export function catalogueOf(text) {
  * The rows of a roll.
  * @param {string} text @returns {Student[]}
  */
-export function rollOf(text) {
-  return records(text).slice(1).map(([name, base, credits, courses, carry = '0'], at) =>
+export const rollOf = text => studentsOf(records(text));
+
+/**
+ * The students of a roll's records, of which the first is the header.
+ * @param {string[][]} rows @returns {Student[]}
+ */
+export function studentsOf(rows) {
+  return rows.slice(1).map(([name, base, credits, courses, carry = '0'], at) =>
     ({ at, name, base: Number(base), credits: Number(credits), courses: Number(courses), carry: Number(carry) }));
 }
 

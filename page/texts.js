@@ -1,5 +1,8 @@
 // Reads a published text that the program has accepted (FORMATS, "The published text").
 
+import { decoded } from './bytes.js';
+import { Lines } from './lines.js';
+
 /**
  * The names of a bundle, `[A,B]`; none where it is `[]`.
  * @param {string} bundle
@@ -19,42 +22,48 @@ export function linesOf(students, sections, turns) {
 
 /**
  * How many lines are turns, from the given one on.
- * @param {(number: number) => string | undefined} lineAt a line by its number, from 1 @param {number} from
+ * @param {Lines} lines @param {number} from
  */
-export function turnCount(lineAt, from) {
+export function turnCount(lines, from) {
   let count = 0;
-  while (lineAt(from + count)?.startsWith('turn ')) count++;
+  while (lines.begins(from + count, 'turn')) count++;
   return count;
 }
 
 /**
- * What stands in a text that was accepted with this catalogue and this roll.
- * @param {string} text @param {Section[]} catalogue @param {Student[]} roll
+ * What stands in a text that was accepted with this catalogue and this roll. Of a tree it is told where it stands:
+ * trees are nearly all of a text, and few of them are looked at.
+ * @param {Uint8Array} bytes @param {Section[]} catalogue @param {Student[]} roll
  * @returns {PublishedText}
  */
-export function publishedOf(text, catalogue, roll) {
-  const lines = text.split('\n'), [students, sections] = [roll.length, catalogue.length];
-  const turns = turnCount(it => lines[it - 1], linesOf(students, sections, 0).turns);
-  const at = linesOf(students, sections, turns);
-  const words = (/** @type {number} */ from, /** @type {number} */ count) =>
-    lines.slice(from - 1, from - 1 + count).map(it => it.split(' '));
-  const numbers = (/** @type {number} */ from, /** @type {number} */ count) =>
-    words(from, count).map(it => Number(it[2]));
+export function publishedOf(bytes, catalogue, roll) {
+  const lines = new Lines(bytes), [students, sections] = [roll.length, catalogue.length];
+  const turns = turnCount(lines, linesOf(students, sections, 0).turns), at = linesOf(students, sections, turns);
+  const each = (/** @type {number} */ from, /** @type {number} */ count, /** @type {number} */ words) =>
+    Array.from({ length: count }, (_, number) => lines.wordsOf(from + number, words));
+  const numbers = (/** @type {number} */ from, /** @type {number} */ count, place = 2) =>
+    each(from, count, place + 1).map(it => Number(it.words[place]));
   const places = new Map(roll.map(it => [it.name, it.at]));
   return {
-    order: lines[1].split(' ').slice(1).map(Number),
+    order: lines.at(at.order).split(' ').slice(1).map(Number),
     budgets: numbers(at.budgets, students),
     starts: numbers(at.starts, sections),
-    error: lines[at.error - 1].split(' ')[1],
+    error: lines.at(at.error).split(' ')[1],
     prices: numbers(at.prices, sections),
-    bundles: words(at.bundles, students).map(it => ({ names: namesOf(it[2]), tree: it[3] })),
-    turns: words(at.turns, turns).map((it, number) =>
-      ({ number, pass: Number(it[1]), student: places.get(it[2]), names: namesOf(it[3]), tree: it[4] })),
-    finals: words(at.finals, students).map(it => namesOf(it[2])),
+    bundles: each(at.bundles, students, 3).map(({ words, from, to }) => ({ names: namesOf(words[2]), from, to })),
+    turns: each(at.turns, turns, 4).map(({ words, from, to }, number) =>
+      ({ number, pass: Number(words[1]), student: places.get(words[2]), names: namesOf(words[3]), from, to })),
+    finals: each(at.finals, students, 3).map(it => namesOf(it.words[2])),
     used: numbers(at.used, sections),
-    seats: words(at.used, sections).map(it => Number(it[3])),
+    seats: numbers(at.used, sections, 3),
   };
 }
+
+/**
+ * A tree out of the bytes of its text.
+ * @param {Uint8Array} bytes @param {{ from: number, to: number }} place
+ */
+export const treeAt = (bytes, { from, to }) => decoded(bytes.subarray(from, to));
 
 /**
  * How many students have each section, by names.

@@ -57,14 +57,21 @@ interface Parts {
   sessions: GivenFile[];
 }
 
-/** A bundle of the second stage with its tree. */
+/** A bundle with its tree. */
 interface Bundle {
   names: string[];
   tree: string;
 }
 
+/** A bundle of a text, and from where to where its tree stands in the text's bytes. */
+interface PrintedBundle {
+  names: string[];
+  from: number;
+  to: number;
+}
+
 /** A turn of the aftermarket; `number` counts from 0, `student` is a place in the roll. */
-interface Turn extends Bundle {
+interface Turn extends PrintedBundle {
   number: number;
   pass: number;
   student: number;
@@ -103,7 +110,7 @@ interface PublishedText {
   starts: number[];
   error: string;
   prices: number[];
-  bundles: Bundle[];
+  bundles: PrintedBundle[];
   turns: Turn[];
   finals: string[][];
   used: number[];
@@ -114,6 +121,18 @@ interface PublishedText {
 interface Wishes {
   ratings: Map<string, number>;
   pairs: [string, string, number][];
+}
+
+/** What each student said, as it stands when the desk closes. */
+interface WishesOfAll {
+  get(name: string): Wishes | undefined;
+}
+
+/** What a student's bundles are worth to it, and how many sections it rated above 0. */
+interface Worths {
+  rated: number;
+  second: number;
+  end: number;
 }
 
 /** What the desk did not carry out, and why; `row` is the line of the file. */
@@ -144,7 +163,10 @@ interface EnvyOfAll {
   totals: { settled: number[]; final: number[] };
 }
 
-/** A market whose text holds, as the views show it. */
+/**
+ * A market whose text holds, as the views show it. Where own lines alone are there, `notes` says what of them was
+ * passed over.
+ */
 interface Market {
   parts: Parts;
   files: GivenFile[];
@@ -152,7 +174,8 @@ interface Market {
   roll: Student[];
   settings: Settings;
   text: PublishedText;
-  wishes: Map<string, Wishes>;
+  wishes: WishesOfAll;
+  worths?: Worths[];
   sectionOf: Map<string, Section>;
   counts: Map<string, number>;
   endCounts: Map<string, number>;
@@ -160,6 +183,7 @@ interface Market {
   said: Map<string, Said>;
   spelling: Spelling;
   isOwn?: boolean;
+  notes?: string[];
   envy?: EnvyOfAll;
   asksEnvy?: Promise<Answer> | null;
 }
@@ -214,6 +238,8 @@ interface Refusal {
   told: Told;
   excerpt: Excerpt | null;
   causes: string[];
+  /** What stands first, where a file has no line of a wish; the rest is then folded. */
+  first: string[];
 }
 
 /** What the desk replies to the wishes, and what they come to. */
@@ -225,14 +251,15 @@ interface Look {
   several: string[];
 }
 
-/** A market as the worker reads it: without the files, and what the school calls its names. */
-type ReadMarket = Omit<Market, 'parts' | 'files' | 'spelling' | 'ms'>;
+/** A market as the worker reads it: what students want as lines, and without the files and the school's spelling. */
+type ReadMarket = Omit<Market, 'parts' | 'files' | 'spelling' | 'ms' | 'wishes'> & { wished: Map<string, string> };
 
-/** A place of a student's menu: a section that it rated above 0. */
+/** A place of a student's menu: a section that it rated above 0; `shown` is the school's spelling of it. */
 interface Place {
   place: number;
   section: Section;
   name: string;
+  shown: string;
   rating: number;
   price: number;
 }

@@ -1,8 +1,9 @@
-// What stands above the views: whether the text holds, what is missing, and what does not fit.
+// What stands above the files and the views: whether the text holds, what is missing, and what does not fit.
 
-import { $, button, code, el, p } from './elements.js';
-import { NEEDED, savedAs } from './files.js';
+import { $, button, code, el, opening, p } from './elements.js';
+import { NEEDED, OWN, SESSIONS, savedAs } from './files.js';
 import { listed, plural, shortList, timed } from './wording.js';
+import { WISH_LINE, silentWords } from './wishes.js';
 import { findingWords } from './words.js';
 
 /**
@@ -53,14 +54,23 @@ export function showOpen(files, faults, lacks) {
 /** @param {GivenFile[]} files @param {string[]} lacks */
 function lacksWords(files, lacks) {
   const canRate = files.some(it => it.kind === 'catalogue') && !files.some(it => it.kind === 'text');
-  const canRun = lacks.every(it => it === NEEDED.text || it === NEEDED.settings);
+  const canRun = files.some(it => it.kind === 'session') && lacks.includes(NEEDED.text)
+    && lacks.every(it => it === NEEDED.text || it === NEEDED.settings);
+  const published = lacks.filter(it => it !== SESSIONS), it = lacks.length === 1 ? 'it' : listed(published);
   const named = (/** @type {GivenFile[]} */ of) => of.map(it => it.name);
   const unknown = files.filter(it => it.kind === 'unknown');
   const unread = named(unknown.filter(it => it.isUnread)), saved = unknown.filter(it => savedAs(it.bytes));
   const strange = named(unknown.filter(it => !it.isUnread && !savedAs(it.bytes)));
+  const others = lacks.some(it => it !== SESSIONS) ? named(files.filter(it => it.kind === 'other')) : [];
+  const missing = lacks.map(it => it === SESSIONS ? OWN : it);
   return [
-    p(`Missing: ${listed(lacks)}. ${canRun ? 'With “Run a market” you can make that from the other files.' : ''}`),
+    p(`Missing: ${listed(missing)}.${published.length ? ` Your school publishes ${it}.` : ''}`
+      + (canRun ? ' The school itself makes it from the other files, with “Run a market”.' : '')),
     canRate ? p('“Rate sections” needs nothing more: there a student says what it wants before the desk closes.') : '',
+    lacks.includes(SESSIONS) ? p('Whoever has all sessions (what everybody wished) gives these in place of its own '
+      + 'lines: then the whole text is checked.') : '',
+    others.length ? p(`By what stands in it, none of the missing files is ${shortList(others)}: take it anew from the `
+      + 'school, or choose in the list of the files what it is.') : '',
     unread.length ? p(`${listed(unread)} cannot be read: the browser does not open it, or it is longer than any file `
       + `of a `
       + 'market.') : '',
@@ -75,11 +85,15 @@ function lacksWords(files, lacks) {
  * @param {Refusal} refusal @param {string} file the text's name
  * @param {(() => void) | null} again checks once more what was stopped
  */
-export function showRefused({ told, excerpt, causes }, file, again) {
-  showVerdict('wrong', told.title, p(told.words),
-    told.finding ? [findingPart(told.finding, excerpt, file), causes.map(it => p(it))] : '',
-    told.help ? p(told.help) : '', again ? button('Check again', again) : '');
+export function showRefused({ told, excerpt, causes, first }, file, again) {
+  const all = () => [p(told.words),
+    ...told.finding ? [findingPart(told.finding, excerpt, file), causes.map(it => p(it))].flat(2) : [],
+    told.help ? p(told.help) : ''];
+  showVerdict('wrong', told.title, first.map(it => p(it)), first.length ? opening(MORE, all) : all(),
+    again ? button('Check again', again) : '');
 }
+
+const MORE = 'What else is to be said of it';
 
 /**
  * Where a finding stands in the text: its line, with the symbol of the tree, or the entry of the order, marked.
@@ -105,32 +119,28 @@ export function showFound(finding, excerpt, file) {
     p('Do not trust it as it stands: ask the school about the line that is named.'));
 }
 
-const KNOWN = 'The program says that the form of the text is right, and each budget the one that the roll, the '
-  + 'settings and the draw give. The page itself reads that bundles keep budgets, caps and timetables, that seats '
-  + 'suffice at any time, that turns are the due ones, and that what is held in the end follows. Whether the bundles '
-  + 'of others are their best, nobody can tell without their lines.';
-
 /**
- * Tells what of a text holds as far as one student can know it.
- * @param {Market} market @param {string[]} notes what of the lines was passed over
+ * Tells that no line that was given is one of a student of the roll.
+ * @param {Market} market @param {GivenFile[]} own the files of own lines
  */
-export function showOwn({ parts, roll, catalogue, said }, notes) {
-  const names = [...said.keys()];
-  const whose = names.length ? `with the lines of ${shortList(names)} alone` : 'but no lines of a student of its roll';
-  showVerdict(names.length ? 'right' : 'open', 'What you can know holds',
-    el('details', {}, el('summary', {}, `${parts.text.name}, ${whose}`),
-      p(`${plural(roll.length, 'student')}, ${plural(catalogue.length, 'section')}. ${KNOWN}`)),
-    notes.map(it => p(it)));
+export function showStrangers({ notes, parts }, own) {
+  const silent = own.map(silentWords).filter(Boolean), first = silent.length ? [...silent, WISH_LINE] : [];
+  const all = () => [
+    p(`None of them is of a student of ${parts.roll.name}: give your own lines, and the roll of the same term.`),
+    ...notes.map(it => p(it)),
+  ];
+  showVerdict('open', 'Whose lines are these?', first.map(it => p(it)), first.length ? opening(MORE, all) : all());
 }
 
 /**
  * Tells that a text holds.
- * @param {Market} market @param {GivenFile[]} unused what a manifest does not name
+ * @param {Checked} checked @param {{ students: number, sections: number }} counts
+ * @param {GivenFile[]} unused what a manifest does not name
  */
-export function showAccepted({ parts, roll, catalogue, ms }, unused) {
+export function showAccepted({ parts, answer }, { students, sections }, unused) {
   showVerdict('right', 'This text holds',
-    p(`${parts.text.name} was checked in ${timed(ms)}: ${plural(roll.length, 'student')}, `
-      + `${plural(catalogue.length, 'section')}. In the second stage each student has the best bundle that its budget `
+    p(`${parts.text.name} was checked in ${timed(answer.ms)}: ${plural(students, 'student')}, `
+      + `${plural(sections, 'section')}. In the second stage each student has the best bundle that its budget `
       + `buys `
       + 'at the published prices. At each turn of the aftermarket the student takes the best of what it holds and what '
       + 'is free. At no time has a section more students than seats. “Whole text” says what that means, and what it '

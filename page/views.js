@@ -2,6 +2,7 @@
 
 import { auditorView } from './auditor.js';
 import { $, button, el, p } from './elements.js';
+import { knownNodes } from './known_view.js';
 import { studentView } from './student.js';
 
 const VIEWS = ['student', 'rate', 'auditor', 'registrar'];
@@ -62,7 +63,8 @@ function goByKey(event) {
  */
 export function drawReaders(market, words) {
   shown.market = market;
-  $('student').replaceChildren(...market ? [chooser(market), el('div', { id: 'student-answer' })] : [p(words)]);
+  $('student').replaceChildren(...market ? [chooser(market), el('div', { id: 'student-answer' }, knownNodes(market))]
+    : [p(words)]);
   const isWhole = market && !market.isOwn;
   shown.waits = isWhole;
   $('auditor').replaceChildren(...isWhole ? [] : [p(market ? ALL_SESSIONS : words)]);
@@ -134,7 +136,7 @@ function drawStudent({ name, at }) {
 
 function showNobody() {
   delete $('student-answer').dataset.name;
-  $('student-answer').replaceChildren();
+  $('student-answer').replaceChildren(...knownNodes(shown.market));
   $('student-said').textContent = '';
 }
 

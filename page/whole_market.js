@@ -3,9 +3,10 @@
 import { saidByAll } from './alone.js';
 import { decoded } from './bytes.js';
 import { callOf } from './program.js';
+import { menuOf, worthOf } from './reckoning.js';
 import { catalogueIn, rollIn } from './tables.js';
 import { countsOf, publishedOf } from './texts.js';
-import { inPrintedOrder, packed, preferencesOf } from './wishes.js';
+import { inPrintedOrder, packed, wishedLines, wishesBy } from './wishes.js';
 
 /** The most sessions of one call. */
 const MOST_IN_A_CALL = 64;
@@ -18,15 +19,30 @@ const MOST_IN_A_CALL = 64;
  */
 export async function wholeMarketOf(ask, parts) {
   const catalogue = catalogueIn(parts), roll = rollIn(parts);
-  const text = publishedOf(decoded(parts.text.bytes), catalogue, roll), sessions = parts.sessions.map(it => it.bytes);
+  const text = publishedOf(parts.text.bytes, catalogue, roll), sessions = parts.sessions.map(it => it.bytes);
   const said = saidByAll(text.order, sessions);
-  const { wishes, refusal } = await wishesOf(ask, parts, wishedIn(text.order, sessions, said, roll));
+  const { wished, refusal } = await wishesOf(ask, parts, wishedIn(text.order, sessions, said, roll));
   if (refusal) return { refusal };
   return { market: {
-    catalogue, roll, text, wishes, said, settings: JSON.parse(decoded(parts.settings.bytes)),
+    catalogue, roll, text, said, wished, worths: worthsOf({ catalogue, roll, text, wishes: wishesBy(wished) }),
+    settings: JSON.parse(decoded(parts.settings.bytes)),
     sectionOf: new Map(catalogue.map(it => [it.name, it])),
     counts: countsOf(text.bundles.map(it => it.names), catalogue), endCounts: countsOf(text.finals, catalogue),
   } };
+}
+
+/**
+ * What the bundles of each student are worth to it.
+ * @param {{ catalogue: Section[], roll: Student[], text: PublishedText, wishes: WishesOfAll }} market
+ * @returns {Worths[]}
+ */
+function worthsOf(market) {
+  return market.roll.map(({ at }) => {
+    const menu = menuOf(market, at);
+    const worth = (/** @type {string[]} */ names) => worthOf(menu, names.map(it => menu.of.get(it)));
+    const second = worth(market.text.bundles[at].names), end = worth(market.text.finals[at]);
+    return { rated: menu.places.length, second, end };
+  });
 }
 
 /**
@@ -46,10 +62,10 @@ export function wishedIn(order, sessions, said, roll) {
 /**
  * What the students want, from one call of `prefer` after the other.
  * @param {import('./one_student.js').Ask} ask @param {Parts} parts @param {Uint8Array[][]} calls
- * @returns {Promise<{ wishes?: Map<string, Wishes>, refusal?: Checked }>}
+ * @returns {Promise<{ wished?: Map<string, string>, refusal?: Checked }>}
  */
 async function wishesOf(ask, parts, calls) {
-  const wishes = new Map();
+  const wished = new Map();
   for (const sessions of calls) {
     /** @type {GivenFile[]} */
     const named = sessions.map((bytes, at) =>
@@ -57,7 +73,7 @@ async function wishesOf(ask, parts, calls) {
     const heard = { ...parts, sessions: named }, call = callOf('prefer', heard);
     const answer = await ask('Reading what the students want', call);
     if (answer.status !== 0) return { refusal: { answer, call, parts: heard } };
-    for (const [name, wished] of preferencesOf(answer.text)) wishes.set(name, wished);
+    for (const [name, lines] of wishedLines(answer.text)) wished.set(name, lines);
   }
-  return { wishes };
+  return { wished };
 }

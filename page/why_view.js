@@ -6,7 +6,9 @@ import { explainedIn, explanationOf, unjudgedWords, unratedIn } from './one_stud
 import { callOf } from './program.js';
 import { menuOf, walkOf } from './reckoning.js';
 import { turnOrder } from './seats_and_turns.js';
-import { grouped, longReason, section, shortReason, stagesName, studentName } from './stage_words.js';
+import {
+  grouped, laterReason, longReason, section, shortReason, stageName, stagesName, studentName,
+} from './stage_words.js';
 import { plural } from './wording.js';
 import { answerWords } from './words.js';
 import { work } from './work.js';
@@ -144,13 +146,40 @@ function questionOf(market, student, stages, name, isOpen) {
 const isWithoutSeats = ({ told }) => told && ['held', 'unrated'].includes(told.reason);
 
 /**
+ * Why a student has no seat in a section, in a line: the reason of the second stage, and what was of the section in the
+ * aftermarket.
  * @param {Market} market @param {number} student @param {Stage[]} stages @param {string} name @param {Reply[]} replies
  */
-function shortAnswer(market, student, stages, name, replies) {
-  const [first, later] = replies.map(it => shortReason(market, student, it.stage, name, it.told));
-  if (isWithoutSeats(replies[0]) || stages.length < 2) return `${first}.`;
-  if (!later) return `${first}; no seat was free later.`;
-  return later === first ? `${first}; free later, and the same holds.` : `${first}; free later: ${later}.`;
+export function shortAnswer(market, student, stages, name, replies) {
+  const [first, ...later] = replies, taken = later.find(it => it.told.reason === 'held'), last = later.at(-1);
+  const words = (/** @type {Reply} */ it) => shortReason(market, student, it.stage, name, it.told);
+  if (isWithoutSeats(first) || stages.length < 2) return `${words(first)}.`;
+  if (taken) return `${words(first)}. ${stageName(taken.stage)}: ${words(taken)}.`;
+  if (!last) return `${words(first)}. Aftermarket: ${noneFree(market, student, stages, name)}.`;
+  const why = laterReason(market, student, last.stage, name, last.told, first.told);
+  return `${words(first)}. ${stageName(last.last)}: ${freeAt(market, student, last.last, name)}, but ${why}.`;
+}
+
+/**
+ * How many seats of how many were free.
+ * @param {Market} market @param {string} name @param {number} free
+ */
+const freeOf = (market, name, free) =>
+  `${free} of ${plural(market.sectionOf.get(name).seats, 'seat')} ${free === 1 ? 'was' : 'were'} free`;
+
+/** @param {Market} market @param {number} student @param {Stage} stage @param {string} name */
+const freeAt = (market, student, stage, name) =>
+  `${freeOf(market, name, stage.free.get(name))} at the turn of ${studentName(market, student)}`;
+
+/**
+ * Of a section that had no free seat at any turn of a student: whether it had some before.
+ * @param {Market} market @param {number} student @param {Stage[]} stages @param {string} name
+ */
+function noneFree(market, student, stages, name) {
+  const free = market.sectionOf.get(name).seats - market.counts.get(name);
+  const at = `at the ${stages.length > 2 ? 'turns' : 'turn'} of ${studentName(market, student)}`;
+  return free > 0 ? `${freeOf(market, name, free)} when it began, and gone ${at}`
+    : `no seat was free when it began, nor ${at}`;
 }
 
 /**
@@ -176,7 +205,7 @@ function replyNodes(market, student, { stage, last, told, failed }, name) {
 function treeNode(market, student, { budget, allowed }, name, { best, tree }) {
   if (unratedIn(market, student, best).length) return '';
   const walk = walkOf(market, student, { budget, allowed, champion: best, forced: name });
-  const title = `The tree that proves that no bundle with ${section(market, name)} was better`;
+  const title = `The proof that no bundle with ${section(market, name)} was better`;
   return opening(title, () => drawingOf(walk, tree));
 }
 
@@ -187,13 +216,13 @@ function treeNode(market, student, { budget, allowed }, name, { best, tree }) {
 function freeNodes(market, student, stages, name) {
   const { seats } = market.sectionOf.get(name), who = studentName(market, student);
   const count = (/** @type {number} */ it) => it > 0 ? it : 'none', after = seats - market.counts.get(name);
-  const runs = freeRuns(stages, name), isTaken = runs.length && !runs.some(it => it.free > 0);
+  const runs = freeRuns(stages, name), isTaken = runs.length && !runs.some(it => it.free > 0 || it.isHeld);
   return [
     p(el('b', {}, 'Free seats'), ` of ${section(market, name)}, of ${seats} in all:`),
     el('ul', {},
       el('li', {}, `at the end of the second stage: ${count(after)}`),
-      runs.map(it => el('li', {}, `${stagesName(it.first, it.last).toLowerCase()}, at the turn of ${who}: `
-        + `${count(it.free)}`)),
+      runs.map(it => el('li', {}, `${stagesName(it.first, it.last).toLowerCase()}, at the turn of ${who}`
+        + `${it.isHeld ? `, besides the seat of ${who}` : ''}: ${count(it.free)}`)),
       el('li', {}, `in the end: ${count(seats - market.endCounts.get(name))}`)),
     isTaken ? p(turnWords(market, student, after > 0)) : '',
   ];
@@ -207,16 +236,17 @@ function turnWords(market, student, wasFree) {
 }
 
 /**
- * How many seats were free at the turns, those with equally many that follow each other as one.
+ * How many seats were free at the turns, and whether the student had one itself, equal ones that follow each other as
+ * one.
  * @param {Stage[]} stages @param {string} name
  */
 function freeRuns(stages, name) {
-  /** @type {{ first: Stage, last: Stage, free: number }[]} */
+  /** @type {{ first: Stage, last: Stage, free: number, isHeld: boolean }[]} */
   const runs = [];
   for (const it of stages.filter(stage => stage.pass)) {
-    const free = it.free.get(name), before = runs.at(-1);
-    if (before?.free === free) before.last = it;
-    else runs.push({ first: it, last: it, free });
+    const free = it.free.get(name), isHeld = it.before.includes(name), before = runs.at(-1);
+    if (before?.free === free && before.isHeld === isHeld) before.last = it;
+    else runs.push({ first: it, last: it, free, isHeld });
   }
   return runs;
 }

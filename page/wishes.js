@@ -1,8 +1,9 @@
 // What the students said. The desk itself is the program's: what all have said, in the text's order, is put into one
 // session, and `prefer` tells how it ends.
 
+import { namedIn } from './alone.js';
 import { decoded, encoded, isSame } from './bytes.js';
-import { commandCount, eachCommand, hasMark } from './lines.js';
+import { LINE_FEED, commandCount, commandsIn, eachCommand, hasMark } from './lines.js';
 import { plural, shortList, visible } from './wording.js';
 
 /** The most bytes of a session. */
@@ -11,7 +12,8 @@ const MOST_BYTES = 2 ** 24;
 /** A line that says nothing. */
 const COMMENT = encoded('#');
 
-const FEED = 10;
+/** The most bytes of an order line that are read: one of 200,000 commands in 64 sessions is shorter. */
+const LONGEST_ORDER = 2 ** 20;
 
 /**
  * How often each session stands in an order.
@@ -50,9 +52,32 @@ export function possibleOrders(sizes, order, most) {
  * @param {Uint8Array} bytes @returns {number[]}
  */
 export function orderOf(bytes) {
-  const from = bytes.indexOf(10) + 1, to = bytes.indexOf(10, from);
-  const line = decoded(bytes.subarray(from, to < 0 ? bytes.length : to));
+  const from = bytes.indexOf(LINE_FEED) + 1, to = bytes.indexOf(LINE_FEED, from);
+  const line = decoded(bytes.subarray(from, Math.min(to < 0 ? bytes.length : to, from + LONGEST_ORDER)));
   return line.startsWith('order') ? line.split(' ').slice(1).map(Number) : [];
+}
+
+/** How a line looks by which a student says what it wishes. */
+export const WISH_LINE = 'Such a line looks so, with nothing before it: “rate NAME SECTION POINTS”.';
+
+/**
+ * Which sessions of a student's wishes have none, in words: of those of which the order of a text does not take so many
+ * commands.
+ * @param {GivenFile[]} sessions @param {number[]} order
+ */
+export const silentAmong = (sessions, order) => strayAmong(sessions, order).map(silentWords).filter(Boolean);
+
+/**
+ * The sessions that no session of the order has as many commands as.
+ * @param {GivenFile[]} sessions @param {number[]} order
+ */
+function strayAmong(sessions, order) {
+  const left = [...countsIn(order).values()];
+  return sessions.filter(it => {
+    const at = left.indexOf(commandCount(it.bytes));
+    if (at >= 0) left.splice(at, 1);
+    return at < 0;
+  });
 }
 
 /**
@@ -79,6 +104,15 @@ export function sessionsWords(sessions, order) {
       : 'Each session has as many commands as the text takes, but they stand in another order: the school says in '
         + 'which.',
   ].filter(Boolean);
+}
+
+/**
+ * That a file has no line of a wish, in words; nothing where it has one.
+ * @param {GivenFile} file
+ */
+export function silentWords({ name, bytes }) {
+  if (!bytes.length) return `${name} is empty.`;
+  return namedIn(bytes).names.size ? '' : `No line of ${name} is a student's wish.`;
 }
 
 /** @param {number[]} lacking */
@@ -112,48 +146,41 @@ function sameWords(sessions) {
  * @returns {Uint8Array[]}
  */
 export function inPrintedOrder(order, sessions) {
-  const left = sessions.map(bytes => {
-    /** @type {Uint8Array[]} */
-    const lines = [];
-    eachCommand(bytes, (from, to) => lines.push(bytes.subarray(from, to)));
-    return lines;
-  });
-  const at = sessions.map(() => 0);
-  return packed(order.map(it => left[it - 1][at[it - 1]++]));
+  const commands = sessions.map(commandsIn), at = sessions.map(() => 0);
+  const lines = function* () {
+    for (const it of order) {
+      const number = at[it - 1]++, { from, to } = commands[it - 1];
+      yield sessions[it - 1].subarray(from[number], to[number]);
+    }
+  };
+  return packed(lines());
 }
 
 /**
  * Lines in as few sessions as hold them. No line stands where a byte order mark of its own would be dropped.
- * @param {Uint8Array[]} lines
+ * @param {Iterable<Uint8Array>} lines
  * @returns {Uint8Array[]}
  */
 export function packed(lines) {
-  /** @type {Uint8Array[][]} */
-  const parts = [];
-  let size = MOST_BYTES;
-  for (const it of lines) {
-    if (size + it.length + 1 > MOST_BYTES) {
-      parts.push(hasMark(it, 0) ? [COMMENT] : []);
-      size = hasMark(it, 0) ? COMMENT.length + 1 : 0;
-    }
+  /** @type {Uint8Array[]} */
+  const parts = [], room = new Uint8Array(MOST_BYTES + COMMENT.length + 1);
+  let size = 0;
+  const put = (/** @type {Uint8Array} */ it) => {
+    room.set(it, size);
     size += it.length + 1;
-    parts.at(-1).push(it);
-  }
-  return parts.map(joinedLines);
-}
-
-/**
- * Lines with a line feed between them.
- * @param {Uint8Array[]} lines
- */
-function joinedLines(lines) {
-  const all = new Uint8Array(lines.reduce((sum, it) => sum + it.length + 1, -1)).fill(FEED);
-  let at = 0;
+    room[size - 1] = LINE_FEED;
+  };
+  const end = () => {
+    if (size) parts.push(room.slice(0, size - 1));
+    size = 0;
+  };
   for (const it of lines) {
-    all.set(it, at);
-    at += it.length + 1;
+    if (size + it.length + 1 > MOST_BYTES) end();
+    if (!size && hasMark(it, 0)) put(COMMENT);
+    put(it);
   }
-  return all;
+  end();
+  return parts;
 }
 
 /**
@@ -176,6 +203,46 @@ export function preferencesOf(answer) {
 }
 
 /**
+ * The lines of the closed preferences that `prefer` prints, by students.
+ * @param {string} answer
+ * @returns {Map<string, string>}
+ */
+export function wishedLines(answer) {
+  const found = new Map();
+  for (const line of answer.split('\n')) {
+    const [word, student] = line.split(' ', 2);
+    if (word === 'rate' || word === 'pair') found.set(student, `${found.get(student) ?? ''}${line}\n`);
+  }
+  return found;
+}
+
+/**
+ * What students want, by these lines, each read when it is asked for.
+ * @param {Map<string, string>} lines
+ * @returns {WishesOfAll}
+ */
+export function wishesBy(lines) {
+  /** @type {Map<string, Wishes>} */
+  const known = new Map();
+  return { get: name => {
+    if (!known.has(name) && lines.has(name)) known.set(name, preferencesOf(lines.get(name)).get(name));
+    return known.get(name);
+  } };
+}
+
+/**
+ * Why the desk does not carry a command out, by its reply, in words.
+ * @type {Record<string, string>}
+ */
+export const REPLIES = {
+  unreadable: 'the line is no command', closed: 'a session has closed the desk',
+  'no-student': 'the student is not on the roll',
+  'no-section': 'the section is not in the catalogue', 'same-pair': 'the two sections are the same',
+  'out-of-range': 'a rating is 0 to 100, an adjustment -200 to 200',
+  'too-many': 'a student has at most 60 ratings and 200 adjustments',
+};
+
+/**
  * The desk's replies other than `done`, each with the file and line of its command.
  * @param {string} answer what `prefer` printed @param {GivenFile[]} sessions
  * @returns {Reply[]}
@@ -193,11 +260,15 @@ export function repliesOf(answer, sessions) {
     if (word !== 'entry') continue;
     const number = Number(session) - 1, { row, said } = left[number][at[number]++];
     if (reply === 'done') continue;
-    const isUnread = command[0] === 'unreadable', shown = () => visible(decoded(said.subarray(0, MOST_SHOWN)).trim());
+    const isUnread = command[0] === 'unreadable';
+    const shown = () => visible(decoded(said.subarray(0, MOST_SHOWN)).replace(/\r$/, '').replace(BLANKS, ''));
     found.push({ file: sessions[number].name, row, reply, command: isUnread ? shown() : command.join(' ') });
   }
   return found;
 }
+
+/** Blanks at the ends of a line. (A return that is no line's end stays: for it the desk could not read the line.) */
+const BLANKS = /^[ \t]+|[ \t]+$/g;
 
 /** How many bytes of a line are shown that the desk could not read. */
 const MOST_SHOWN = 300;

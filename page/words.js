@@ -8,7 +8,7 @@ import { jsonPlace, settingsWords } from './settings.js';
 import { catalogueIn, recordAt, rollIn } from './tables.js';
 import { linesOf, turnCount } from './texts.js';
 import { plural, quoted, shortList, visible } from './wording.js';
-import { orderOf, sessionsWords } from './wishes.js';
+import { WISH_LINE, orderOf, sessionsWords, silentAmong } from './wishes.js';
 
 /**
  * Of each table the columns, with what is expected there.
@@ -89,8 +89,8 @@ const DEFECTS = {
 
 /** @param {string} whose @param {string} defect @param {string} at */
 const treeWords = (whose, defect, at) =>
-  `The tree of ${whose} does not prove that the bundle is the best one: behind its first ${at} characters `
-  + `${DEFECTS[defect]}.`;
+  `The tree of ${whose}, the signs behind its bundle, does not prove that the bundle is the best one: behind its first `
+  + `${at} characters ${DEFECTS[defect]}.`;
 
 const INFEASIBLE = 'cannot have this bundle: two sections clash, a cap is passed, or a section is not rated.';
 
@@ -172,7 +172,7 @@ function firstLineWords(finding, { catalogue, roll }) {
  */
 function layoutOf(parts) {
   const catalogue = catalogueIn(parts), roll = rollIn(parts), lines = new Lines(parts.text.bytes);
-  const turns = turnCount(it => lines.at(it), linesOf(roll.length, catalogue.length, 0).turns);
+  const turns = turnCount(lines, linesOf(roll.length, catalogue.length, 0).turns);
   return { catalogue, roll, lines, at: linesOf(roll.length, catalogue.length, turns) };
 }
 
@@ -274,6 +274,9 @@ const OTHER_ORDERS = 'That is so in the order of the list, and in none of the fi
   + 'the text hold. The sessions can stand in others, since several have equally many commands: put them into the '
   + 'order that the school says (“Up” in the list of the files).';
 
+/** What is told of work that was stopped. */
+export const STOPPED_WORDS = { title: 'Stopped', words: 'The work was stopped before its end. Nothing is lost.' };
+
 /**
  * What an answer says, by its status. `line` is its last line, `name` the file that it names.
  * @type {Record<string, (of: { line: string, call: Call, name: string }) => Told>}
@@ -310,7 +313,7 @@ const TOLD = {
     words: `No ${line.endsWith('6') ? 'student of the roll' : 'section of the catalogue'} has this name. `
       + 'Capital letters count.',
   }),
-  stopped: () => ({ title: 'Stopped', words: 'The work was stopped before its end. Nothing is lost.' }),
+  stopped: () => STOPPED_WORDS,
 };
 
 /**
@@ -335,8 +338,12 @@ export function answerWords(answer, call) {
  */
 export function refusalOf({ answer, call, parts, isCut }) {
   const told = answerWords(answer, call), { finding } = told;
-  if (!finding) return { told, excerpt: null, causes: [] };
+  if (!finding) return { told, excerpt: null, causes: [], first: [] };
   const isUnsure = isCut && !/^line/.test(finding);
   const unsure = isUnsure ? { title: 'This text was not found to hold', help: OTHER_ORDERS } : {};
-  return { told: { ...told, ...unsure }, excerpt: excerptOf(finding, parts), causes: causesOf(finding, parts) };
+  const silent = finding.startsWith('journal') ? silentAmong(parts.sessions, orderOf(parts.text.bytes)) : [];
+  return {
+    told: { ...told, ...unsure }, excerpt: excerptOf(finding, parts), causes: causesOf(finding, parts),
+    first: silent.length ? [...silent, WISH_LINE] : [],
+  };
 }

@@ -2,6 +2,7 @@
 
 import { $ } from './elements.js';
 import { Program } from './program.js';
+import { STOPPED_WORDS } from './words.js';
 
 /** @type {Program} */
 let program;
@@ -45,6 +46,14 @@ export const work = (title, call, note) => told(title, () => program.ask(call), 
  * @returns {Promise<Awaited<ReturnType<Readings[Name]>> | null>}
  */
 export const read = (title, name, ...given) => told(title, () => program.read(name, given));
+
+/**
+ * What an answer that is no result says: what was refused may be long, so the worker reads it.
+ * @param {Answer} answer @param {Call} call
+ * @returns {Promise<Told>}
+ */
+export const toldOf = async (answer, call) => answer.status === 'stopped' ? STOPPED_WORDS
+  : await read('Reading what is refused', 'told', answer, call) ?? STOPPED_WORDS;
 
 /**
  * Tells that something is done, as long as it is.

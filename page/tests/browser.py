@@ -10,6 +10,7 @@ import tempfile
 import time
 from collections.abc import Callable, Iterator
 from pathlib import Path
+from typing import Any
 
 FLAGS = (
     "--headless",
@@ -32,15 +33,19 @@ def chromium() -> str | None:
 class Browser:
     """One tab of one browser. `seen` has the addresses that the page asked for and what failed in it."""
 
-    def __init__(self, process: subprocess.Popen, to: int, answers: int) -> None:
+    def __init__(self, process: subprocess.Popen[bytes], to: int, answers: int) -> None:
         self.process, self.to, self.answers = process, to, answers
-        self.count, self.rest, self.seen, self.session, self.loads = 0, b"", [], None, 0
+        self.count, self.rest, self.session, self.loads = 0, b"", None, 0
+        self.seen: list[tuple[str, str]] = []
+        self.events: list[dict[str, Any]] = []
+        self.ran: list[dict[str, Any]] = []
+        self.process_of_page = 0
         tab = self.call("Target.createTarget", url="about:blank")["targetId"]
         self.session = self.call("Target.attachToTarget", targetId=tab, flatten=True)["sessionId"]
         for domain in ("Page", "Runtime", "Log", "Network", "DOM"):
             self.call(f"{domain}.enable")
 
-    def messages(self) -> Iterator[dict]:
+    def messages(self) -> Iterator[dict[str, Any]]:
         """The browser's messages as they come: each ends with a zero byte."""
         while True:
             while b"\0" in self.rest:
@@ -51,7 +56,7 @@ class Browser:
                 raise RuntimeError("the browser ended")
             self.rest += read
 
-    def call(self, method: str, **parameters) -> dict:
+    def call(self, method: str, **parameters: Any) -> dict[str, Any]:
         """Calls a method of the protocol and waits for its answer."""
         self.count += 1
         message = {"id": self.count, "method": method, "params": parameters}
@@ -68,7 +73,7 @@ class Browser:
             self.note(answer)
         raise RuntimeError("the browser ended")
 
-    def note(self, message: dict) -> None:
+    def note(self, message: dict[str, Any]) -> None:
         """Keeps what the page asked for and what failed."""
         method, told = message.get("method"), message.get("params", {})
         if method == "Network.requestWillBeSent":
@@ -76,6 +81,8 @@ class Browser:
         elif method == "Runtime.exceptionThrown":
             details = told["exceptionDetails"]
             self.seen.append(("fails", details.get("exception", {}).get("description", details["text"])))
+        elif method == "Tracing.dataCollected":
+            self.events += told["value"]
         elif method == "Page.loadEventFired":
             self.loads += 1
         elif method == "Page.javascriptDialogOpening":
@@ -83,7 +90,7 @@ class Browser:
         elif method == "Log.entryAdded" and told["entry"]["level"] in ("error", "warning"):
             self.seen.append(("fails", told["entry"]["text"]))
 
-    def evaluate(self, expression: str):
+    def evaluate(self, expression: str) -> Any:
         """The value of an expression of JavaScript, once its promise is kept."""
         answer = self.call("Runtime.evaluate", expression=expression, awaitPromise=True, returnByValue=True)
         if "exceptionDetails" in answer:
@@ -95,13 +102,46 @@ class Browser:
         self.until(lambda: self.evaluate(f"!!({expression})"), expression, seconds)
 
     @staticmethod
-    def until(holds: Callable[[], bool], words: str, seconds: float = 180) -> None:
+    def until(holds: Callable[[], object], words: str, seconds: float = 180) -> None:
         """Waits till something holds, which these words say."""
         end = time.monotonic() + seconds
         while not holds():
             if time.monotonic() > end:
                 raise RuntimeError(f"this did not come within {seconds} seconds: {words}")
             time.sleep(0.05)
+
+    @contextlib.contextmanager
+    def tasks(self) -> Iterator[list[float]]:
+        """Takes note of the tasks of the page's own thread: at the end the list has the processor time of each, in
+        milliseconds, and `process_of_page` is the number of the process that has them. (By the clock a task takes longer
+        where the machine does other work too.)"""
+        found: list[float] = []
+        self.events.clear()
+        categories = ["toplevel", "blink.user_timing", "__metadata"]
+        config = {"includedCategories": categories, "excludedCategories": ["*"]}
+        self.call("Tracing.start", transferMode="ReportEvents", traceConfig=config)
+        yield found
+        self.call("Tracing.end")
+        for message in self.messages():
+            self.note(message)
+            if message.get("method") == "Tracing.tracingComplete":
+                break
+        threads = {(it["pid"], it["tid"]): it["args"]["name"] for it in self.events if it["name"] == "thread_name"}
+        of: dict[int, list[dict[str, Any]]] = {}
+        for it in self.events:
+            thread = threads.get((it["pid"], it["tid"]), "")
+            if it["name"] == "ThreadControllerImpl::RunTask" and thread in ("CrRendererMain", "DedicatedWorker thread"):
+                of.setdefault(it["pid"], []).append({**it, "is_main": thread == "CrRendererMain"})
+        self.process_of_page = max(of, key=lambda process: sum(it.get("tdur", 0) for it in of[process]))
+        self.ran = of[self.process_of_page]
+        found += sorted(it.get("tdur", 0) / 1000 for it in self.ran if it["is_main"])
+
+    def between(self, begin: str, end: str) -> float:
+        """The processor time between two marks of the page, while tasks were taken note of, in milliseconds: of the page
+        or of its worker, which work beside each other, whichever had more."""
+        at = {it["name"]: it["ts"] for it in self.events if "blink.user_timing" in it.get("cat", "")}
+        then = [it for it in self.ran if at[begin] <= it["ts"] <= at[end]]
+        return max(sum(it.get("tdur", 0) / 1000 for it in then if it["is_main"] == is_main) for is_main in (True, False))
 
     def go(self, address: str) -> None:
         """Opens a page and waits till it is whole."""
@@ -155,7 +195,7 @@ class Browser:
         )
         file.write_bytes(base64.b64decode(answer["data"]))
 
-    def whole_page(self) -> dict:
+    def whole_page(self) -> dict[str, Any]:
         """The whole page as a part to be pictured."""
         size = self.call("Page.getLayoutMetrics")["cssContentSize"]
         return {"x": 0, "y": 0, "width": size["width"], "height": min(size["height"], 12000), "scale": 1}
@@ -169,7 +209,7 @@ def browser() -> Iterator[Browser]:
     with tempfile.TemporaryDirectory(prefix="course-match-", ignore_cleanup_errors=True) as folder:
         # (the browser takes the protocol at its files 3 and 4, so the shell moves the pipes' ends there)
         shell = f'exec "$@" 3<&{words_in} 4>&{words_out}'
-        words = ["sh", "-c", shell, "", chromium(), *FLAGS, f"--user-data-dir={folder}", "about:blank"]
+        words = ["sh", "-c", shell, "", str(chromium()), *FLAGS, f"--user-data-dir={folder}", "about:blank"]
         environment = {**os.environ, "HOME": folder}
         process = subprocess.Popen(
             words,

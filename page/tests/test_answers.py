@@ -2,16 +2,19 @@
 
 import base64
 import json
+import queue
 import random
 import tempfile
 import unittest
+from concurrent.futures import ThreadPoolExecutor
 from pathlib import Path
+from typing import Any
 
-from browser import browser, chromium
+from browser import Browser, browser, chromium
 from calls import OF_TERM, SESSIONS, TABLES, example_calls, worked_calls
 from common import PAGE, PROGRAM, TERM, in_page, native, open_page, refuser
 
-SPOILED, SEED = 2000, 20261128
+SPOILED, SEED, THREADS = 2000, 20261128, 4
 
 
 def edits(text: bytes, count: int) -> list[tuple[int, int, str]]:
@@ -59,6 +62,10 @@ GIVE = """(([words, text, files]) => {
 class Answers(unittest.TestCase):
     """Bytes and statuses of the page's module."""
 
+    room: Path
+    tab: Browser
+    refuse: Path
+
     @classmethod
     def setUpClass(cls) -> None:
         cls.room = Path(cls.enterClassContext(tempfile.TemporaryDirectory(prefix="course-match-")))
@@ -83,21 +90,36 @@ class Answers(unittest.TestCase):
     @unittest.skipUnless(PROGRAM.is_file(), "no native program to compare with")
     def test_spoiled_texts(self) -> None:
         files = {name: (TERM / name).read_bytes() for name in [*TABLES, *SESSIONS]}
-        text, words, counts = (TERM / "published.txt").read_bytes(), ["check", *TABLES, "published.txt", *SESSIONS], {}
+        text, words = (TERM / "published.txt").read_bytes(), ["check", *TABLES, "published.txt", *SESSIONS]
+        counts: dict[int, int] = {}
         given = [
             words,
             base64.b64encode(text).decode(),
             [[name, base64.b64encode(it).decode()] for name, it in files.items()],
         ]
         self.tab.evaluate(f"{GIVE}({json.dumps(given)})")
+        rooms: queue.SimpleQueue[Path] = queue.SimpleQueue()
+        for number in range(THREADS):
+            (self.room / str(number)).mkdir()
+            rooms.put(self.room / str(number))
+
+        def answer_of(edit: tuple[int, int, str]) -> list[Any]:
+            at, gone, come = edit
+            room = rooms.get()
+            spoilt = {**files, "published.txt": text[:at] + come.encode() + text[at + gone :]}
+            status, out = native(words, spoilt, room, self.refuse)
+            rooms.put(room)
+            return [status, out.decode()]
+
         all_edits = edits(text, SPOILED)
-        for first in range(0, SPOILED, 100):
-            some = all_edits[first : first + 100]
-            for (at, gone, come), answer in zip(some, self.tab.evaluate(f"{CHECK}({json.dumps(some)})"), strict=True):
-                spoilt = {**files, "published.txt": text[:at] + come.encode() + text[at + gone :]}
-                status, out = native(words, spoilt, self.room, self.refuse)
-                self.assertEqual([status, out.decode()], answer, (at, gone, come))
-                counts[status] = counts.get(status, 0) + 1
+        with ThreadPoolExecutor(THREADS) as pool:
+            due = pool.map(answer_of, all_edits)  # (begun at once, while the page answers)
+            for first in range(0, SPOILED, 100):
+                some = all_edits[first : first + 100]
+                for edit, answer in zip(some, self.tab.evaluate(f"{CHECK}({json.dumps(some)})"), strict=True):
+                    expected = next(due)
+                    self.assertEqual(expected, answer, edit)
+                    counts[expected[0]] = counts.get(expected[0], 0) + 1
         print(f"page: {SPOILED} spoiled texts, by status {counts}")
 
     def test_want_of_memory_is_status_7(self) -> None:

@@ -9,7 +9,7 @@ from pathlib import Path
 
 PAGE = Path(__file__).resolve().parents[1]
 sys.path.insert(0, str(PAGE))
-import join  # noqa: E402
+import join
 
 
 class Join(unittest.TestCase):
@@ -59,6 +59,11 @@ class Join(unittest.TestCase):
         self.refused("b as c", a="import { b as c } from './b.js';\n", b="export const b = 1;\n")
 
     @unittest.skipUnless(shutil.which("node"), "no node")
+    def test_lines_have_120_columns_at_most(self) -> None:
+        for file in [*PAGE.glob("*.js"), *PAGE.glob("*.ts"), *PAGE.glob("tests/unit/*.js")]:
+            for number, line in enumerate(file.read_text().splitlines(), 1):
+                self.assertLessEqual(len(line), 120, f"{file.name}:{number}")
+
     def test_scripts_of_the_page_are_scripts(self) -> None:
         for entry in ("page", "worker"):
             (self.room / f"{entry}.js").write_text(join.joined(PAGE, entry))

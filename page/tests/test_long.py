@@ -6,32 +6,18 @@ import tempfile
 import unittest
 from pathlib import Path
 
-from browser import browser, chromium
-from common import PAGE, TERM, open_page
+from browser import Browser, browser, chromium
+from common import LONGEST_TASK, PAGE, TERM, open_page
 
 FILES = ["catalogue.csv", "roll.csv", "settings.json", "published.txt", "desk.session", "web.session"]
-
-# The page copies a text to its worker, so it may be held up as long as some copies take; a machine that does other work
-# too is slower in both. (A text that is read in the page itself holds it up for a minute.)
-COPIES, LEAST_LIMIT = 15, 2000
-COPY = """(it => {
-  const begun = performance.now();
-  structuredClone(it);
-  return performance.now() - begun;
-})(new Uint8Array(6e7))"""
-HELD_UP = """
-globalThis.last = performance.now();
-globalThis.held = 0;
-setInterval(() => {
-  globalThis.held = Math.max(globalThis.held, performance.now() - globalThis.last);
-  globalThis.last = performance.now();
-}, 10);
-"""
+MANY = b"\n" * (60 << 20)
 
 
 @unittest.skipUnless(chromium() and PAGE.is_file(), "no Chromium, or no page is built")
 class Long(unittest.TestCase):
     """Files of many bytes."""
+
+    tab: Browser
 
     @classmethod
     def setUpClass(cls) -> None:
@@ -42,36 +28,86 @@ class Long(unittest.TestCase):
         for name in FILES:
             shutil.copy(TERM / name, self.room / name)
         open_page(self.tab)
-        self.limit = max(LEAST_LIMIT, COPIES * max(self.tab.evaluate(COPY) for _ in range(3)))
-        self.tab.evaluate(HELD_UP)
 
-    def told(self, changed: dict[str, bytes]) -> str:
-        """What the page says of the example term with another file."""
+    def give(self, changed: dict[str, bytes]) -> None:
+        """Gives the example term with another file, or with one more."""
         for name, content in changed.items():
             (self.room / name).write_bytes(content)
+        self.tab.evaluate("list.set([])")
         self.tab.choose("#choose", sorted(self.room.iterdir()))
-        self.tab.wait("$('verdict').textContent && !isWorking()")
-        self.assertLess(self.tab.evaluate("globalThis.held"), self.limit)
+
+    def told(self, changed: dict[str, bytes], more: str = "") -> str:
+        """What the page says of the example term with another file; nothing holds it up meanwhile, nor what is done
+        then."""
+        with self.tab.tasks() as tasks:
+            self.give(changed)
+            self.tab.wait("$('verdict').textContent && !isWorking()")
+            if more:
+                self.tab.evaluate(more)
+                self.tab.wait("!isWorking()")
+        self.assertLess(tasks[-1], LONGEST_TASK)
         return self.tab.evaluate("$('verdict').textContent")
 
     def test_text_of_line_feeds(self) -> None:
-        self.assertIn("line 1", self.told({"published.txt": b"\n" * (60 << 20)}))
+        self.assertIn("line 1", self.told({"published.txt": MANY}))
+
+    def test_text_of_one_order_line(self) -> None:
+        self.assertIn("line 2", self.told({"published.txt": b"course-match 2\norder" + b" 1" * (30 << 20)}))
 
     def test_session_of_line_feeds(self) -> None:
-        self.assertIn("more.session", self.told({"more.session": b"clear n.jones\n" + b"\n" * (60 << 20)}))
+        """Also for the form, which looks in it for the lines of whoever writes its name."""
+        name = "$('rate-name').value = 'n.jones'; $('rate-name').dispatchEvent(new Event('input'))"
+        self.assertIn("more.session", self.told({"more.session": b"clear n.jones\n" + MANY}, name))
+        take = "Take the 1 line of n.jones in more.session"
+        self.tab.wait(f"document.querySelector('.who').textContent.includes('{take}')")
+
+    def test_session_of_one_line(self) -> None:
+        """Whose words are as long as it."""
+        self.assertIn("more.session", self.told({"more.session": b"clear " + b"n" * (15 << 20)}))
 
     def test_quote_that_is_not_closed(self) -> None:
-        catalogue = (TERM / "catalogue.csv").read_bytes() + b'"' + b"x,y\n" * (15 << 18)
-        self.assertIn("catalogue.csv, row", self.told({"catalogue.csv": catalogue}))
+        """In the catalogue, of which the form shows nothing then, and in the roll."""
+        quote = b'"' + b"x,y\n" * (15 << 18)
+        form = "$('to-rate').click()"
+        catalogue = (TERM / "catalogue.csv").read_bytes()
+        self.assertIn("catalogue.csv, row", self.told({"catalogue.csv": catalogue + quote}, form))
+        self.assertIn("catalogue.csv is no catalogue", self.tab.evaluate("$('rate').textContent"))
+        roll = (TERM / "roll.csv").read_bytes() + quote
+        self.assertIn("roll.csv, row", self.told({"catalogue.csv": catalogue, "roll.csv": roll}, form))
+        self.assertIn("ACCT-611-B", self.tab.evaluate("$('rate').textContent"))
+
+    def test_tables_of_many_rows(self) -> None:
+        """Of more sections than a market has the form shows the first 400; of names no more than a school has."""
+        head, *rows = (TERM / "catalogue.csv").read_bytes().splitlines(keepends=True)
+        names = b"kind,original,name\n" + b"".join(b"section,Section %d,S%d\n" % (it, it) for it in range(300_000))
+        many = {"catalogue.csv": head + b"".join(rows) * 4000, "names.csv": names}
+        told = self.told(many, "$('to-rate').click()")
+        self.assertIn("catalogue.csv, row", told)
+        self.assertEqual(400, self.tab.evaluate("document.querySelectorAll('#rate tbody tr').length"))
+
+    def test_settings_of_blanks(self) -> None:
+        told = self.told({"settings.json": b"{" + b" " * (15 << 20)}, "$('to-registrar').click()")
+        self.assertIn("settings.json", told)
 
     def test_stop_while_a_text_is_read(self) -> None:
+        """Whatever is being read: the tables, the sessions, or why they are refused."""
         self.tab.evaluate(
-            "program.limit = 0; const ask = program.read.bind(program);"
-            " program.read = (...it) => { const told = ask(...it); stopWork(); return told; }"
+            "globalThis.tell = program.told.bind(program); globalThis.stopped = 0;"
+            " program.told = message => { const answer = tell(message);"
+            " if (message.reading === globalThis.at) { globalThis.stopped++; stopWork(); } return answer; }"
         )
-        told = self.told({"more.session": b"clear n.jones\n" + b"\n" * (16 << 20)})
-        self.assertIn("Stopped", told)
-        self.assertIn("Check again", told)
+        for reading in "tables", "orders", "refusal", "sum":
+            with self.subTest(reading=reading):
+                self.tab.evaluate(f"globalThis.at = '{reading}'; globalThis.stopped = 0")
+                manifest = {"inputs": [{"role": "roll", "file": "roll.csv", "sha256": "00"}]}
+                self.give(
+                    {"more.session": b"clear n.jones\n" + b"\n" * (16 << 20)}
+                    | ({"manifest.json": json.dumps(manifest).encode()} if reading == "sum" else {})
+                )
+                self.tab.wait("globalThis.stopped && $('verdict').textContent && !isWorking()")
+                told = self.tab.evaluate("$('verdict').textContent")
+                self.assertIn("Stopped", told)
+                self.assertIn("Check again", told)
 
     def test_names_of_files_turn_nothing(self) -> None:
         name = "roll\u202ecsv.exe"

@@ -15,7 +15,7 @@ from calls import OF_TERM, SESSIONS, TABLES, example_calls, worked_calls
 from common import HERE, PAGE, PROGRAM, TERM, native, refuser
 
 sys.path.insert(0, str(HERE.parent))
-import narrow  # noqa: E402
+import narrow
 
 MODULE, WIDE = PAGE.with_suffix(".wasm"), PAGE.parent / "module/wide.wasm"
 
@@ -23,16 +23,17 @@ MODULE, WIDE = PAGE.with_suffix(".wasm"), PAGE.parent / "module/wide.wasm"
 class Caller:
     """A module in a process of node."""
 
-    def __init__(self, process: subprocess.Popen) -> None:
-        self.process = process
+    def __init__(self, process: subprocess.Popen[str]) -> None:
+        assert process.stdin is not None and process.stdout is not None
+        self.asked, self.told = process.stdin, process.stdout
         self.most = 0
 
     def ask(self, words: list[str], files: dict[str, bytes], limit: int = 0) -> tuple[int | str, bytes]:
         """The status and output of a call."""
         given = [words, [[name, base64.b64encode(it).decode()] for name, it in files.items()], limit]
-        self.process.stdin.write(json.dumps(given) + "\n")
-        self.process.stdin.flush()
-        status, out, memory = json.loads(self.process.stdout.readline())
+        self.asked.write(json.dumps(given) + "\n")
+        self.asked.flush()
+        status, out, memory = json.loads(self.told.readline())
         self.most = max(self.most, memory)
         return status, base64.b64decode(out)
 
@@ -40,7 +41,7 @@ class Caller:
 @contextlib.contextmanager
 def caller(module: Path) -> Iterator[Caller]:
     """Starts a process that calls the module, and ends it."""
-    words = ["node", HERE / "call.js", module]
+    words = ["node", str(HERE / "call.js"), str(module)]
     with subprocess.Popen(words, stdin=subprocess.PIPE, stdout=subprocess.PIPE, text=True) as process:
         try:
             yield Caller(process)
@@ -51,6 +52,9 @@ def caller(module: Path) -> Iterator[Caller]:
 @unittest.skipUnless(shutil.which("node") and MODULE.is_file(), "no node, or no page is built")
 class Module(unittest.TestCase):
     """Bytes and statuses of the module."""
+
+    room: Path
+    refuse: Path
 
     @classmethod
     def setUpClass(cls) -> None:

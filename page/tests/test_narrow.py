@@ -7,14 +7,15 @@ import subprocess
 import sys
 import tempfile
 import unittest
-from collections.abc import Iterator
+from collections.abc import Iterator, Sequence
 from pathlib import Path
+from typing import Any
 
 from common import HERE, PAGE
 
 sys.path.insert(0, str(HERE.parent))
-import narrow  # noqa: E402
-from narrow import Refused, signed, unsigned  # noqa: E402
+import narrow
+from narrow import Refused, signed, unsigned
 
 MODULE, WIDE = PAGE.with_suffix(".wasm"), PAGE.parent / "module/wide.wasm"
 WIDE_MEMORY = b"\x01\x05\x01\x02"  # (one memory, 64-bit, of 1 page and at most 2)
@@ -59,7 +60,7 @@ def section(kind: int, content: bytes) -> bytes:
     return bytes([kind]) + unsigned(len(content)) + content
 
 
-def by_table(index: str = "\x42") -> bytes:
+def by_table() -> bytes:
     """A module with a 64-bit table: `call` calls entry 0 or 1 of it, which answer 7 and 9."""
     types = b"\x02\x60\x00\x01\x7e\x60\x01\x7e\x01\x7e"
     bodies = [b"\x00\x42\x07\x0b", b"\x00\x42\x09\x0b", b"\x00\x20\x00\x11\x00\x00\x0b"]
@@ -83,7 +84,7 @@ class Small(unittest.TestCase):
     def setUp(self) -> None:
         self.room = Path(self.enterContext(tempfile.TemporaryDirectory(prefix="course-match-")))
 
-    def called(self, wasm: bytes, calls: list[list]) -> list[str]:
+    def called(self, wasm: bytes, calls: Sequence[Sequence[object]]) -> list[str]:
         """What the module answers to these calls, one after the other."""
         file = self.room / "small.wasm"
         file.write_bytes(wasm)
@@ -102,7 +103,7 @@ class Small(unittest.TestCase):
 
     @unittest.skipUnless(shutil.which("wat2wasm"), "no wabt")
     def test_each_access_has_its_address(self) -> None:
-        calls = [
+        calls: list[tuple[list[object], str]] = [
             (["at", 16], "42"),
             (["put", 8, 41], "undefined"), (["at", 8], "41"), (["put_sum", 8, 41], "undefined"), (["at", 8], "42"),
             (["put_byte", 9], "undefined"), (["at", 8], str(42 + 256)),
@@ -178,9 +179,9 @@ GROWN = [
 ]  # fmt: skip
 
 
-def expected(lines: list[str]) -> list:
+def expected(lines: list[str]) -> list[Any]:
     """The lines of a function of the 32-bit module, from those of the 64-bit one."""
-    want: list = []
+    want: list[Any] = []
     for line in lines:
         op = line.split(" ")[0]
         if LANE.fullmatch(op):
@@ -266,17 +267,17 @@ class SecondDerivation(unittest.TestCase):
             count += 1
         print(f"page: {count} functions by wabt's text, {cuts} lines of the pass")
 
-    def same(self, want: list, lines: list[str], kinds: list[str], kinds_small: list[str]) -> int:
+    def same(self, want: list[Any], lines: list[str], kinds: list[str], kinds_small: list[str]) -> int:
         """Compares a function's lines; each local of the pass's own is beyond the function's, and has one use."""
         self.assertEqual(len(want), len(lines), lines[:3])
-        numbers: dict[tuple, int] = {}
+        numbers: dict[tuple[Any, ...], int] = {}
         for due, line in zip(want, lines, strict=True):
             if isinstance(due, str):
                 self.assertEqual(due, line)
                 continue
             verb, *use = due
             found = re.fullmatch(rf"local\.{verb} (\d+)", line)
-            self.assertTrue(found, (due, line))
+            assert found, (due, line)
             number = int(found[1])
             self.assertGreaterEqual(number, len(kinds))
             self.assertEqual(use[0], kinds_small[number])

@@ -4,13 +4,18 @@ import hashlib
 import json
 import tempfile
 import unittest
+from collections.abc import Mapping
 from pathlib import Path
 
-from browser import browser, chromium
+from browser import Browser, browser, chromium
 from common import PAGE, PICTURES, TERM, open_page
 
 PUBLISHED = ["catalogue.csv", "roll.csv", "settings.json", "published.txt"]
 HEAD = "# What n.jones said, in the order in which the desk took it.\n"
+YES = (
+    "Yes: at these prices nothing better was to be had for 4,542 tokens, nor at its turns in the aftermarket for 4,996."
+)
+FURTHER = "[...document.querySelectorAll('button')].find(it => it.textContent === 'Further signs')"
 # What is pressed and stands on the page, with its size; a checkbox counts with its label.
 CONTROLS = """[...document.querySelectorAll('button, select, input, summary, .button, textarea')]
   .filter(it => it.checkVisibility() && !it.classList.contains('aside') && it.type !== 'checkbox')
@@ -26,6 +31,8 @@ def own_lines(name: str = "n.jones") -> bytes:
 @unittest.skipUnless(chromium() and PAGE.is_file(), "no Chromium, or no page is built")
 class Own(unittest.TestCase):
     """Each test opens the page anew, on a phone."""
+
+    tab: Browser
 
     @classmethod
     def setUpClass(cls) -> None:
@@ -46,14 +53,12 @@ class Own(unittest.TestCase):
         self.tab.seen.clear()
         self.assertEqual(([], []), (asked, failed))
 
-    def give(self, changed: dict[str, bytes] | None = None, names: list[str] | None = None) -> None:
-        """Gives what is published and the own lines, some of it with another content."""
-        given = (
-            {it: (TERM / it).read_bytes() for it in names or PUBLISHED}
-            | {"n.jones.session": own_lines()}
-            | (changed or {})
-        )
-        given = {name: content for name, content in given.items() if content is not None}
+    def give(self, changed: Mapping[str, bytes | None] | None = None, names: list[str] | None = None) -> None:
+        """Gives what is published and the own lines, some of it with another content, or left out where that is None."""
+        there: dict[str, bytes | None] = {it: (TERM / it).read_bytes() for it in names or PUBLISHED}
+        there["n.jones.session"] = own_lines()
+        there.update(changed or {})
+        given = {name: content for name, content in there.items() if content is not None}
         for name, content in given.items():
             (self.room / name).write_bytes(content)
         self.tab.choose("#choose", [self.room / it for it in given])
@@ -89,11 +94,15 @@ class Own(unittest.TestCase):
 
     def test_own_lines_suffice_and_the_answer_is_on_the_first_screen(self) -> None:
         self.give()
-        told = self.answer("Yes: at these prices nothing better was to be had for 4,542 tokens.")
-        self.verdict("What you can know holds")
+        told = self.answer(YES)
+        self.assertEqual("", self.words("#verdict"))
         self.tab.picture(PICTURES / "own-phone.png", False)
         self.assertIn("Who says so", told)
-        self.assertEqual("In the end n.jones holds ACCT-611-B, FNCE-601-A and MGMT-691-B.", self.words(".holds"))
+        self.assertEqual(
+            "In the end n.jones holds ACCT-611-B, FNCE-601-A and MGMT-691-B, prices together 4,930 of 4,996 tokens in the"
+            " aftermarket (4,542 raised by 10 percent).",
+            self.words(".holds"),
+        )
         ends = self.tab.evaluate(
             "[...document.querySelectorAll('#answer .lead, .week')].map(it => it.getBoundingClientRect().bottom)"
         )
@@ -128,6 +137,58 @@ class Own(unittest.TestCase):
             self.assertIn(line, self.words(".basis"))
         self.assertIn("with all sessions", self.words("#auditor"))
 
+    def test_what_was_checked_besides_stands_below_the_answer_in_plain_words(self) -> None:
+        self.give({"n.jones.session": own_lines().replace(HEAD.encode(), b"") + b"rate n.jones NOWHERE 5\n"})
+        self.answer(YES)
+        self.tab.wait("document.querySelector('.known')")
+        tops = self.tab.evaluate(
+            "['#answer .lead', '.week', '.known', '.note', '#student-answer section'].map(it =>"
+            " document.querySelector(it).getBoundingClientRect().top)"
+        )
+        self.assertEqual(sorted(tops), tops)
+        self.assertEqual(
+            "All else in the text that can be checked without other students' lines is right. Not checked: how the prices"
+            " came about, and other students' bundles.",
+            self.words(".known summary"),
+        )
+        self.assertEqual(
+            [
+                "n.jones.session names one student alone, so it is taken for what this student told the school. The"
+                " school made the text from other files, which have everybody's lines.",
+                "The desk carries out all of the lines but “rate n.jones NOWHERE 5” (the section is not in the"
+                " catalogue).",
+            ],
+            self.tab.evaluate("[...document.querySelectorAll('.note')].map(it => it.textContent)"),
+        )
+        self.click("All else in the text")
+        self.tab.wait("document.querySelector('.known li')")
+        for words in "published.txt: 100 students, 30 sections.", "nobody can tell without their lines":
+            self.assertIn(words, self.words(".known"))
+
+    def test_each_part_is_one_tap_from_the_first_screen(self) -> None:
+        self.give()
+        self.answer("Yes")
+        self.tab.wait("document.querySelector('.ways') && !isWorking()")
+        self.assertLess(self.tab.evaluate("document.querySelector('.ways').getBoundingClientRect().bottom"), 844)
+        for words, title in (
+            ("Stages", "Stage by stage"),
+            ("Why not?", "Why not?"),
+            ("What if?", "What if?"),
+            ("Signs", "What the signs mean"),
+            ("Prices", "Ratings and prices"),
+        ):
+            with self.subTest(words=words):
+                self.click(words)
+                self.assertEqual(title, self.tab.evaluate("document.activeElement.textContent"))
+                self.assertTrue(-1 < self.tab.evaluate("document.activeElement.getBoundingClientRect().top") < 60)
+
+    def test_lines_of_nobody_on_the_roll_are_told_and_answer_nothing(self) -> None:
+        self.give({"n.jones.session": HEAD.encode() + b"rate nobody FNCE-601-A 5\n"})
+        told = self.verdict("Whose lines are these?")
+        self.assertIn("None of them is of a student of roll.csv", told)
+        self.assertIn("n.jones.session has lines of nobody, whom the roll does not have: they are left out.", told)
+        self.assertEqual("", self.words("#student-answer"))
+
     def test_stages_and_questions_are_one_line_each_that_unfolds(self) -> None:
         self.give()
         self.answer("Yes")
@@ -137,17 +198,27 @@ class Own(unittest.TestCase):
         )
         stages = self.tab.evaluate("[...document.querySelectorAll('#student-answer section')][0].innerText")
         for words in (
+            "Budget: 4,542 tokens, and 4,996 in the aftermarket",
             "Second stage: bought ACCT-611-B, FNCE-601-A and HCMG-841-A",
             "Aftermarket, pass 2: took MGMT-691-B, gave up HCMG-841-A",
             "Aftermarket, passes 3 to 5: no change",
         ):
             self.assertIn(words, stages)
         lines = self.tab.evaluate("[...document.querySelectorAll('.question summary')].map(it => it.textContent)")
-        self.assertEqual("Why not FNCE-717-A? its price is 3,252, and 628 were left; no seat was free later.", lines[0])
+        self.assertEqual(
+            "Why not FNCE-717-A? its price is 3,252; of 4,542 tokens n.jones had 628 left (with it the best was worth 188,"
+            " without it 260). Aftermarket: 8 of 12 seats were free when it began, and gone at the turns of n.jones.",
+            lines[0],
+        )
         lgst = next(it for it in lines if "LGST-806-A" in it)
         # 4,542 raised by ten in a hundred is 4,996; the prices of ACCT-611-B, FNCE-601-A and MGMT-691-B are together
         # 851 + 1,942 + 2,137 = 4,930
-        self.assertIn("its price is 2,670, and 628 were left; free later: its price is 2,670, and", lgst)
+        self.assertRegex(
+            lgst,
+            r"of 4,542 tokens n.jones had 628 left \(with it the best was worth \d+, without it 260\)\. Aftermarket, pass 2:"
+            r" 1 of 9 seats was free at the turn of n.jones, but of 4,996 tokens n.jones had 66 left"
+            r" \(with it the best was worth \d+, without it 262\)\.$",
+        )
         self.click("Why not FNCE-717-A")
         told = self.words(".question")
         for words in (
@@ -164,6 +235,8 @@ class Own(unittest.TestCase):
             "is number 100 of 100",
         ):
             self.assertIn(words, told)
+        fnce = next(it for it in lines if "FNCE-601-B" in it)
+        self.assertRegex(fnce, r"2 of 20 seats were free at the turn of n\.jones, but the same holds( \(with it .*\))?\.$")
         self.click("Why not LGST-806-A")
         told = self.tab.evaluate(
             "[...document.querySelectorAll('.question')].find(it => it.open &&"
@@ -176,7 +249,16 @@ class Own(unittest.TestCase):
             ),
             told,
         )
-        self.assertNotIn("the tree of that turn proves it", told)
+        self.tab.evaluate("[...document.querySelectorAll('summary')].find(it => /rated no higher/.test(it.textContent)).click()")
+        gone = "[...document.querySelectorAll('.question')].find(it => it.textContent.startsWith('Why not HCMG'))?.textContent"
+        self.tab.wait(f"{gone}?.includes('in the end: none') && !isWorking()")
+        for words in (
+            "aftermarket, passes 1 to 2, at the turn of n.jones, besides the seat of n.jones: none",
+            "aftermarket, passes 3 to 5, at the turn of n.jones: none",
+            "Aftermarket, pass 1. n.jones kept HCMG-841-A, and gave it up later",
+        ):
+            self.assertIn(words, self.tab.evaluate(gone))
+        self.assertNotIn("is number 100", self.tab.evaluate(gone))
 
     def test_lines_that_are_not_those_of_the_desk_are_told_with_what_may_be_the_cause(self) -> None:
         self.give(
@@ -186,6 +268,7 @@ class Own(unittest.TestCase):
         # with FNCE-601-A at 1: 88 + 74 + 72 for 851 + 2,137 + 1,121 tokens
         for words in (
             "for 4,542 tokens: ACCT-611-B, MGMT-691-B and HCMG-841-A, worth 234.",
+            "worth 234.First compare n.jones.session with what you told the school: one rating that differs is enough",
             "The text gives ACCT-611-B, FNCE-601-A and HCMG-841-A",
             "One of these may be the cause",
             "a rating or an adjustment is not the one that the desk took last",
@@ -208,6 +291,7 @@ class Own(unittest.TestCase):
         self.give({"published.txt": text.replace(b"++--------+*nb5b1", b"++--------+*nb6b1", 1)})
         told = self.answer("The bundle is the best that 4,542 tokens buy, but the signs beside it do not prove it.")
         self.assertIn("another bound is due", told)
+        self.assertIn("tell the school: line 227 of published.txt.", told)
 
     def test_what_needs_no_ratings_is_judged_of_the_whole_text(self) -> None:
         text = (TERM / "published.txt").read_bytes()
@@ -227,11 +311,110 @@ class Own(unittest.TestCase):
             with self.subTest(words=words):
                 self.give({"published.txt": changed})
                 self.assertIn(words, self.verdict("This text does not hold"))
-                self.click("Remove all files") if self.tab.evaluate("$('clear').checkVisibility()") else None
+                if self.tab.evaluate("$('clear').checkVisibility()"):
+                    self.click("Remove all files")
+
+    def test_wrong_files_are_refused_by_name(self) -> None:
+        text = (TERM / "published.txt").read_bytes()
+        cases: tuple[tuple[dict[str, bytes | None], str, str], ...] = (
+            (
+                {"published.txt": b"<!doctype html><title>Log in</title>"},
+                "Not all files are there yet",
+                "By what stands in it, none of the missing files is published.txt",
+            ),
+            ({"settings.json": None}, "Not all files are there yet", "Missing: the settings. Your school publishes it."),
+            ({"published.txt": b"%PDF-1.4"}, "Not all files are there yet", "published.txt is a PDF"),
+            (
+                {"n.jones.session": None},
+                "Not all files are there yet",
+                "Missing: your own lines (what you told the school; ask it for them).Whoever has all sessions",
+            ),
+            (
+                {"n.jones.session": b""},
+                "The text and these sessions do not fit together",
+                "n.jones.session is empty.",
+            ),
+            (
+                {"n.jones.session": bytes(range(256)) * 40},
+                "The text and these sessions do not fit together",
+                "No line of n.jones.session is a student's wish.",
+            ),
+            (
+                {"published.txt": text.replace(b"price FNCE-717-A 3252", b"price FNCE-717-A -5")},
+                "This text does not hold",
+                "This is line 138 of published.txt",
+            ),
+            (
+                {"published.txt": text.replace(b"order 2", b"order 99999999999 2", 1)},
+                "This text does not hold",
+                "This is line 2 of published.txt",
+            ),
+            ({"settings.json": b"[]"}, "A file is refused", "settings.json: It is JSON, but no object"),
+        )
+        for changed, title, words in cases:
+            with self.subTest(words=words):
+                self.give(changed)
+                self.assertIn(words, self.verdict(title))
+                self.assertFalse(self.tab.evaluate("!!$('answer')"))
+                self.tab.evaluate("list.set([])")
+                self.tab.wait("!$('verdict').textContent && !isWorking()")
+
+    def test_lines_as_grep_prints_them_are_told_first_and_how_such_a_line_looks(self) -> None:
+        lines = b"".join(b"web.session:%b\n" % it for it in own_lines().splitlines()[1:])
+        grep = b"# What n.jones said, in the order in which the desk took it.\n" + lines
+        cases = (
+            (lines, "The text and these sessions do not fit together", "No line of n.jones.session is a student's wish."),
+            (b"", "The text and these sessions do not fit together", "n.jones.session is empty."),
+            (grep, "Whose lines are these?", "No line of n.jones.session is a student's wish."),
+        )
+        for content, title, words in cases:
+            with self.subTest(title=title, words=words):
+                self.give({"n.jones.session": content})
+                self.verdict(title)
+                shown = self.tab.evaluate("[...$('verdict').children].map(it => it.textContent)")
+                looks = "Such a line looks so, with nothing before it: “rate NAME SECTION POINTS”."
+                self.assertEqual([title, words, looks, "What else is to be said of it"], shown)
+                self.click("What else is to be said")
+                self.tab.wait("document.querySelector('#verdict details p')")
+                self.tab.evaluate("list.set([])")
+                self.tab.wait("!$('verdict').textContent && !isWorking()")
+
+    def test_part_below_asks_for_own_lines_alone_where_the_published_files_are_there(self) -> None:
+        self.give({"n.jones.session": None})
+        self.verdict("Not all files are there yet")
+        self.assertIn("The published files are there. Give your own lines too", self.words("#student"))
+        self.tab.evaluate("list.set(list.files.filter(it => it.name !== 'roll.csv'))")
+        self.tab.wait("$('verdict').textContent.includes('Your school publishes the roll.') && !isWorking()")
+        self.assertIn("Missing: the roll and your own lines (what you told", self.words("#verdict"))
+        self.assertIn("First give the published files above.", self.words("#student"))
+
+    def test_verdict_is_on_the_first_screen_also_with_a_long_list_of_files(self) -> None:
+        text = (TERM / "published.txt").read_bytes()
+        cases: tuple[tuple[dict[str, bytes | None], str], ...] = (
+            ({"n.jones.session": None}, "Not all files are there yet"),
+            ({"published.txt": text[:-1]}, "This text does not hold"),
+        )
+        for changed, title in cases:
+            with self.subTest(title=title):
+                self.give(changed)
+                self.verdict(title)
+                self.assertEqual(0, self.tab.evaluate("scrollY"))
+                self.assertTrue(self.tab.evaluate("$('files').open"))
+                self.assertLess(self.tab.evaluate("$('verdict').getBoundingClientRect().bottom"), 844)
+                self.tab.evaluate("list.set([])")
+                self.tab.wait("!$('verdict').textContent && !isWorking()")
+
+    def test_turn_that_these_lines_do_not_prove_is_named(self) -> None:
+        line = b"turn 2 n.jones [ACCT-611-B,FNCE-601-A,MGMT-691-B] ++----+----*n+n---+nnb2"
+        text = (TERM / "published.txt").read_bytes()
+        self.give({"published.txt": text.replace(line, line.replace(b"nnb2", b"nnb3"))})
+        told = self.answer("No: by these lines the bundle of the aftermarket, pass 2 is not right.")
+        self.assertIn("The tree of n.jones, the signs behind its bundle, does not prove", told)
+        self.assertIn("If each line is right, tell the school: line 463 of published.txt.", told)
 
     def test_lines_of_a_form_are_own_lines_too(self) -> None:
         self.give({"n.jones.session": own_lines().replace(HEAD.encode(), b"clear n.jones\n")})
-        self.answer("Yes: at these prices nothing better was to be had for 4,542 tokens.")
+        self.answer(YES)
 
     def test_several_students_are_chosen_by_name_and_strangers_are_told(self) -> None:
         self.give(
@@ -240,11 +423,12 @@ class Own(unittest.TestCase):
                 "other.session": HEAD.encode() + b"rate nobody FNCE-601-A 5\nclose\n",
             }
         )
-        told = self.verdict("What you can know holds")
+        self.tab.wait("document.querySelector('.known') && !isWorking()", 60)
+        told = self.words("#student")
         self.assertIn("other.session has lines of nobody, whom the roll does not have: they are left out.", told)
         self.assertIn("1 line of other.session names no student, and is left out.", told)
         self.fill("student-name", "s.adler")
-        self.answer("Yes: at these prices nothing better was to be had for 5,018 tokens.")
+        self.answer(YES.replace("4,542", "5,018").replace("4,996", "5,519"))
         self.fill("student-name", "k.abara")
         self.tab.evaluate("document.querySelector('.chooser').requestSubmit()")
         self.assertIn("No lines of a student of this name were given.", self.words("#student-said"))
@@ -284,7 +468,7 @@ class Own(unittest.TestCase):
         self.fill("signs", "bundle n.jones [ACCT-611-B,FNCE-601-A,HCMG-841-A] ++--------+*nb5b1")
         self.tab.evaluate(explain)
         for words in (
-            "in the second stage, with the budget 4542",
+            "in the second stage, with a budget of 4,542 tokens",
             "Place 0, ACCT-611-B, may be taken",
             "= 260.508",
             "All signs fit",
@@ -294,6 +478,7 @@ class Own(unittest.TestCase):
             ["+", "+", "--------", "+", "*", "n", "b5", "b1"],
             self.tab.evaluate("[...document.querySelectorAll('.steps .sign')].map(it => it.textContent)"),
         )
+        self.assertFalse(self.tab.evaluate(f"{FURTHER}.checkVisibility()"))
         self.fill("signs", "++x+x!-------*+x+x!n")
         self.tab.evaluate(explain)
         self.assertIn("FNCE-717-A being the section that is asked for", self.tab.evaluate(told))
@@ -305,12 +490,62 @@ class Own(unittest.TestCase):
         self.tab.evaluate(explain)
         self.assertIn("This is a line of s.adler", self.tab.evaluate(told))
 
+    def test_further_signs_come_by_a_button_that_goes_with_the_last(self) -> None:
+        made = """(count => {
+          const step = (it, at) => ({ kind: it, at, sign: '+', words: `step ${at}`, depth: 0 });
+          $('student').replaceChildren(...stepNodes([...Array(count).fill('leaf'), 'end'].map(step).values()));
+        })"""
+        shown = "[document.querySelectorAll('.steps li').length, document.querySelectorAll('#student .right').length]"
+        for count, first in (40, [40, 1]), (41, [40, 0]), (80, [40, 0]):
+            with self.subTest(count=count):
+                self.tab.evaluate(f"{made}({count})")
+                self.assertEqual(first, self.tab.evaluate(shown))
+                self.assertEqual(count > 40, self.tab.evaluate(f"{FURTHER}.checkVisibility()"))
+                self.tab.evaluate(f"{FURTHER}.click()")
+                self.assertEqual([count, 1], self.tab.evaluate(shown))
+                self.assertFalse(self.tab.evaluate(f"{FURTHER}.checkVisibility()"))
+
+    def test_signs_are_replaced_by_what_is_pasted_and_have_their_key_beside_them(self) -> None:
+        self.give()
+        self.answer("Yes")
+        self.tab.wait("$('signs')")
+        key = "document.querySelector('ul[aria-label=\"What the signs mean\"]')"
+        meaning = self.tab.evaluate(f"{key}.textContent")
+        self.assertIn("b2 even if all tokens left brought as much worth each as section 2 (FNCE-601-B) does", meaning)
+        self.assertIn("* the bundle itself, which the signs prove to be the best", meaning)
+        self.assertEqual("++----+----*n+n---+nnb2", self.tab.evaluate("$('signs').value"))
+        self.assertIn("that n.jones holds in the end (aftermarket, pass 2): choose", self.words("#student-answer"))
+        self.fill("signs", "++--------+*nb5b1")
+        meaning = self.tab.evaluate(f"{key}.textContent")
+        self.assertIn("it would not be better than the bundle. Here 1 is FNCE-601-A and 5 is MGMT-690-A", meaning)
+        self.assertIn("0 ACCT-611-B, 1 FNCE-601-A, 2 FNCE-601-B", self.words("#student-answer"))
+        place = self.tab.evaluate(
+            f"$('signs').scrollIntoView({{ block: 'end' }}); [{key}, $('signs')].map(it => it.getBoundingClientRect().top)"
+        )
+        self.assertTrue(0 < place[0] < place[1] < 844, place)
+        box = self.tab.evaluate("(it => [it.x + it.width / 2, it.y + it.height / 2])($('signs').getBoundingClientRect())")
+        for kind in "mousePressed", "mouseReleased":
+            self.tab.call("Input.dispatchMouseEvent", type=kind, x=box[0], y=box[1], button="left", clickCount=1)
+        self.tab.wait("$('signs').selectionEnd === $('signs').value.length && !$('signs').selectionStart")
+        self.tab.type("tree *")
+        self.assertEqual("tree *", self.tab.evaluate("$('signs').value"))
+        self.assertNotIn("FNCE-601-A", self.tab.evaluate(f"{key}.textContent"))
+        self.fill("signs-stage", "2")
+        self.assertEqual("tree *", self.tab.evaluate("$('signs').value"))
+        self.fill("signs", "++--------+*nb5b1")
+        self.fill("signs-stage", "2")
+        self.assertEqual("++----+----*n+n---+nnb2", self.tab.evaluate("$('signs').value"))
+
     def test_names_are_shown_as_the_school_spells_them(self) -> None:
         names = '\ufeffkind,original,name\nsection,ACCT 611 (é),ACCT-611-B\nstudent,"Jones, Nora",n.jones\n'.encode()
         self.give({"names.csv": names})
         self.answer("Yes")
-        self.assertEqual("In the end Jones, Nora holds ACCT 611 (é), FNCE-601-A and MGMT-691-B.", self.words(".holds"))
+        self.assertIn("In the end Jones, Nora holds ACCT 611 (é), FNCE-601-A and MGMT-691-B, prices", self.words(".holds"))
         self.assertEqual("Jones, Nora n.jones", self.words("#student-answer h2"))
+        self.tab.wait("$('signs')")
+        self.assertIn("0 ACCT 611 (é), 1 FNCE-601-A", self.words("#student-answer"))
+        self.tab.evaluate("document.querySelector('form.signs').requestSubmit()")
+        self.assertIn("Place 0, ACCT 611 (é), may be taken", self.words("form.signs + .answer"))
         self.give(
             {"desk.session": (TERM / "desk.session").read_bytes(), "web.session": (TERM / "web.session").read_bytes()}
         )
@@ -403,6 +638,11 @@ class Own(unittest.TestCase):
         self.tab.picture(PICTURES / "own-sheet.png")
         self.tab.look(390, 844)
 
+    def open_form(self) -> None:
+        """Goes to the form, once the files are read."""
+        self.click("Rate sections")
+        self.tab.wait("$('rate-name') && !isWorking()", 60)
+
     def rate(self, section: str, points: str) -> None:
         """Types a rating of a section into the form."""
         self.tab.evaluate(
@@ -413,7 +653,7 @@ class Own(unittest.TestCase):
 
     def test_sections_are_rated_and_saved_before_the_desk_closes(self) -> None:
         self.give({"n.jones.session": None, "published.txt": None, "settings.json": None})
-        self.click("Rate sections")
+        self.open_form()
         self.fill("rate-name", "n.jones")
         self.tab.wait(
             "$('rate').textContent.includes('By the roll n.jones may take 8 credits and 5 sections at most.')"
@@ -462,8 +702,9 @@ class Own(unittest.TestCase):
             b" 7\nrate s.adler FNCE-601-A 1\n"
         )
         self.give({"n.jones.session": lines, "published.txt": None, "settings.json": None})
-        self.click("Rate sections")
+        self.open_form()
         self.fill("rate-name", "n.jones")
+        self.tab.wait("document.querySelector('.who button')", 60)
         self.click("Take the 4 lines of n.jones in n.jones.session")
         self.tab.wait("$('rate').textContent.includes('Taken: 1 rating and 1 adjustment.')", 20)
         self.assertIn(
@@ -473,7 +714,7 @@ class Own(unittest.TestCase):
 
     def test_sections_are_searched(self) -> None:
         self.give({"n.jones.session": None, "published.txt": None, "settings.json": None, "roll.csv": None})
-        self.click("Rate sections")
+        self.open_form()
         rows = (
             "[...document.querySelectorAll('#rate tbody tr')].filter(it => it.checkVisibility() &&"
             " it.querySelector('input')).length"

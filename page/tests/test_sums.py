@@ -9,7 +9,7 @@ import tempfile
 import unittest
 from pathlib import Path
 
-from browser import browser, chromium
+from browser import Browser, browser, chromium
 from common import PAGE, open_page
 
 OTHER_MODULE = b"\0asm\x01\0\0\0"
@@ -29,6 +29,9 @@ def packed(data: bytes) -> str:
 class Sums(unittest.TestCase):
     """The page as it was built, and pages with other parts."""
 
+    room: Path
+    tab: Browser
+
     @classmethod
     def setUpClass(cls) -> None:
         cls.room = Path(cls.enterClassContext(tempfile.TemporaryDirectory(prefix="course-match-")))
@@ -39,7 +42,8 @@ class Sums(unittest.TestCase):
 
     def test_sums_are_those_of_the_files(self) -> None:
         open_page(self.tab)
-        listed = dict(reversed(line.split("  ")) for line in (PAGE.parent / "SHA256SUMS").read_text().splitlines())
+        lines = (PAGE.parent / "SHA256SUMS").read_text(encoding="ascii").splitlines()
+        listed = {name: total for total, name in (line.split("  ") for line in lines)}
         for name in ("course-match.html", "course-match.wasm"):
             self.assertEqual(hashlib.sha256((PAGE.parent / name).read_bytes()).hexdigest(), listed[name])
         self.assertEqual(listed["course-match.wasm"], self.words("#module-sum"))
@@ -62,7 +66,7 @@ class Sums(unittest.TestCase):
 
     def test_page_with_another_part_runs_nothing(self) -> None:
         page = PAGE.read_text()
-        worker = re.search(r'id="worker">([^<]*)', page)[1]
+        worker = re.findall(r'id="worker">([^<]*)', page)[0]
         for name, content, told in (
             (
                 "module",

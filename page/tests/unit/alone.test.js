@@ -2,6 +2,7 @@ import assert from 'node:assert/strict';
 import { test } from 'node:test';
 
 import { blankSessions, commandLines, namedIn, pricesWithin, roomOf, saidByAll, saidIn } from '../../alone.js';
+import { firstWords } from '../../lines.js';
 
 const bytes = (/** @type {string} */ it) => new TextEncoder().encode(it);
 const text = (/** @type {Uint8Array} */ it) => new TextDecoder().decode(it);
@@ -10,8 +11,19 @@ const section = (/** @type {number} */ at, /** @type {string} */ name, /** @type
 
 test('a line is a command by its words, and keeps its bytes', () => {
   const lines = commandLines(bytes('\ufeff# a comment\n\n \t\nrate ann A 5\r\n\r\n rate  ann\tB 6\r\r\n#x\nclose'));
-  assert.deepEqual(lines.map(it => text(it.bytes)), ['rate ann A 5\r', ' rate  ann\tB 6\r\r', 'close']);
-  assert.deepEqual(lines[1].words, ['rate', 'ann', 'B', '6\r']);
+  assert.deepEqual(lines.map(text), ['rate ann A 5\r', ' rate  ann\tB 6\r\r', 'close']);
+});
+
+test('the first words of a line are told', () => {
+  const words = (/** @type {string} */ it) => firstWords(bytes(`>${it}<`), 1, bytes(it).length + 1);
+  assert.deepEqual(words(' rate  ann\tB 6\r\r'), { first: 'rate', second: 'ann' });
+  assert.deepEqual(words('clear ann\r'), { first: 'clear', second: 'ann' });
+  assert.deepEqual(words('clear ann\r\r'), { first: 'clear', second: 'ann\r' });
+  assert.deepEqual(words('close \t'), { first: 'close', second: undefined });
+  assert.deepEqual(words('\r'), { first: '', second: undefined });
+  assert.deepEqual(words(`clear ${'é'.repeat(3)}`).second, 'ééé');
+  assert.deepEqual(words(`clear ${'a'.repeat(90)}`).second, 'a'.repeat(90));
+  assert.deepEqual(words('\ufeffclose').first, '\ufeffclose');
 });
 
 test('the lines of a student are kept as they stand, behind a comment', () => {

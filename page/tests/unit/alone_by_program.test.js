@@ -8,7 +8,7 @@ import { join } from 'node:path';
 import { after, before, test } from 'node:test';
 
 import { blankSessions, roomOf } from '../../alone.js';
-import { turnsOf } from '../../texts.js';
+import { treeAt, turnsOf } from '../../texts.js';
 import { TOP, cases, marketOfCase, term } from './vectors.js';
 
 const PROGRAM = process.env.COURSE_MATCH_PROGRAM ?? join(TOP, 'crates/market_program/out/market_program');
@@ -35,8 +35,10 @@ function stagesOf(market, at) {
   const { name, credits, courses } = market.roll[at], budget = market.text.budgets[at], { prices } = market.text;
   const of = { name, credits, courses, prices, said: market.said.get(name) ?? { bytes: new Uint8Array(), count: 0 } };
   const raised = budget + Math.floor(budget * market.settings.raise / 100);
-  return [{ ...of, budget, ...market.text.bundles[at] },
-    ...turnsOf(market, at).map(({ names, tree, allowed }) => ({ ...of, budget: raised, names, tree, allowed }))];
+  const printed = (/** @type {PrintedBundle} */ it) => (
+    { names: it.names, tree: treeAt(market.parts.text.bytes, it) });
+  return [{ ...of, budget, ...printed(market.text.bundles[at]) },
+    ...turnsOf(market, at).map(it => ({ ...of, budget: raised, ...printed(it), allowed: it.allowed }))];
 }
 
 const CHECK = ['check', 'CATALOGUE', 'ROLL', 'SETTINGS', 'TEXT', 'SESSION0'];

@@ -47,11 +47,11 @@ export function wishesAfter(order, sessions, students, sections) {
 /** The market of an accepted text. */
 export function marketIn(folder, names) {
   const [catalogue, roll] = [catalogueOf(read(folder, names.catalogue)), rollOf(read(folder, names.roll))];
-  const text = publishedOf(read(folder, names.text), catalogue, roll);
+  const printed = fileOf(folder, names.text, 'text'), text = publishedOf(printed.bytes, catalogue, roll);
   const sessions = names.sessions.map(it => fileOf(folder, it, 'session'));
   const known = of => new Set(of.map(it => it.name));
   return {
-    catalogue, roll, text, settings: JSON.parse(read(folder, names.settings)),
+    catalogue, roll, text, parts: { text: printed }, settings: JSON.parse(read(folder, names.settings)),
     wishes: wishesAfter(text.order, sessions, known(roll), known(catalogue)),
     sectionOf: new Map(catalogue.map(it => [it.name, it])),
     counts: countsOf(text.bundles.map(it => it.names), catalogue), endCounts: countsOf(text.finals, catalogue),

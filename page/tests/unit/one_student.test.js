@@ -1,11 +1,14 @@
 import assert from 'node:assert/strict';
 import { test } from 'node:test';
 
+import { heldPrices, lineOf, yesWords } from '../../answer_view.js';
 import { explainedIn, explanationOf, judgedStages, linesInText, stagesOf, unjudgedWords } from '../../one_student.js';
 import { AS_NAMED } from '../../spelling.js';
 import { grouped, longReason, shortReason, stagesName, tokens } from '../../stage_words.js';
+import { countsOf } from '../../texts.js';
+import { heldSince } from '../../signs_view.js';
 import { triedOf } from '../../what_if_view.js';
-import { missedSections } from '../../why_view.js';
+import { missedSections, shortAnswer } from '../../why_view.js';
 import { term } from './vectors.js';
 
 const market = /** @type {any} */ ({ ...term(), spelling: AS_NAMED });
@@ -19,6 +22,25 @@ test('stages are the second one and each turn as it stood', () => {
   assert.ok(stages[2].allowed.has('MGMT-691-B') && !stages[1].allowed.has('MGMT-691-B'));
   assert.deepEqual([stagesName(stages[0], stages[0]), stagesName(stages[3], stages[5])],
     ['Second stage', 'Aftermarket, passes 3 to 5']);
+});
+
+test('the stage since which the bundle of the end is held', () => {
+  assert.equal(heldSince(stages).pass, 2);
+  assert.equal(heldSince(stages.slice(0, 2)).pass, 0);
+  const again = ['A', 'B', 'A'].map((it, pass) => /** @type {any} */ ({ names: [it], pass }));
+  assert.equal(heldSince(again).pass, 2);
+});
+
+test('the first line says each budget, and what is held says of which one its prices are', () => {
+  assert.equal(yesWords(market, student, true), 'Yes: at these prices nothing better was to be had for 4,542 tokens, '
+    + 'nor at its turns in the aftermarket for 4,996.');
+  assert.equal(heldPrices(market, student),
+    ', prices together 4,930 of 4,996 tokens in the aftermarket (4,542 raised by 10 percent).');
+  const second = market.text.bundles.map((/** @type {Bundle} */ it) => it.names);
+  const same = { ...market, text: { ...market.text, finals: second } };
+  assert.equal(heldPrices(same, student), ', prices together 3,914 of 4,542 tokens.');
+  const nothing = { ...market, text: { ...market.text, finals: market.text.finals.map(() => []) } };
+  assert.equal(heldPrices(nothing, student), '.');
 });
 
 test('each stage is judged by the finding of its own market, and a stopped call judges nothing', async () => {
@@ -40,7 +62,7 @@ test('each stage is judged by the finding of its own market, and a stopped call 
 
 test('a budget that no roll can give to one student alone is not asked about', async () => {
   assert.equal(unjudgedWords({ budget: 900000 }), '');
-  assert.match(unjudgedWords({ budget: 900001 }), /900001 is more than a roll can give/);
+  assert.match(unjudgedWords({ budget: 900001 }), /900,001 tokens is more than a roll can give, which is 900,000 at/);
 });
 
 test('what explain prints is read, and where it refuses the answer is handed on', async () => {
@@ -55,7 +77,8 @@ test('what explain prints is read, and where it refuses the answer is handed on'
 
 test('reasons are short for a line and long below it; a tie is said to be one', () => {
   const told = { reason: 'beside price', best: ['ACCT-611-B', 'FNCE-717-A'], worth: 188, lost: 72, tree: '' };
-  assert.equal(shortReason(market, student, stages[0], 'FNCE-717-A', told), 'its price is 3,252, and 628 were left');
+  assert.equal(shortReason(market, student, stages[0], 'FNCE-717-A', told), 
+    'its price is 3,252; of 4,542 tokens n.jones had 628 left (with it the best was worth 188, without it 260)');
   const [why, best] = longReason(market, student, stages[0], 'FNCE-717-A', told);
   assert.match(why, /whose prices together are 3,914\. Of its budget of 4,542 that leaves 628/);
   assert.match(best, /prices together 4,103\), worth 188 by the ratings of n\.jones.*worth 260, 72 more\./);
@@ -66,10 +89,65 @@ test('reasons are short for a line and long below it; a tie is said to be one', 
 
 test('of a turn the reason speaks of the raised budget and of what was held', () => {
   const told = { reason: 'beside price', best: ['LGST-806-A'], worth: 88, lost: 174, tree: '' };
-  assert.equal(shortReason(market, student, stages[2], 'LGST-806-A', told), 'its price is 2,670, and 66 were left');
+  assert.equal(shortReason(market, student, stages[2], 'LGST-806-A', told), 
+    'its price is 2,670; of 4,996 tokens n.jones had 66 left (with it the best was worth 88, without it 262)');
   const [why, best] = longReason(market, student, stages[2], 'LGST-806-A', told);
   assert.match(why, /n\.jones took ACCT-611-B, FNCE-601-A and MGMT-691-B, whose prices together are 4,930/);
   assert.match(best, /of what was held and what was free/);
+});
+
+test('what was left is of something, and a reason names who is spoken of', () => {
+  const short = (/** @type {string} */ reason, /** @type {string} */ name, other = '') =>
+    shortReason(market, student, stages[0], name, { reason, other });
+  assert.equal(short('beside credits', 'FNCE-717-A'), 'it has 2 credits; of 8 credits n.jones had 2 left');
+  assert.equal(short('beside courses', 'FNCE-717-A'), 'n.jones bought 5 sections, and the roll allows no more');
+  assert.equal(short('clash', 'FNCE-601-B', 'FNCE-601-A'),
+    'it is of the same course as FNCE-601-A, which n.jones bought');
+  assert.equal(short('alone price', 'FNCE-717-A'), 'its price is 3,252, more than the whole budget of 4,542 tokens');
+  assert.equal(short('held', 'HCMG-841-A'), 'n.jones bought it, and gave it up later for a better bundle');
+  const turns = [1, 2].map(it => shortReason(market, student, stages[it], 'HCMG-841-A', { reason: 'held' }));
+  assert.deepEqual(turns.map(it => it.split(' ')[1]), ['kept', 'took']);
+});
+
+test('a bundle that is worth as much as the one given up is said to be as good', () => {
+  const wishes = market.wishes.get('n.jones'), told = { reason: 'held' };
+  const ratings = new Map(wishes.ratings).set('MGMT-691-B', wishes.ratings.get('HCMG-841-A'));
+  const equal = { ...market, wishes: new Map(market.wishes).set('n.jones', { ...wishes, ratings, pairs: [] }) };
+  const words = (/** @type {any} */ of, /** @type {number} */ at) =>
+    [shortReason, longReason].map(it => String(it(of, student, stages[at], 'HCMG-841-A', told)));
+  assert.match(words(equal, 0)[0], /^n\.jones bought it, and gave it up later for a bundle that is as good, which the/);
+  assert.match(words(equal, 0)[1], /second stage, and gave it up in the aftermarket for a bundle that is as good.*ear/);
+  assert.match(words(equal, 1)[1], /kept HCMG-841-A, and gave it up later for a bundle that is as good/);
+  assert.match(words(market, 0)[1], /gave it up in the aftermarket for a bundle that it prefers\.$/);
+});
+
+test('why not says what was free when the aftermarket began, and what at the turns', () => {
+  const counts = countsOf(market.text.bundles.map((/** @type {Bundle} */ it) => it.names), market.catalogue);
+  const counted = { ...market, counts }, told = { reason: 'beside price' };
+  const reply = (/** @type {Stage} */ stage, last = stage, of = told) => ({ stage, last, told: of });
+  const short = (/** @type {string} */ name, /** @type {any[]} */ ...later) =>
+    shortAnswer(counted, student, stages, name, [reply(stages[0]), ...later]);
+  assert.equal(short('FNCE-717-A'), 'its price is 3,252; of 4,542 tokens n.jones had 628 left. '
+    + 'Aftermarket: 8 of 12 seats were free when it began, and gone at the turns of n.jones.');
+  const full = { ...counted, counts: new Map([['FNCE-717-A', 12]]) };
+  assert.match(shortAnswer(full, student, stages, 'FNCE-717-A', [reply(stages[0])]),
+    /Aftermarket: no seat was free when it began, nor at the turns of n\.jones\.$/);
+  const one = { ...counted, counts: new Map([['FNCE-717-A', 11]]) };
+  assert.match(shortAnswer(one, student, stages.slice(0, 2), 'FNCE-717-A', [reply(stages[0])]),
+    /1 of 12 seats was free when it began, and gone at the turn of n\.jones\.$/);
+  assert.match(short('LGST-806-A', reply(stages[1]), reply(stages[2], stages[5])),
+    /^its price is 2,670; .* pass 5: \d of 9 seats were free at the turn of n\.jones, but of 4,996 tokens n\.jones ha/);
+  assert.match(short('MGMT-691-B', reply(stages[2], stages[2], { reason: 'held' }), reply(stages[3])),
+    / Aftermarket, pass 2: n\.jones took it, and gave it up later for a better bundle\.$/);
+  const [first, later] = [[188, 72], [190, 72]].map(([worth, lost]) => ({ ...told, worth, lost }));
+  const line = (/** @type {any} */ one, /** @type {any} */ other) => shortAnswer(counted, student, stages, 'LGST-806-A',
+    [reply(stages[0], stages[0], one), reply(stages[2], stages[5], other)]);
+  assert.match(line(first, later), /628 left \(.* 188, without it 260\)\..* 66 left \(.* 190, without it 262\)\.$/);
+  assert.match(line(first, first), /628 left \(.* 188, without it 260\)\..* 66 left\.$/);
+  const clash = { reason: 'clash', other: 'FNCE-601-A' };
+  const both = [reply(stages[0], stages[0], clash), reply(stages[3], stages[5], clash)];
+  assert.equal(shortAnswer(counted, student, stages, 'FNCE-601-B', both), 'it is of the same course as FNCE-601-A, '
+    + 'which n.jones bought. Aftermarket, pass 5: 2 of 20 seats were free at the turn of n.jones, but the same holds.');
 });
 
 test('sections that are missed stand by rating, those above the least of the held first', () => {
@@ -82,6 +160,12 @@ test('the lines of the text have their numbers', () => {
   const lines = linesInText(market, student);
   assert.deepEqual(lines[0], { number: 66, text: 'budget n.jones 4542' });
   assert.equal(lines.at(-1).text, 'final n.jones [ACCT-611-B,FNCE-601-A,MGMT-691-B]');
+});
+
+test('the line of a bundle is the one that the text has it in', () => {
+  const lines = new TextDecoder().decode(market.parts.text.bytes).split('\n');
+  const at = (/** @type {number} */ pass) => lines[lineOf(market, student, { pass }) - 1].split(' [')[0];
+  assert.deepEqual([0, 1, 5].map(at), ['bundle n.jones', 'turn 1 n.jones', 'turn 5 n.jones']);
 });
 
 test('what is tried is a rating and a budget, or is told to be none', () => {

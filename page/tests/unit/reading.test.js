@@ -8,7 +8,7 @@ import { kindOf, partsOf } from '../../files.js';
 import { settingsFile, settingsIn, settingsWords, wrongField } from '../../settings.js';
 import { changesIn, comparedWords } from '../../sums.js';
 import { catalogueOf, meetingWords, records, rollOf } from '../../tables.js';
-import { possibleOrders, sessionsWords } from '../../wishes.js';
+import { possibleOrders, sessionsWords, silentAmong } from '../../wishes.js';
 import { listed, plural, quoted, shortList, timed } from '../../wording.js';
 import { findingWords } from '../../words.js';
 
@@ -60,7 +60,9 @@ test('the sessions are put into the orders that have as many commands as the tex
   const orders = possibleOrders([2, 1, 1], [1, 2, 2, 3], 9);
   assert.deepEqual(orders.map(it => it.map(at => sessions[at].name).join('')), ['bac', 'cab']);
   assert.deepEqual(possibleOrders([2, 1, 1], [1, 2], 9), []);
-  assert.match(sessionsWords(sessions.slice(1), [1, 1, 2])[1], /No session of 2 commands is left for it/);
+  const [, lacking] = sessionsWords(sessions.slice(1), [1, 1, 2]);
+  assert.deepEqual(silentAmong(sessions.slice(1), [1, 1, 2]), ['No line of c is a student\'s wish.']);
+  assert.match(lacking, /No session of 2 commands is left for it/);
 });
 
 test('a student may be named as the program names the sum of all', () => {
@@ -85,7 +87,7 @@ test('settings keep their digits, and are refused where no number stands', () =>
 });
 
 test('findings are told in words', () => {
-  assert.match(findingWords('student ann tree leaf at 7'), /ann .* behind its first 7 characters another bound is due/);
+  assert.match(findingWords('student ann tree leaf at 7'), /ann, .* its first 7 characters another bound is due/);
   assert.match(findingWords('seats X 3 of 2'), /3 students have X, which has 2 seats/);
   assert.equal(findingWords('something new'), 'something new');
 });

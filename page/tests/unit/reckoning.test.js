@@ -9,7 +9,7 @@ import {
   clashOf, errorOf, firstUndue, isDue, menuOf, nodesOf, priceOf, raisedBudget, walkOf, worthOf,
 } from '../../reckoning.js';
 import { catalogueOf } from '../../tables.js';
-import { turnsOf } from '../../texts.js';
+import { treeAt, turnsOf } from '../../texts.js';
 import { TOP, VECTORS, casesOf, marketIn, namesIn, read } from './common.js';
 
 const TERM = join(TOP, 'examples/term');
@@ -37,11 +37,12 @@ function walked(walk, tree, label) {
 function walkAll(market, label) {
   let count = 0;
   for (const { at, name } of market.roll) {
-    const { names, tree } = market.text.bundles[at], budget = market.text.budgets[at];
-    count += walked(walkOf(market, at, { budget, champion: names }), tree, `${label}, ${name}`);
+    const bundle = market.text.bundles[at], budget = market.text.budgets[at], { bytes } = market.parts.text;
+    const walk = walkOf(market, at, { budget, champion: bundle.names });
+    count += walked(walk, treeAt(bytes, bundle), `${label}, ${name}`);
     for (const turn of turnsOf(market, at)) {
       const of = { budget: raisedBudget(market, at), allowed: turn.allowed, champion: turn.names };
-      count += walked(walkOf(market, at, of), turn.tree, `${label}, ${name} pass ${turn.pass}`);
+      count += walked(walkOf(market, at, of), treeAt(bytes, turn), `${label}, ${name} pass ${turn.pass}`);
     }
   }
   return count;
@@ -112,8 +113,8 @@ test('the clearing error squares seats too many, and free ones where the price i
 
 test('a sign that is not due is found', () => {
   const market = marketIn(TERM, OF_TERM), { at } = market.roll.find(it => it.name === 'n.jones');
-  const { names, tree } = market.text.bundles[at], budget = market.text.budgets[at];
-  const walk = walkOf(market, at, { budget, champion: names });
+  const bundle = market.text.bundles[at], budget = market.text.budgets[at];
+  const walk = walkOf(market, at, { budget, champion: bundle.names }), tree = treeAt(market.parts.text.bytes, bundle);
   assert.equal(firstUndue(walk, nodesOf(tree)), null);
   assert.equal(firstUndue(walk, nodesOf(tree.replace('*', 'n'))).at, tree.indexOf('*'));
   assert.equal(firstUndue({ ...walk, budget: walk.budget - 700 }, nodesOf(tree)) === null, false);

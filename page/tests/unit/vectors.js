@@ -35,7 +35,8 @@ export function wishesAfter(text) {
   const wishes = new Map();
   const nothing = () => ({ ratings: new Map(), pairs: new Map() });
   const of = (/** @type {string} */ name) => wishes.get(name) ?? wishes.set(name, nothing()).get(name);
-  for (const { words: [word, name, ...rest] } of commandLines(new TextEncoder().encode(text))) {
+  for (const line of commandLines(new TextEncoder().encode(text))) {
+    const [word, name, ...rest] = new TextDecoder().decode(line).trim().split(/[ \t]+/);
     if (word === 'clear') wishes.delete(name);
     if (word === 'rate' && Number(rest[1])) of(name).ratings.set(rest[0], Number(rest[1]));
     else if (word === 'rate') of(name).ratings.delete(rest[0]);
@@ -53,10 +54,11 @@ export function wishesAfter(text) {
 export function marketIn({ catalogue, roll, settings, text, sessions }) {
   const plain = (/** @type {Uint8Array} */ it) => new TextDecoder().decode(it);
   const sections = catalogueOf(plain(catalogue)), students = rollOf(plain(roll));
-  const published = publishedOf(plain(text), sections, students), said = saidByAll(published.order, sessions);
+  const published = publishedOf(text, sections, students), said = saidByAll(published.order, sessions);
   const lines = [...said.values()].map(it => plain(it.bytes)).join('');
   return {
-    catalogue: sections, roll: students, text: published, said, settings: JSON.parse(plain(settings)),
+    catalogue: sections, roll: students, text: published, said, parts: { text: { bytes: text } },
+    settings: JSON.parse(plain(settings)),
     wishes: wishesAfter(lines), sectionOf: new Map(sections.map(it => [it.name, it])),
   };
 }
