@@ -1,11 +1,11 @@
 """No form wants memory for inputs of the greatest sizes: each of them is answered, and not with status 7."""
 
-import json
 import os
 import subprocess
 import tempfile
 import unittest
 from pathlib import Path
+from typing import BinaryIO
 
 TOP = Path(__file__).resolve().parent.parent
 PROGRAM, BENCH = TOP / "scripts" / "program", TOP / "scripts" / "bench"
@@ -23,6 +23,12 @@ def filled(path: Path, lines: int) -> None:
 
 class Greatest(unittest.TestCase):
     """A market of 2,000 students and 400 sections, 64 sessions with 200,000 commands, and 64 streams with as many requests."""
+
+    room: Path
+    sessions: list[str]
+    streams: list[str]
+    tables: list[str]
+    ran: subprocess.CompletedProcess[bytes]
 
     @classmethod
     def setUpClass(cls) -> None:
@@ -44,10 +50,9 @@ class Greatest(unittest.TestCase):
             cls.ran = cls.program("run", WORKERS, *cls.tables, *cls.sessions, into=text)
 
     @classmethod
-    def program(cls, *words: str, into=subprocess.PIPE) -> subprocess.CompletedProcess:
+    def program(cls, *words: str, into: int | BinaryIO = subprocess.PIPE) -> subprocess.CompletedProcess[bytes]:
         """A call of the program in the folder of the market."""
-        given = {"cwd": cls.room, "stdin": subprocess.DEVNULL, "stdout": into, "env": dict(os.environ)}
-        return subprocess.run([PROGRAM, *words], check=False, **given)
+        return subprocess.run([PROGRAM, *words], cwd=cls.room, stdin=subprocess.DEVNULL, stdout=into, env=dict(os.environ), check=False)
 
     def answered(self, *words: str) -> bytes:
         """What a call prints, which has to end with status 0."""

@@ -9,7 +9,8 @@ import unittest
 
 HERE = pathlib.Path(__file__).resolve().parent
 TOP = HERE.parent
-OTHERS = [TOP / ".ci/run", TOP / "page/tests/run", TOP / "page/tests/try_release"]
+BESIDE = (".ci/run", "examples/college/make.py", "page/tests/run", "page/tests/try_release", "registrar/tests/sitting")
+OTHERS = [TOP / name for name in BESIDE]
 STUBS = ("rt", "chromium", "debootstrap")
 
 
@@ -48,7 +49,7 @@ class Help(WithoutRt):
                 self.assertFalse(self.called.exists())
 
     def test_a_wrong_word_starts_nothing(self):
-        for name in ("documents", "examples", "gate_times", "lemmas", "plain_words", "release", "specs_stand_alone", "test"):
+        for name in ("documents", "examples", "gate_times", "lemmas", "lint", "plain_words", "release", "specs_stand_alone", "test"):
             if (HERE / name).exists():
                 with self.subTest(name):
                     done = self.call(HERE / name, "--no-such-word")

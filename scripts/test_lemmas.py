@@ -7,7 +7,9 @@ import tempfile
 import unittest
 
 LOADER = importlib.machinery.SourceFileLoader("lemmas", str(pathlib.Path(__file__).with_name("lemmas")))
-lemmas = importlib.util.module_from_spec(importlib.util.spec_from_loader("lemmas", LOADER))
+SPEC = importlib.util.spec_from_loader("lemmas", LOADER)
+assert SPEC is not None
+lemmas = importlib.util.module_from_spec(SPEC)
 LOADER.exec_module(lemmas)
 
 USES = "use Rattle.std.proofs.Common.{◌≡◌, ◌≤◌, ℕ, List, length}\nuse Rattle.low.specs.Words.{count}\n"

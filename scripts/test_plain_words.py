@@ -6,7 +6,9 @@ import pathlib
 import unittest
 
 LOADER = importlib.machinery.SourceFileLoader("plain_words", str(pathlib.Path(__file__).with_name("plain_words")))
-plain_words = importlib.util.module_from_spec(importlib.util.spec_from_loader("plain_words", LOADER))
+SPEC = importlib.util.spec_from_loader("plain_words", LOADER)
+assert SPEC is not None
+plain_words = importlib.util.module_from_spec(SPEC)
 LOADER.exec_module(plain_words)
 
 

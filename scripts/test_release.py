@@ -11,7 +11,9 @@ import unittest
 
 TOP = pathlib.Path(__file__).resolve().parent.parent
 COPIED = ("scripts", "page", "docs", "registrar", "verify", "examples")
-OF_BUILDERS = ("page", "release", "documents", "lemmas", "plain_words", "unproved", "gate_times", "specs_stand_alone", "test_release.py")
+OF_BUILDERS = (
+    "page", "release", "documents", "lemmas", "lint", "plain_words", "unproved", "gate_times", "specs_stand_alone", "test_release.py",
+)  # fmt: skip
 
 
 @unittest.skipUnless((TOP / "page/release_text.py").exists(), "the sources are not here")

@@ -23,6 +23,7 @@ import shutil
 import subprocess
 import sys
 import tempfile
+from typing import Counter, List
 
 import verify
 
@@ -33,7 +34,7 @@ INPUTS = ["catalogue", "roll", "settings", "text"]  # the sessions stand behind 
 
 def run_program(program, words, cwd):
     """What the program prints, and its status."""
-    done = subprocess.run([program, *words], cwd=cwd, stdout=subprocess.PIPE, stderr=subprocess.PIPE)
+    done = subprocess.run([program, *words], cwd=cwd, stdout=subprocess.PIPE, stderr=subprocess.PIPE, check=False)
     return done.stdout, done.returncode
 
 
@@ -68,7 +69,7 @@ def drawn_roll(dice, count):
 
 def drawn_sessions(dice, students, sections):
     """One to three sessions with ratings, adjustments, some that are taken back, and sometimes a close."""
-    sessions = [[] for _ in range(dice.randrange(1, 4))]
+    sessions: List[List[str]] = [[] for _ in range(dice.randrange(1, 4))]
     for i in range(students):
         rated = dice.sample(range(sections), dice.randrange(0, min(sections, 9) + 1))
         lines = [f"rate u{i} S{s} {dice.randrange(0, 101)}" for s in rated]
@@ -218,7 +219,8 @@ def kind_of(line):
 def work(job):
     """Compares so many texts from one seed. Of twenty markets one is the term, whose text is long."""
     program, seed, count, keep, term_share = job
-    dice, folder, answers, differences = random.Random(seed), tempfile.mkdtemp(), collections.Counter(), []
+    answers: Counter[str] = collections.Counter()
+    dice, folder, differences = random.Random(seed), tempfile.mkdtemp(), []
     files, left = None, 0
     for number in range(count):
         while left == 0:
@@ -250,7 +252,8 @@ def main():
     batch = max(1, min(100, options.texts // options.workers))
     jobs = [(options.program, options.seed * 1_000_000 + start, min(batch, options.texts - start), options.keep,
              options.term) for start in range(0, options.texts, batch)]
-    compared, answers, found = 0, collections.Counter(), 0
+    answers: Counter[str] = collections.Counter()
+    compared = found = 0
     with multiprocessing.Pool(options.workers) as pool:
         for count, kinds, differences in pool.imap_unordered(work, jobs):
             compared += count

@@ -9,6 +9,7 @@ import subprocess
 import sys
 import tempfile
 import unittest
+from typing import List
 
 sys.path.insert(0, str(pathlib.Path(__file__).resolve().parent))
 import spoil
@@ -27,8 +28,8 @@ class Examples(unittest.TestCase):
         if not EXAMPLES.is_dir():
             self.skipTest(f"no worked examples: {EXAMPLES} is not there")
         for case in sorted(EXAMPLES.iterdir()):
-            words = (case / "words").read_text().split()[1:]
-            told = (int((case / "status").read_text()), (case / "stdout").read_text())
+            words = (case / "words").read_text(encoding="utf-8").split()[1:]
+            told = (int((case / "status").read_text(encoding="ascii")), (case / "stdout").read_text(encoding="utf-8"))
             with self.subTest(case.name):
                 status, lines = verify.verdict([str(case / word) for word in words])
                 self.assertEqual(told, (status, lines[0] + "\n"))
@@ -41,11 +42,12 @@ class Examples(unittest.TestCase):
         forms = re.findall(r"^    (python3 verify.py .+)$", verify.__doc__, re.M)
         self.assertEqual(2, len(forms))
         own = ["--own", "n"]
-        for words in ([], ["a"] * 4, ["a"] * 69, own, own + ["--before", "1", "a", "b", "c", "d"], own + ["a"] * 6,
-                      own + ["--before", "x"] + ["a"] * 5):
+        wrong: List[List[str]] = [[], ["a"] * 4, ["a"] * 69, own, own + ["--before", "1", "a", "b", "c", "d"], own + ["a"] * 6,
+                                  own + ["--before", "x"] + ["a"] * 5]
+        for words in wrong:
             with self.subTest(words):
                 self.assertEqual((1, [verify.USAGE]), verify.verdict(words))
-                done = subprocess.run([sys.executable, verify.__file__, *words], stdout=subprocess.PIPE, text=True)
+                done = subprocess.run([sys.executable, verify.__file__, *words], stdout=subprocess.PIPE, text=True, check=False)
                 self.assertEqual((1, forms), (done.returncode, done.stdout.splitlines()))
 
 
@@ -63,7 +65,7 @@ class Own(unittest.TestCase):
     """One student with the own lines alone."""
 
     def verdict(self, name, text, *options):
-        said = "".join(pathlib.Path(path).read_text() for path in SESSIONS).splitlines(keepends=True)
+        said = "".join(pathlib.Path(path).read_text(encoding="utf-8") for path in SESSIONS).splitlines(keepends=True)
         lines = "".join(line for line in said if f" {name} " in line)
         with tempfile.TemporaryDirectory() as folder:
             (pathlib.Path(folder) / "text").write_text(text)
@@ -109,8 +111,8 @@ class Spoilt(unittest.TestCase):
         if not PROGRAM.is_file():
             self.skipTest(f"nothing to compare with: {PROGRAM} is not built")
         with tempfile.TemporaryDirectory() as keep:
-            done = subprocess.run([sys.executable, spoil.__file__, "--program", str(PROGRAM), "--texts", "300", "--seed", "3",
-                                   "--term", "0.02", "--keep", keep], stdout=subprocess.PIPE, stderr=subprocess.PIPE, text=True)
+            words = ["--program", str(PROGRAM), "--texts", "300", "--seed", "3", "--term", "0.02", "--keep", keep]
+            done = subprocess.run([sys.executable, spoil.__file__, *words], capture_output=True, text=True, check=False)
         self.assertEqual("300 texts compared, 0 differences", done.stdout.splitlines()[-1], done.stdout)
 
 

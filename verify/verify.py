@@ -45,8 +45,8 @@ def read_input(ordinal, path, limit=INPUT_LIMIT):
     try:
         with open(path, "rb") as file:
             text = file.read(limit + 1).decode("latin-1")
-    except OSError:
-        raise Ended(2, f"input {ordinal} can not be read", None)
+    except OSError as error:
+        raise Ended(2, f"input {ordinal} can not be read", None) from error
     if len(text) > limit:
         raise Ended(4, f"input {ordinal} is too long", None)
     return text[3:] if limit == INPUT_LIMIT and text.startswith("\xef\xbb\xbf") else text
@@ -108,8 +108,8 @@ def settings_in(text):
         return isinstance(xs, list) and 1 <= len(xs) <= 16 and all(type(x) is int and least <= x <= most for x in xs)
     try:
         settings = json_in(text)
-    except (ValueError, RecursionError):
-        raise Ended(3, "input 3 row 0: not json", None)
+    except (ValueError, RecursionError) as error:
+        raise Ended(3, "input 3 row 0: not json", None) from error
     faults = ["not an object"] if not isinstance(settings, dict) else \
         [f"missing {key}" for key in SETTINGS if key not in settings] or ["unknown key"] * (len(settings) > 8) or \
         [f"range of {key}" for key, ends in SETTINGS.items()

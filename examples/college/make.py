@@ -14,6 +14,7 @@ import os
 import random
 import sys
 from dataclasses import dataclass, field
+from typing import Sequence, TypeVar
 
 SEED = 2026
 STUDENTS = 900
@@ -105,6 +106,9 @@ class Student:
         return self.wants if self.survey == "list" else {}
 
 
+T = TypeVar("T")
+
+
 class Draw:
     """Numbers that are drawn."""
 
@@ -115,7 +119,7 @@ class Draw:
         """A number from 0 on, below `count`."""
         return int(self.random() * count)
 
-    def of(self, choices):
+    def of(self, choices: Sequence[T]) -> T:
         """One of several."""
         return choices[self.below(len(choices))]
 
@@ -284,7 +288,8 @@ def ranks(college: College) -> list[list[str]]:
         day, hours, minutes = day_and_time(minute)
         given = one.ranks()
         remark = "Café?" if at % 40 == 7 else ""
-        rows.append([f"{day:02d}.11.2026 {hours:02d}:{minutes:02d}", one.number, *(str(given.get(s.code, "")) for s in college.sections), remark])
+        ranked = [str(given.get(section.code, "")) for section in college.sections]
+        rows.append([f"{day:02d}.11.2026 {hours:02d}:{minutes:02d}", one.number, *ranked, remark])
     for one in [one for one in college.students if one.survey == "none"][:4]:
         rows.append(["02.11.2026 08:00", one.number, *[""] * len(college.sections), ""])
     return rows
@@ -352,9 +357,10 @@ def commands(college: College, survey: str) -> set[str]:
 
 def main(words: list[str]) -> int:
     """Writes the exports."""
-    if len(words) != 1:
-        print(__doc__, file=sys.stderr)
-        return 64
+    is_asked = words in (["-h"], ["--help"])
+    if is_asked or len(words) != 1:
+        print(__doc__, file=sys.stdout if is_asked else sys.stderr)
+        return 0 if is_asked else 64
     os.makedirs(words[0], exist_ok=True)
     for name, content in exports(made_college()).items():
         with open(os.path.join(words[0], name), "wb") as file:
