@@ -219,20 +219,18 @@ function hashesTable(market) {
 }
 
 /**
- * The whole text.
+ * The whole text, part by part: each is made when its turn has come.
  * @param {Market} market @param {ShowStudent} show shows one student, by its name
+ * @returns {(() => any)[]}
  */
-export function auditorView(market, show) {
-  return [
-    el('h2', { tabindex: '-1' }, 'The whole text'),
-    part('The check', figuresPart(market),
-      opening('What “this text holds” means', meaningPart, false, { class: 'paper' }),
-      opening('Which files were checked', () => hashesTable(market), false, { class: 'paper' })),
-    part('Clearing errors', ...errorsPart(market)),
-    part('Prices and seats', p(PRICES), sectionTable(market)),
-    part('Budgets', ...budgetsPart(market)),
-    part('The aftermarket', changesTable(market)),
-    part('Envy', envyPart(market, () => envyOfAll(market, show), false)),
-    part('All students', studentTable(market, show)),
-  ];
-}
+export const auditorParts = (market, show) => [
+  () => [el('h2', { tabindex: '-1' }, 'The whole text'), part('The check', figuresPart(market),
+    opening('What “this text holds” means', meaningPart, false, { class: 'paper' }),
+    opening('Which files were checked', () => hashesTable(market), false, { class: 'paper' }))],
+  () => part('Clearing errors', ...errorsPart(market)),
+  () => part('Prices and seats', p(PRICES), sectionTable(market)),
+  () => part('Budgets', ...budgetsPart(market)),
+  () => part('The aftermarket', changesTable(market)),
+  () => part('Envy', envyPart(market, () => envyOfAll(market, show), false)),
+  () => part('All students', studentTable(market, show)),
+];

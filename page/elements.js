@@ -70,6 +70,19 @@ export function bar(share, kind = '') {
 }
 
 /**
+ * The names that a field suggests. They are made when the field first gets the focus: of thousands that takes long.
+ * @param {HTMLElement} field which names the list @param {string} id of the list
+ * @param {() => [string, string][]} names each with how it is shown
+ */
+export function suggestions(field, id, names) {
+  const list = el('datalist', { id });
+  field.addEventListener('focus', () => {
+    list.append(...names().map(([value, shown]) => el('option', { value }, shown)));
+  }, { once: true });
+  return list;
+}
+
+/**
  * A part that opens; what stands in it is made when it opens first.
  * @param {any} summary
  * @param {() => any} make

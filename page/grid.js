@@ -23,10 +23,7 @@ export function tableOf(caption, columns, rows, options = {}) {
   /** @type {{ shown: Row[], by: number | null, isFalling: boolean }} */
   const now = { shown: rows, by: null, isFalling: false };
   const body = el('tbody'), said = el('span', { role: 'status', class: 'quiet' });
-  const draw = () => {
-    body.replaceChildren();
-    drawAsSeen(body, now.shown, columns);
-  };
+  const draw = () => drawAsSeen(body, now.shown, row => rowOf(row, columns));
   const arrange = () => {
     now.shown = arranged(rows, columns, now, filter.value);
     said.textContent = filter.value.trim() ? `${now.shown.length} of ${rows.length}` : '';
@@ -48,33 +45,33 @@ export function tableOf(caption, columns, rows, options = {}) {
     el('div', { class: 'scrolls', role: 'region', 'aria-label': caption, tabindex: '0' }, table));
 }
 
-/** How many rows are drawn at once. */
-const ROWS_AT_ONCE = 30;
+/** How many rows are drawn at once: as many as a table shows before it is scrolled. */
+const ROWS_AT_ONCE = 20;
 
 /**
- * Draws the first rows, and more as the last one comes into view. What is drawn anew draws no more of what it was. All
- * are drawn by the body's `fill`, which is called before the page is printed.
+ * Draws the first rows in the place of those that were drawn, and more as the last one comes into view. What is drawn
+ * anew draws no more of what it was. All are drawn by the body's `fill`, which is called before the page is printed.
  * @template Row
- * @param {HTMLElement} body @param {Row[]} rows @param {Column<Row>[]} columns
+ * @param {HTMLElement & { fill?: () => void }} body @param {Row[]} rows
+ * @param {(row: Row) => HTMLElement} make makes what is drawn of a row
  */
-function drawAsSeen(body, rows, columns) {
+export function drawAsSeen(body, rows, make) {
   const add = (/** @type {number} */ count) => {
     const from = body.children.length;
-    body.append(...rows.slice(from, from + count).map(row => rowOf(row, columns)));
+    body.append(...rows.slice(from, from + count).map(make));
   };
+  body.replaceChildren();
   add(ROWS_AT_ONCE);
+  const fill = body.fill = () => add(rows.length);
   if (rows.length <= ROWS_AT_ONCE) return;
-  let last = body.lastElementChild;
   const watch = new IntersectionObserver(seen => {
     if (!seen.some(it => it.isIntersecting)) return;
     watch.disconnect();
-    if (last.parentElement !== body) return;
+    if (body.fill !== fill) return;
     add(ROWS_AT_ONCE);
-    last = body.lastElementChild;
-    if (body.children.length < rows.length) watch.observe(last);
+    if (body.children.length < rows.length) watch.observe(body.lastElementChild);
   });
-  watch.observe(last);
-  /** @type {any} */ (body).fill = () => { if (last.parentElement === body) add(rows.length); };
+  watch.observe(body.lastElementChild);
 }
 
 /** @param {Column<any>} column */

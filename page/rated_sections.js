@@ -1,6 +1,7 @@
 // The sections of the form, each with a field for its rating, and a search.
 
 import { el } from './elements.js';
+import { drawAsSeen } from './grid.js';
 import { meetingWords } from './tables.js';
 import { rate, ratingOf } from './wish_list.js';
 
@@ -16,7 +17,13 @@ export class RatedSections {
     this.spelling = spelling;
     this.list = list;
     this.changed = changed;
-    this.rows = catalogue.map(section => ({ section, ...this.row(section), text: this.searched(section) }));
+    this.catalogue = catalogue;
+    /**
+     * What was drawn of a section so far: it stays as it is while others are searched.
+     * @type {Map<Section, { node: HTMLElement, field: HTMLInputElement }>}
+     */
+    this.drawn = new Map();
+    this.body = el('tbody');
   }
 
   /** The table with its search. */
@@ -28,11 +35,12 @@ export class RatedSections {
     search.addEventListener('input', arrange);
     only.addEventListener('change', arrange);
     const heads = ['Your rating', 'Section', 'Credits', 'Meets'].map(it => el('th', { scope: 'col' }, it));
+    arrange();
     return el('div', { class: 'sections' },
       el('div', { class: 'tools' }, search, el('label', { class: 'check' }, only, ' rated only')),
       el('div', { class: 'scrolls', role: 'region', 'aria-label': 'Sections', tabindex: '0' },
         el('table', {}, el('caption', { class: 'aside' }, 'Sections and your ratings'),
-          el('thead', {}, el('tr', {}, heads)), el('tbody', {}, this.rows.map(it => it.node)))));
+          el('thead', {}, el('tr', {}, heads)), this.body)));
   }
 
   /**
@@ -41,19 +49,29 @@ export class RatedSections {
    */
   arrange(words, isRatedOnly) {
     const wanted = words.toLowerCase().split(/\s+/).filter(Boolean);
-    for (const { section, node, text } of this.rows) {
-      node.hidden = !wanted.every(it => text.includes(it)) || isRatedOnly && !this.list.ratings.has(section.name);
-    }
+    const has = (/** @type {string} */ text) => wanted.every(it => text.includes(it));
+    const shown = this.catalogue.filter(it => (!isRatedOnly || this.list.ratings.has(it.name))
+      && (!wanted.length || has(this.searched(it))));
+    drawAsSeen(this.body, shown, it => this.rowOf(it).node);
   }
 
   /** Writes what is rated into the fields. */
   draw() {
-    for (const { section, field } of this.rows) field.value = this.list.ratings.get(section.name) ?? '';
+    for (const [{ name }, { field }] of this.drawn) field.value = String(this.list.ratings.get(name) ?? '');
   }
 
   /** Whether what stands in a field is no rating. */
   isWrong() {
-    return this.rows.some(it => it.field.hasAttribute('aria-invalid'));
+    return [...this.drawn.values()].some(it => it.field.hasAttribute('aria-invalid'));
+  }
+
+  /**
+   * What is drawn of a section.
+   * @param {Section} section
+   */
+  rowOf(section) {
+    if (!this.drawn.has(section)) this.drawn.set(section, this.row(section));
+    return this.drawn.get(section);
   }
 
   /** @param {Section} it */

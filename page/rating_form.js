@@ -1,6 +1,6 @@
 // The form before the desk closes: a student rates sections, sees its best bundle at prices of 0, and saves its lines.
 
-import { button, el, p, save } from './elements.js';
+import { button, el, p, save, suggestions } from './elements.js';
 import { RatedSections } from './rated_sections.js';
 import { AS_NAMED } from './spelling.js';
 import { weekView } from './week_view.js';
@@ -84,8 +84,7 @@ export class RatingForm {
     for (const it of [credits, courses]) it.addEventListener('input', capped);
     named();
     return el('div', { class: 'who' }, el('label', { for: 'rate-name' }, 'Your name, as on the roll'), name,
-      el('datalist', { id: 'rate-names' },
-        roll.map(it => el('option', { value: it.name }, spelling.shown('student', it.name)))),
+      suggestions(name, 'rate-names', () => roll.map(it => [it.name, spelling.shown('student', it.name)])),
       el('label', { for: 'rate-credits' }, 'Most credits'), credits,
       el('label', { for: 'rate-courses' }, 'Most sections'), courses, told, earlier);
   }

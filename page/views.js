@@ -1,7 +1,8 @@
 // The views, of which each has a tab, and what is looked at in them.
 
-import { auditorView } from './auditor.js';
-import { $, button, el, p } from './elements.js';
+import { auditorParts } from './auditor.js';
+import { $, button, el, p, suggestions } from './elements.js';
+import { drawInTurn } from './in_turn.js';
 import { knownNodes } from './known_view.js';
 import { studentView } from './student.js';
 
@@ -30,7 +31,7 @@ export function show(view) {
   }
   if (view !== 'auditor' || !shown.waits) return;
   shown.waits = false;
-  $('auditor').replaceChildren(...auditorView(shown.market, showStudent));
+  drawInTurn($('auditor'), auditorParts(shown.market, showStudent));
 }
 
 /** The element of the view that is shown. */
@@ -67,7 +68,7 @@ export function drawReaders(market, words) {
     : [p(words)]);
   const isWhole = market && !market.isOwn;
   shown.waits = isWhole;
-  $('auditor').replaceChildren(...isWhole ? [] : [p(market ? ALL_SESSIONS : words)]);
+  drawInTurn($('auditor'), isWhole ? [] : [() => p(market ? ALL_SESSIONS : words)]);
   if (market) recall();
   const only = market && named(market).length === 1 && market.isOwn ? named(market)[0] : null;
   if (only && $('student-answer').dataset.name !== only.name) drawStudent(only);
@@ -90,8 +91,8 @@ function chooser(market) {
   const input = el('input', {
     id: 'student-name', list: 'student-names', autocomplete: 'off', autocapitalize: 'off', spellcheck: 'false',
   });
-  const names = el('datalist', { id: 'student-names' }, named(market).map(it => el('option', { value: it.name },
-    market.spelling.shown('student', it.name))));
+  const names = suggestions(input, 'student-names', () =>
+    named(market).map(it => [it.name, market.spelling.shown('student', it.name)]));
   input.addEventListener('input', () => {
     if (named(market).some(it => it.name === input.value)) showStudent(input.value, false);
     else showNobody();

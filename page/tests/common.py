@@ -10,6 +10,25 @@ from browser import Browser
 
 # The most milliseconds of processor time for which one task may hold the page up.
 LONGEST_TASK = 200
+# A fixed piece of work, of the kinds that the page does: words are made and sorted, elements are made and laid out.
+WORK = """(() => {
+  const room = document.createElement('div');
+  document.body.append(room);
+  let height = 0;
+  for (let round = 0; round < 12; round++) {
+    const words = Array.from({ length: 4000 }, (_, at) => `S${at * 7919 % 4001}`).sort();
+    room.replaceChildren(...words.slice(0, 400).map(it => {
+      const made = document.createElement('p');
+      made.append(it, ' ', String(round));
+      return made;
+    }));
+    height += room.getBoundingClientRect().height;
+  }
+  room.remove();
+  return height;
+})()"""
+# The milliseconds of processor time of that work on the machine on which the marks by time were set.
+WORK_TAKES = 100
 
 HERE = Path(__file__).resolve().parent
 TOP = HERE.parents[1]
@@ -63,6 +82,15 @@ def in_page(tab: Browser, words: list[str], files: dict[str, bytes], limit: int 
     given = [words, [[name, base64.b64encode(content).decode()] for name, content in files.items()], limit]
     status, out, _ = tab.evaluate(f"{ASK}({json.dumps(given)})")
     return status, base64.b64decode(out)
+
+
+def slowness(tab: Browser) -> float:
+    """How many times as long this machine takes for the fixed work in the tab as the one on which the marks by time were
+    set: the middle of five times. It is at least 1: no mark is less than what is written."""
+    with tab.tasks() as tasks:
+        for _ in range(5):
+            tab.evaluate(WORK)
+    return max(1, tasks[-3] / WORK_TAKES)
 
 
 def open_page(tab: Browser) -> None:

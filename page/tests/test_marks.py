@@ -1,6 +1,8 @@
 """The marks for a market of 2,000 students and 400 sections: nothing holds the page up, answers come soon, memory is kept
-small. All is told by processor time, so that a machine that does other work too passes it. (`measure` has the clock, and
-the market that was measured for docs/PERFORMANCE.md: its trees take most of the time, and this one has shorter ones.)"""
+small. All is told by processor time, so that a machine that does other work too passes it. A machine that is slower is
+told by a fixed piece of work in the same tab: it has as much more time as it takes longer for this than the one on which the
+marks were set, and never less than the marks. (`measure` has the clock, and the market that was measured for
+docs/PERFORMANCE.md: its trees take most of the time, and this one has shorter ones.)"""
 
 import os
 import re
@@ -11,7 +13,7 @@ import unittest
 from pathlib import Path
 
 from browser import Browser, browser, chromium
-from common import LONGEST_TASK, PAGE, PROGRAM, TOP, open_page
+from common import LONGEST_TASK, PAGE, PROGRAM, TOP, open_page, slowness
 
 SIZES = ("2000", "400", "10", "2", "1")
 MOST_ANSWER, MOST_MEMORY, MOST_EXAMPLE = 300, 400, 1000
@@ -28,6 +30,8 @@ ANSWER = """(async name => {
   while (!document.querySelector('.question') || isWorking()) await next();
   return [answered, performance.now() - begun];
 })"""
+# Waits till what was drawn is laid out, and seen.
+SEEN = "new Promise(done => requestAnimationFrame(() => setTimeout(done)))"
 TICKS = os.sysconf("SC_CLK_TCK")
 
 
@@ -51,6 +55,7 @@ class Marks(unittest.TestCase):
     room: Path
     tab: Browser
     process: int
+    slowness: float
 
     @classmethod
     def setUpClass(cls) -> None:
@@ -65,30 +70,38 @@ class Marks(unittest.TestCase):
             open_page(cls.tab)
         cls.process = cls.tab.process_of_page
 
+    def setUp(self) -> None:
+        self.slowness = slowness(self.tab)
+
+    def assert_short(self, took: float, most: float, words: object) -> None:
+        """That something took less than the mark, as much greater as this machine is slower."""
+        self.assertLess(took, most * self.slowness, f"{words}, on a machine {self.slowness:.1f} times as slow")
+
     def test_example_is_checked_in_a_second(self) -> None:
         before = used(self.process)
         self.tab.evaluate("$('example').click()")
         self.tab.wait("$('verdict').textContent.includes('This text holds') && !isWorking()")
-        self.assertLess(used(self.process) - before, MOST_EXAMPLE)
+        self.assert_short(used(self.process) - before, MOST_EXAMPLE, "the example is checked")
 
     def test_market_of_2000_students(self) -> None:
         self.tab.evaluate("list.set([])")
         files = [self.room / it for it in ("CAT", "STU", "SET", "published.txt", "S1", "S2")]
         with self.tab.tasks() as tasks:
             self.tab.choose("#choose", files)
-            self.tab.wait("$('verdict').textContent.includes('2000 students') && $('student-name') && !isWorking()", 90)
-        self.assertLess(tasks[-1], LONGEST_TASK, "while the text is checked and read")
+            self.tab.wait("$('verdict').textContent.includes('2000 students') && $('student-name') && !isWorking()")
+        self.assert_short(tasks[-1], LONGEST_TASK, "while the text is checked and read")
         with self.tab.tasks() as tasks:
             for name in STUDENTS:
                 self.tab.evaluate(f"{ANSWER}('{name}')")
-        self.assertLess(tasks[-1], LONGEST_TASK, "while students are looked at")
+        self.assert_short(tasks[-1], LONGEST_TASK, "while students are looked at")
         answers = [self.tab.between(f"{name} asked", f"{name} answered") for name in STUDENTS]
-        self.assertLess(min(answers), MOST_ANSWER, answers)
+        self.assert_short(min(answers), MOST_ANSWER, answers)
         with self.tab.tasks() as tasks:
             for view in "auditor", "rate", "registrar":
                 self.tab.evaluate(f"show('{view}')")
-                self.tab.wait(f"$('{view}').querySelector('h2')")
-        self.assertLess(tasks[-1], LONGEST_TASK, "while the views are looked at")
+                self.tab.wait(f"$('{view}').querySelector('h2') && !$('{view}').fill")
+                self.tab.evaluate(SEEN)
+        self.assert_short(tasks[-1], LONGEST_TASK, "while the views are looked at")
         self.assertLess(most_memory(self.process), MOST_MEMORY)
 
 

@@ -66,13 +66,13 @@ class Own(unittest.TestCase):
     def answer(self, begins: str) -> str:
         """Waits for the first line of the answer; answers all words of the answer."""
         self.tab.wait(
-            f"document.querySelector('#answer .lead')?.textContent.startsWith({json.dumps(begins)}) && !isWorking()", 60
+            f"document.querySelector('#answer .lead')?.textContent.startsWith({json.dumps(begins)}) && !isWorking()"
         )
         return self.words("#answer")
 
     def verdict(self, title: str) -> str:
         """Waits for the verdict; answers all its words."""
-        self.tab.wait(f"document.querySelector('#verdict h2')?.textContent === {json.dumps(title)} && !isWorking()", 60)
+        self.tab.wait(f"document.querySelector('#verdict h2')?.textContent === {json.dumps(title)} && !isWorking()")
         return self.words("#verdict")
 
     def words(self, selector: str) -> str:
@@ -423,7 +423,7 @@ class Own(unittest.TestCase):
                 "other.session": HEAD.encode() + b"rate nobody FNCE-601-A 5\nclose\n",
             }
         )
-        self.tab.wait("document.querySelector('.known') && !isWorking()", 60)
+        self.tab.wait("document.querySelector('.known') && !isWorking()")
         told = self.words("#student")
         self.assertIn("other.session has lines of nobody, whom the roll does not have: they are left out.", told)
         self.assertIn("1 line of other.session names no student, and is left out.", told)
@@ -457,7 +457,7 @@ class Own(unittest.TestCase):
                 self.fill("what-if-budget", budget)
                 self.tab.evaluate("document.querySelector('.what-if').requestSubmit()")
                 self.tab.wait(
-                    f"document.querySelector('.what-if + .answer').textContent.includes({json.dumps(words)})", 20
+                    f"document.querySelector('.what-if + .answer').textContent.includes({json.dumps(words)})"
                 )
 
     def test_signs_are_explained_step_by_step(self) -> None:
@@ -611,7 +611,7 @@ class Own(unittest.TestCase):
         self.tab.call("Emulation.setScriptExecutionDisabled", value=True)
         try:
             self.tab.call("Page.navigate", url=PAGE.as_uri() + "?without")
-            self.tab.until(lambda: "turned off here" in self.seen_text(), "the sentence stands", 20)
+            self.tab.until(lambda: "turned off here" in self.seen_text(), "the sentence stands")
             self.assertNotIn("Choose files", self.seen_text())
         finally:
             self.tab.call("Emulation.setScriptExecutionDisabled", value=False)
@@ -641,10 +641,11 @@ class Own(unittest.TestCase):
     def open_form(self) -> None:
         """Goes to the form, once the files are read."""
         self.click("Rate sections")
-        self.tab.wait("$('rate-name') && !isWorking()", 60)
+        self.tab.wait("$('rate-name') && !isWorking()")
 
     def rate(self, section: str, points: str) -> None:
-        """Types a rating of a section into the form."""
+        """Searches a section in the form, and types a rating of it."""
+        self.fill("rate-search", section)
         self.tab.evaluate(
             "{ const it = [...document.querySelectorAll('#rate tbody tr')].find(it => it.children[1].textContent ==="
             f" '{section}').querySelector('input');it.value = '{points}'; it.dispatchEvent(new Event('input', {{"
@@ -663,7 +664,7 @@ class Own(unittest.TestCase):
         # without prices: FNCE-601-A, ACCT-611-B and MGMT-690-A do not clash, and have 2 + 2 + 1 credits
         best = "document.querySelector('.beside').textContent"
         self.tab.wait(
-            f"{best}.includes('your best bundle would be ACCT-611-B, FNCE-601-A and MGMT-690-A, worth 210')", 20
+            f"{best}.includes('your best bundle would be ACCT-611-B, FNCE-601-A and MGMT-690-A, worth 210')"
         )
         told = self.words(".beside")
         for words in (
@@ -680,13 +681,13 @@ class Own(unittest.TestCase):
         for identity, value in ("rate-one", "MGMT-690-A"), ("rate-other", "ACCT-611-B"), ("rate-points", "-35"):
             self.fill(identity, value)
         self.tab.evaluate("document.querySelector('form.pair').requestSubmit()")
-        self.tab.wait(f"{best}.includes('your best bundle would be ACCT-611-B and FNCE-601-A, worth 180')", 20)
+        self.tab.wait(f"{best}.includes('your best bundle would be ACCT-611-B and FNCE-601-A, worth 180')")
         self.assertIn("ACCT-611-B with MGMT-690-A: -35", self.words("#rate"))
         self.tab.picture(PICTURES / "own-rating.png")
         self.tab.call("Page.setDownloadBehavior", behavior="allow", downloadPath=str(self.room))
         self.click("Save my lines")
         saved = self.room / "n.jones.session"
-        self.tab.until(lambda: saved.is_file() and saved.stat().st_size > 0, "the lines are saved", 20)
+        self.tab.until(lambda: saved.is_file() and saved.stat().st_size > 0, "the lines are saved")
         self.assertEqual(
             (
                 "# What n.jones wishes.\nclear n.jones\nrate n.jones ACCT-611-B 80\nrate n.jones FNCE-601-A 100\nrate"
@@ -704,9 +705,9 @@ class Own(unittest.TestCase):
         self.give({"n.jones.session": lines, "published.txt": None, "settings.json": None})
         self.open_form()
         self.fill("rate-name", "n.jones")
-        self.tab.wait("document.querySelector('.who button')", 60)
+        self.tab.wait("document.querySelector('.who button')")
         self.click("Take the 4 lines of n.jones in n.jones.session")
-        self.tab.wait("$('rate').textContent.includes('Taken: 1 rating and 1 adjustment.')", 20)
+        self.tab.wait("$('rate').textContent.includes('Taken: 1 rating and 1 adjustment.')")
         self.assertIn(
             "ACCT-611-B with FNCE-601-A: +7 (ACCT-611-B not rated: it counts only once it is)", self.words("#rate")
         )
@@ -719,8 +720,11 @@ class Own(unittest.TestCase):
             "[...document.querySelectorAll('#rate tbody tr')].filter(it => it.checkVisibility() &&"
             " it.querySelector('input')).length"
         )
+        first = self.tab.evaluate(rows)
+        self.tab.evaluate("document.querySelector('#rate tbody').lastElementChild.scrollIntoView()")
+        self.tab.wait(f"{rows} === 30")
+        self.assertLess(first, 30)  # (the others are drawn as they come into view)
         everything = self.tab.evaluate(rows)
-        self.tab.wait("$('rate-search')")
         self.fill("rate-search", "fnce mon")
         shown = self.tab.evaluate(rows)
         self.assertTrue(0 < shown < everything, (shown, everything))

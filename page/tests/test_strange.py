@@ -60,12 +60,12 @@ class Strange(unittest.TestCase):
     def text_of_run(self) -> bytes:
         """Runs the market in the page, and has its text checked there."""
         self.give(market())
-        self.tab.wait("document.querySelector('#registrar form') && !isWorking()", 15)
+        self.tab.wait("document.querySelector('#registrar form') && !isWorking()")
         self.tab.evaluate("document.querySelector('#registrar form').requestSubmit()")
-        self.tab.wait("registrar.made && !isWorking()", 15)
+        self.tab.wait("registrar.made && !isWorking()")
         text = self.tab.evaluate("new TextDecoder().decode(registrar.made.text.bytes)")
         self.tab.evaluate("registrar.made.isSaved = true; registrar.take(registrar.made.text, registrar.made.settings)")
-        self.tab.wait("$('verdict').textContent.includes('This text holds') && $('student-name') && !isWorking()", 15)
+        self.tab.wait("$('verdict').textContent.includes('This text holds') && $('student-name') && !isWorking()")
         return text.encode()
 
     def test_whole_market(self) -> None:
@@ -73,8 +73,8 @@ class Strange(unittest.TestCase):
         for name in STUDENTS:
             with self.subTest(name=name):
                 self.tab.evaluate(f"showStudent({json.dumps(name)})")
-                self.tab.wait("/^Yes|rated nothing/.test(document.querySelector('#answer .lead').textContent)", 60)
-                self.tab.wait("document.querySelector('#student-answer table') && !isWorking()", 15)
+                self.tab.wait("/^Yes|rated nothing/.test(document.querySelector('#answer .lead').textContent)")
+                self.tab.wait("document.querySelector('#student-answer table') && !isWorking()")
                 final = next(it for it in text.splitlines() if it.startswith(f"final {name} "))
                 held = [it for it in final.split(" ")[2].strip("[]").split(",") if it]
                 told = self.tab.evaluate("document.querySelector('.holds').textContent")
@@ -84,9 +84,10 @@ class Strange(unittest.TestCase):
         pairs = self.tab.evaluate("shown.market.wishes.get('__proto__').pairs")
         self.assertEqual([["constructor", "valueOf"], 5], [sorted(pairs[0][:2]), pairs[0][2]])
         self.tab.evaluate("show('auditor')")
+        self.tab.wait("!$('auditor').fill")
         look = "[...document.querySelectorAll('#auditor button')].find(it => /envies/.test(it.textContent))"
         self.tab.evaluate(f"{look}?.click()")
-        self.tab.wait("$('auditor').textContent.includes('students envy') && !isWorking()", 15)
+        self.tab.wait("$('auditor').textContent.includes('students envy') && !isWorking()")
         names = self.tab.evaluate(
             "[...document.querySelectorAll('[aria-label=\"Students: budgets and bundles\"] tbody th')].map(it =>"
             " it.textContent)"
@@ -95,9 +96,9 @@ class Strange(unittest.TestCase):
 
     def test_what_the_desk_refused_is_no_wish(self) -> None:
         self.give(market())
-        self.tab.wait("document.querySelector('#registrar form') && !isWorking()", 15)
+        self.tab.wait("document.querySelector('#registrar form') && !isWorking()")
         self.tab.evaluate("$('to-registrar').click(); document.querySelector('#registrar .buttons button').click()")
-        self.tab.wait("$('run-answer').textContent.includes('The desk carried out') && !isWorking()", 15)
+        self.tab.wait("$('run-answer').textContent.includes('The desk carried out') && !isWorking()")
         told = self.tab.evaluate("$('run-answer').textContent")
         commands = len(STUDENTS) * len(SECTIONS) + 6
         self.assertIn(f"The desk carried out {commands - 4} of {commands} commands.", told)
@@ -117,7 +118,7 @@ class Strange(unittest.TestCase):
                 self.tab.evaluate("list.set([])")
                 self.give({**files, "published.txt": text, f"{name}.session": own, "names.csv": names})
                 lead = "document.querySelector('#answer .lead')?.textContent"
-                self.tab.wait(f"{lead}?.startsWith('Yes') && !isWorking()", 15)
+                self.tab.wait(f"{lead}?.startsWith('Yes') && !isWorking()")
                 heading = self.tab.evaluate("document.querySelector('#student-answer h2').textContent")
                 self.assertEqual(f"{HOSTILE} {name}", heading)
 

@@ -408,6 +408,7 @@ class Ways(unittest.TestCase):
         self.give(FILES)
         self.verdict("This text holds")
         self.click("Whole text")
+        self.tab.wait("!$('auditor').fill")
         self.assertIn("59 by the text, which the check does not judge (the settings accept 60)", self.words("#auditor"))
         sections = "document.querySelector('[aria-label=\"Sections: prices and seats\"]')"
         for _ in range(2):
@@ -658,6 +659,7 @@ class Ways(unittest.TestCase):
         self.click("Take the example term")
         self.verdict("This text holds")
         self.click("Whole text")
+        self.tab.wait("!$('auditor').fill")
         self.click("s.adler")
         self.show("n.jones")
         self.click("Run a market")
@@ -697,9 +699,10 @@ class Ways(unittest.TestCase):
         self.click("Take the example term")
         self.verdict("This text holds")
         self.tab.evaluate("$('student-name').focus()")
+        self.assertEqual(100, self.tab.evaluate("$('student-names').children.length"))
         self.tab.type("n.jones")
         self.assertEqual("shown below", self.words("#student-said"))
-        self.tab.wait("$('student-answer').textContent.includes('4,542 tokens')", 20)
+        self.tab.wait("$('student-answer').textContent.includes('4,542 tokens')")
         self.tab.type("x")
         self.assertEqual(
             ["", ""], self.tab.evaluate("[$('student-said').textContent, $('student-answer').textContent]")
@@ -775,6 +778,7 @@ class Ways(unittest.TestCase):
         self.tab.evaluate("clearVerdict()")
         self.tab.choose("#choose", [self.room / "spring-catalogue.csv"])
         self.assertIn("100 students, 30 sections", self.verdict("This text holds"))
+        self.tab.evaluate("document.querySelector('#rate tbody').fill()")
         self.assertEqual(30, self.tab.evaluate("document.querySelectorAll('#rate tbody tr').length"))
         (self.room / "spring-catalogue.csv").unlink()
         self.tab.evaluate("list.set([])")
@@ -859,6 +863,8 @@ class Ways(unittest.TestCase):
         told = self.words("#auditor")
         self.assertIn(hashlib.sha256((TERM / "published.txt").read_bytes()).hexdigest(), told)
         self.assertIn("It does not mean that the prices came from the search", told)
+        rows = "document.querySelectorAll('[aria-label=\"Students: budgets and bundles\"] tbody tr').length"
+        self.assertEqual(100, self.tab.evaluate(rows))
         self.tab.evaluate("dispatchEvent(new Event('afterprint'))")
         self.assertEqual(0, self.tab.evaluate("document.querySelectorAll('#auditor details[open]').length"))
 
