@@ -67,10 +67,10 @@ export function changeWords(market, before, after) {
 const took = it => !it.isTurn ? 'bought' : it.isKept ? 'kept' : 'took';
 
 /**
- * What a student had left of something, in words.
+ * What the bundle of a student left of something, in words.
  * @param {Facts} it @param {number} left @param {string} all of how much
  */
-const hadLeft = (it, left, all) => `of ${all} ${it.student} had ${left ? grouped(left) : 'none'} left`;
+const leftBy = (it, left, all) => `what ${it.student} ${took(it)} left ${left ? grouped(left) : 'none'} of ${all}`;
 
 /**
  * The reasons of `explain`, each short for a line.
@@ -83,9 +83,9 @@ const SHORT = {
   'alone price': it => `its price is ${grouped(it.price)}, more than the whole budget of ${tokens(it.budget)}`,
   'alone credits': it => `it has ${plural(it.of.credits, 'credit')}, and the roll allows ${it.caps.credits} in all`,
   'alone courses': it => `the roll allows ${it.student} no section at all`,
-  'beside price': it => `its price is ${grouped(it.price)}; ${hadLeft(it, it.left, tokens(it.budget))}`,
+  'beside price': it => `its price is ${grouped(it.price)}; ${leftBy(it, it.left, tokens(it.budget))}`,
   'beside credits': it => `it has ${plural(it.of.credits, 'credit')}; `
-    + hadLeft(it, it.caps.credits - it.credits, plural(it.caps.credits, 'credit')),
+    + leftBy(it, it.caps.credits - it.credits, plural(it.caps.credits, 'credit')),
   'beside courses': it =>
     `${it.student} ${took(it)} ${plural(it.caps.courses, 'section')}, and the roll allows no more`,
   clash: it => `it ${it.clash} ${it.other}, which ${it.student} ${took(it)}`,
@@ -163,7 +163,7 @@ export function laterReason(market, student, stage, name, told, before) {
   if (!isSame) return shortReason(market, student, stage, name, told);
   const it = factsOf(market, student, stage, name, told);
   const isWorth = told.worth === before.worth && told.lost === before.lost;
-  return (told.reason === 'beside price' ? hadLeft(it, it.left, tokens(it.budget)) : 'the same holds')
+  return (told.reason === 'beside price' ? leftBy(it, it.left, tokens(it.budget)) : 'the same holds')
     + (isWorth ? '' : worthWords(told));
 }
 

@@ -206,7 +206,7 @@ class Own(unittest.TestCase):
             self.assertIn(words, stages)
         lines = self.tab.evaluate("[...document.querySelectorAll('.question summary')].map(it => it.textContent)")
         self.assertEqual(
-            "Why not FNCE-717-A? its price is 3,252; of 4,542 tokens n.jones had 628 left (with it the best was worth 188,"
+            "Why not FNCE-717-A? its price is 3,252; what n.jones bought left 628 of 4,542 tokens (with it the best was worth 188,"
             " without it 260). Aftermarket: 8 of 12 seats were free when it began, and gone at the turns of n.jones.",
             lines[0],
         )
@@ -215,8 +215,8 @@ class Own(unittest.TestCase):
         # 851 + 1,942 + 2,137 = 4,930
         self.assertRegex(
             lgst,
-            r"of 4,542 tokens n.jones had 628 left \(with it the best was worth \d+, without it 260\)\. Aftermarket, pass 2:"
-            r" 1 of 9 seats was free at the turn of n.jones, but of 4,996 tokens n.jones had 66 left"
+            r"what n.jones bought left 628 of 4,542 tokens \(with it the best was worth \d+, without it 260\)\. Aftermarket, pass 2:"
+            r" 1 of 9 seats was free at the turn of n.jones, but what n.jones took left 66 of 4,996 tokens"
             r" \(with it the best was worth \d+, without it 262\)\.$",
         )
         self.click("Why not FNCE-717-A")

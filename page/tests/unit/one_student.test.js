@@ -78,7 +78,8 @@ test('what explain prints is read, and where it refuses the answer is handed on'
 test('reasons are short for a line and long below it; a tie is said to be one', () => {
   const told = { reason: 'beside price', best: ['ACCT-611-B', 'FNCE-717-A'], worth: 188, lost: 72, tree: '' };
   assert.equal(shortReason(market, student, stages[0], 'FNCE-717-A', told), 
-    'its price is 3,252; of 4,542 tokens n.jones had 628 left (with it the best was worth 188, without it 260)');
+    'its price is 3,252; what n.jones bought left 628 of 4,542 tokens (with it the best was worth 188, without it '
+      + '260)');
   const [why, best] = longReason(market, student, stages[0], 'FNCE-717-A', told);
   assert.match(why, /whose prices together are 3,914\. Of its budget of 4,542 that leaves 628/);
   assert.match(best, /prices together 4,103\), worth 188 by the ratings of n\.jones.*worth 260, 72 more\./);
@@ -90,7 +91,7 @@ test('reasons are short for a line and long below it; a tie is said to be one', 
 test('of a turn the reason speaks of the raised budget and of what was held', () => {
   const told = { reason: 'beside price', best: ['LGST-806-A'], worth: 88, lost: 174, tree: '' };
   assert.equal(shortReason(market, student, stages[2], 'LGST-806-A', told), 
-    'its price is 2,670; of 4,996 tokens n.jones had 66 left (with it the best was worth 88, without it 262)');
+    'its price is 2,670; what n.jones took left 66 of 4,996 tokens (with it the best was worth 88, without it 262)');
   const [why, best] = longReason(market, student, stages[2], 'LGST-806-A', told);
   assert.match(why, /n\.jones took ACCT-611-B, FNCE-601-A and MGMT-691-B, whose prices together are 4,930/);
   assert.match(best, /of what was held and what was free/);
@@ -99,7 +100,7 @@ test('of a turn the reason speaks of the raised budget and of what was held', ()
 test('what was left is of something, and a reason names who is spoken of', () => {
   const short = (/** @type {string} */ reason, /** @type {string} */ name, other = '') =>
     shortReason(market, student, stages[0], name, { reason, other });
-  assert.equal(short('beside credits', 'FNCE-717-A'), 'it has 2 credits; of 8 credits n.jones had 2 left');
+  assert.equal(short('beside credits', 'FNCE-717-A'), 'it has 2 credits; what n.jones bought left 2 of 8 credits');
   assert.equal(short('beside courses', 'FNCE-717-A'), 'n.jones bought 5 sections, and the roll allows no more');
   assert.equal(short('clash', 'FNCE-601-B', 'FNCE-601-A'),
     'it is of the same course as FNCE-601-A, which n.jones bought');
@@ -127,7 +128,7 @@ test('why not says what was free when the aftermarket began, and what at the tur
   const reply = (/** @type {Stage} */ stage, last = stage, of = told) => ({ stage, last, told: of });
   const short = (/** @type {string} */ name, /** @type {any[]} */ ...later) =>
     shortAnswer(counted, student, stages, name, [reply(stages[0]), ...later]);
-  assert.equal(short('FNCE-717-A'), 'its price is 3,252; of 4,542 tokens n.jones had 628 left. '
+  assert.equal(short('FNCE-717-A'), 'its price is 3,252; what n.jones bought left 628 of 4,542 tokens. '
     + 'Aftermarket: 8 of 12 seats were free when it began, and gone at the turns of n.jones.');
   const full = { ...counted, counts: new Map([['FNCE-717-A', 12]]) };
   assert.match(shortAnswer(full, student, stages, 'FNCE-717-A', [reply(stages[0])]),
@@ -136,14 +137,15 @@ test('why not says what was free when the aftermarket began, and what at the tur
   assert.match(shortAnswer(one, student, stages.slice(0, 2), 'FNCE-717-A', [reply(stages[0])]),
     /1 of 12 seats was free when it began, and gone at the turn of n\.jones\.$/);
   assert.match(short('LGST-806-A', reply(stages[1]), reply(stages[2], stages[5])),
-    /^its price is 2,670; .* pass 5: \d of 9 seats were free at the turn of n\.jones, but of 4,996 tokens n\.jones ha/);
+    /^its price is 2,670; .* pass 5: \d of 9 seats were free at the turn of n\.jones, but what n\.jones took left 66/);
   assert.match(short('MGMT-691-B', reply(stages[2], stages[2], { reason: 'held' }), reply(stages[3])),
     / Aftermarket, pass 2: n\.jones took it, and gave it up later for a better bundle\.$/);
   const [first, later] = [[188, 72], [190, 72]].map(([worth, lost]) => ({ ...told, worth, lost }));
   const line = (/** @type {any} */ one, /** @type {any} */ other) => shortAnswer(counted, student, stages, 'LGST-806-A',
     [reply(stages[0], stages[0], one), reply(stages[2], stages[5], other)]);
-  assert.match(line(first, later), /628 left \(.* 188, without it 260\)\..* 66 left \(.* 190, without it 262\)\.$/);
-  assert.match(line(first, first), /628 left \(.* 188, without it 260\)\..* 66 left\.$/);
+  assert.match(line(first, later),
+    /left 628 of .* 188, without it 260\)\..* left 66 of .* \(.* 190, without it 262\)\.$/);
+  assert.match(line(first, first), /left 628 of .* 188, without it 260\)\..* left 66 of 4,996 tokens\.$/);
   const clash = { reason: 'clash', other: 'FNCE-601-A' };
   const both = [reply(stages[0], stages[0], clash), reply(stages[3], stages[5], clash)];
   assert.equal(shortAnswer(counted, student, stages, 'FNCE-601-B', both), 'it is of the same course as FNCE-601-A, '
