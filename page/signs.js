@@ -92,29 +92,35 @@ export function* stepsOf(walk, text) {
   const waiting = [];
   /** @type {number[]} */
   let chosen = [];
-  let place = 0, at = 0;
+  let place = 0, at = 0, back = '';
   for (;;) {
     const sign = signAt(text, at), due = dueSign(walk, chosen, place);
-    if (!sign || sign !== due) { yield faultAt(walk, chosen, text, at, due); return; }
-    const node = { walk, chosen, place };
+    if (!sign || sign !== due) { yield { ...faultAt(walk, chosen, text, at, due), back }; return; }
+    const node = { walk, chosen, place }, depth = waiting.length;
     if (sign === '-') {
       const run = closedRun(walk, chosen, place, text, at);
-      yield { kind: 'closed', at, sign: '-'.repeat(run), words: closedWords(node, run), depth: waiting.length };
-      place += run;
-      at += run;
+      yield { kind: 'closed', at, sign: '-'.repeat(run), back, words: closedWords(node, run), depth };
+      [place, at, back] = [place + run, at + run, ''];
       continue;
     }
-    yield { kind: STEP_KINDS[sign[0]] ?? 'leaf', at, sign, words: signWords(node, sign), depth: waiting.length };
-    at += sign.length;
+    yield { kind: STEP_KINDS[sign[0]] ?? 'leaf', at, sign, back, words: signWords(node, sign), depth };
+    [at, back] = [at + sign.length, ''];
     if (sign === '+') waiting.push({ chosen, place: place + 1 });
     if (sign === '+' || sign === '!') { chosen = [...chosen, place]; place++; continue; }
     const next = waiting.pop();
     if (!next) break;
     ({ chosen, place } = next);
+    back = backWords(walk, place - 1);
   }
   if (at < text.length) { yield faultAt(walk, null, text, at, null); return; }
-  yield { kind: 'end', at, sign: '', words: END, depth: 0 };
+  yield { kind: 'end', at, sign: '', back: '', words: END, depth: 0 };
 }
+
+/**
+ * To which section a tree steps back, once all that begins with it was looked at, in words.
+ * @param {Walk} walk @param {number} place
+ */
+const backWords = ({ menu }, place) => `Back to place ${place}, ${menu.places[place].shown}: now without it.`;
 
 /** @type {Record<string, Step['kind']>} */
 const STEP_KINDS = { '+': 'taken', '!': 'taken', '*': 'bundle' };
@@ -220,7 +226,7 @@ function faultAt(walk, chosen, text, at, due) {
       + `${worthOf(walk.menu, chosen)}, better than the ${walk.worth} of the bundle`
     : `“${due}” is due`;
   const words = `Behind ${plural(at, 'character')} ${stands}, and by these ratings, prices and this budget ${what}.`;
-  return /** @type {Step} */ ({ kind: 'fault', at, sign: text.slice(at, at + 3), words, depth: 0 });
+  return /** @type {Step} */ ({ kind: 'fault', at, sign: text.slice(at, at + 3), back: '', words, depth: 0 });
 }
 
 /** Why a tree may not fit that a school published, in words. */

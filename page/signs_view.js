@@ -108,7 +108,7 @@ function stepNodes(steps) {
       const step = next.value;
       if (step.kind === 'end') end.append(el('p', { class: 'right' }, step.words));
       else if (step.kind === 'fault') end.append(...faultNodes(step));
-      else list.append(el('li', { class: step.kind }, el('span', { class: 'sign' }, step.sign), ` ${step.words}`));
+      else list.append(stepNode(step));
       next = steps.next();
     }
     more.hidden = !next.value;
@@ -118,5 +118,11 @@ function stepNodes(steps) {
 }
 
 /** @param {Step} step */
-const faultNodes = step => [el('p', { class: 'wrong' }, step.words), p('One of these may be the cause:'),
-  el('ul', {}, CAUSES.map(it => el('li', {}, it)))];
+const stepNode = ({ kind, sign, back, words }) => el('li', { class: kind }, el('span', { class: 'sign' }, sign), ' ',
+  back ? el('b', {}, `${back} `) : null, words);
+
+/** @param {Step} step */
+const faultNodes = ({ back, words }) => [
+  el('p', { class: 'wrong' }, back ? `${back} ` : '', words), p('One of these may be the cause:'),
+  el('ul', {}, CAUSES.map(it => el('li', {}, it))),
+];

@@ -78,6 +78,8 @@ interface Step {
   kind: 'taken' | 'closed' | 'bundle' | 'leaf' | 'fault' | 'end';
   at: number;
   sign: string;
+  /** to where the signs step back with it, in words; empty where they go on */
+  back: string;
   words: string;
   depth: number;
 }

@@ -470,6 +470,7 @@ class Own(unittest.TestCase):
         for words in (
             "in the second stage, with a budget of 4,542 tokens",
             "Place 0, ACCT-611-B, may be taken",
+            "b5 Back to place 1, FNCE-601-A: now without it. With ACCT-611-B, worth 88, and no other section",
             "= 260.508",
             "All signs fit",
         ):
@@ -492,7 +493,7 @@ class Own(unittest.TestCase):
 
     def test_further_signs_come_by_a_button_that_goes_with_the_last(self) -> None:
         made = """(count => {
-          const step = (it, at) => ({ kind: it, at, sign: '+', words: `step ${at}`, depth: 0 });
+          const step = (it, at) => ({ kind: it, at, sign: '+', back: '', words: `step ${at}`, depth: 0 });
           $('student').replaceChildren(...stepNodes([...Array(count).fill('leaf'), 'end'].map(step).values()));
         })"""
         shown = "[document.querySelectorAll('.steps li').length, document.querySelectorAll('#student .right').length]"

@@ -81,6 +81,8 @@ test('the signs of n.jones are read as the guide reads them', () => {
   assert.match(steps[0].words, /begins with ACCT-611-B: left are 3691 of 4542 tokens/);
   assert.match(steps[2].words, /Place 2, FNCE-601-B, may not be taken: it is of the same course as FNCE-601-A/);
   assert.match(steps[4].words, /ACCT-611-B, FNCE-601-A and HCMG-841-A, worth 260/);
+  assert.deepEqual(steps.map(it => it.back), ['', '', '', '', '', 'Back to place 10, HCMG-841-A: now without it.',
+    'Back to place 1, FNCE-601-A: now without it.', 'Back to place 0, ACCT-611-B: now without it.', '']);
   assert.match(steps[5].words, /worth 188.*Nothing else can come to it\. So at most 188, less than the 260/);
   assert.match(steps[6].words, /2989 tokens bring 109 \(its rating 100 \+ 9 with its pairs\), 0\.036 points a token\./);
   assert.match(steps[6].words, / = 260\.508\. So at most 260, as much as/);
