@@ -156,32 +156,38 @@ function answerPart(market, student, stages, ended) {
 
 /**
  * All of one student: what it holds stands at once, the answer above it as soon as the program has judged, and the
- * parts below once the answer is drawn, which would else wait for them.
+ * parts below, with a line that leads to each, once the answer is drawn, which would else wait for them. On a phone the
+ * parts are screens long, so the line stands above what else is told.
  * @param {Market} market @param {number} student
  * @returns {any[]}
  */
 export function studentView(market, student) {
   const stages = stagesOf(market, student), name = market.roll[student].name, shown = studentName(market, student);
-  const below = el('div');
-  const drawBelow = () => { if (below.isConnected) below.append(...partsBelow(market, student, stages)); };
+  const below = el('div'), ways = el('nav', { class: 'ways on-screen', 'aria-label': 'Parts below' });
+  const drawBelow = () => {
+    if (!below.isConnected) return;
+    const parts = partsBelow(market, student, stages);
+    ways.append(...parts.map(([words, it]) => button(words, () => goTo(it))));
+    below.append(...parts.map(([, it]) => it));
+  };
   return [
     el('h2', { tabindex: '-1' }, shown, shown === name ? '' : el('span', { class: 'quiet' }, ` ${name}`)),
     answerPart(market, student, stages, () => setTimeout(drawBelow)),
     heldWeek(market, student),
+    ways,
     ...knownNodes(market),
     below,
   ];
 }
 
 /**
- * The parts below the answer, and above them a line that leads to each: on a phone they are screens long.
+ * The parts below the answer, each with the words that lead to it.
  * @param {Market} market @param {number} student @param {Stage[]} stages
- * @returns {any[]}
+ * @returns {[string, HTMLElement][]}
  */
 function partsBelow(market, student, stages) {
   const envy = () => part('What others have', envyPart(market, () => envyOfOne(market, student), isSmall(market)));
-  /** @type {[string, HTMLElement][]} */
-  const parts = [
+  return [
     ['Stages', part('Stage by stage', ...stageNodes(market, student, stages))],
     ['Why not?', part('Why not?', ...whyNodes(market, student, stages))],
     ['What if?', onScreen('What if?', ...whatIfNodes(market, student))],
@@ -190,8 +196,6 @@ function partsBelow(market, student, stages) {
     ...market.isOwn ? [] : /** @type {[string, HTMLElement][]} */ ([['Others', envy()]]),
     ['Print', part('On paper', ...sheetNodes(market))],
   ];
-  const ways = parts.map(([words, it]) => button(words, () => goTo(it)));
-  return [el('nav', { class: 'ways on-screen', 'aria-label': 'Parts below' }, ways), ...parts.map(([, it]) => it)];
 }
 
 /** @param {HTMLElement} shown */

@@ -142,10 +142,11 @@ class Own(unittest.TestCase):
         self.answer(YES)
         self.tab.wait("document.querySelector('.known')")
         tops = self.tab.evaluate(
-            "['#answer .lead', '.week', '.known', '.note', '#student-answer section'].map(it =>"
+            "['#answer .lead', '.week', '.ways', '.known', '.note', '#student-answer section'].map(it =>"
             " document.querySelector(it).getBoundingClientRect().top)"
         )
         self.assertEqual(sorted(tops), tops)
+        self.assertLess(self.tab.evaluate("document.querySelector('.ways').getBoundingClientRect().bottom"), 844)
         self.assertEqual(
             "All else in the text that can be checked without other students' lines is right. Not checked: how the prices"
             " came about, and other students' bundles.",
@@ -403,6 +404,22 @@ class Own(unittest.TestCase):
                 self.assertLess(self.tab.evaluate("$('verdict').getBoundingClientRect().bottom"), 844)
                 self.tab.evaluate("list.set([])")
                 self.tab.wait("!$('verdict').textContent && !isWorking()")
+
+    def test_what_is_under_way_is_told_above_the_files_and_stays_in_sight(self) -> None:
+        self.tab.evaluate(
+            "globalThis.send = program.told.bind(program); program.told = it => new Promise(done => { globalThis.go ="
+            " () => { program.told = globalThis.send; done(globalThis.send(it)); }; })"
+        )
+        self.give()
+        self.tab.wait("globalThis.go && $('working').checkVisibility()")
+        top = "$('working').getBoundingClientRect().top"
+        self.assertLess(self.tab.evaluate(top), self.tab.evaluate("$('files').getBoundingClientRect().top"))
+        self.assertLess(self.tab.evaluate(top), 422)
+        self.tab.evaluate("$('file-list').lastElementChild?.scrollIntoView(); scrollTo(0, document.body.scrollHeight)")
+        self.assertTrue(0 <= self.tab.evaluate(top) < 422, self.tab.evaluate("[scrollY, innerHeight]"))
+        self.tab.evaluate("go()")
+        self.answer(YES)
+        self.assertFalse(self.tab.evaluate("$('working').checkVisibility()"))
 
     def test_turn_that_these_lines_do_not_prove_is_named(self) -> None:
         line = b"turn 2 n.jones [ACCT-611-B,FNCE-601-A,MGMT-691-B] ++----+----*n+n---+nnb2"
