@@ -105,7 +105,7 @@ def wide_module(arguments: argparse.Namespace, room: Path) -> Path:
     kept = room / f"{made_of.hexdigest()[:16]}.wasm"
     if not kept.is_file():
         clang = kit.kit_folder() / "toolchain/bin/clang"
-        shutil.move(module.make_module(clang, bitcode, HERE / "shim.c", room), kept)
+        shutil.move(module.make_module(clang, bitcode, HERE / "shim.c", room, not arguments.unproved), kept)
     return kept
 
 

@@ -3,7 +3,10 @@
 Of the program's LLVM text these change: the target's triple and data layout; attributes of functions that speak of
 x86-64; the names `main` and that of the question what the processor has; and two instructions of x86-64, of which the
 one pauses, and is left out, and the other shuffles sixteen bytes, and is written by WebAssembly's own. `shim.c` is all
-that is linked to it. The module has 64-bit addresses; `narrow.py` makes one of 32-bit addresses of it."""
+that is linked to it. The module has 64-bit addresses; `narrow.py` makes one of 32-bit addresses of it.
+
+Of a program without proofs the looks at conditions are left out that `rt try` adds, as `scripts/unproved` leaves them out:
+with them a check takes half as long again, and what is measured of the page would tell nothing of the proved one."""
 
 import re
 import subprocess
@@ -25,6 +28,8 @@ LINK = "-mwasm64 --no-entry --gc-sections --stack-first -z stack-size=8388608 --
 OF_X86 = re.compile(r' sanitize_address|"frame-pointer"="all" ?|"probe-stack"="[^"]*" ?|"stack-probe-size"="[^"]*" ?')
 PROCESSOR = re.compile(r'"target-cpu"="[^"]*"')
 NO_ATTRIBUTE = re.compile(r"\{ +\}")
+# What `rt try` adds: calls that look at conditions, or that stop where one fails.
+LOOKS = ('call void @"rattle-llvm-checks::', "call void @llvm.trap()")
 PAUSE = re.compile(r"\b(?:call|declare) void @llvm\.x86\.sse2\.pause\(\)")
 SHUFFLE = "@llvm.x86.ssse3.pshuf.b.128("
 NAMES = {
@@ -56,6 +61,11 @@ def run(words: list[str | Path], given: str = "") -> str:
     return ran.stdout
 
 
+def is_look(line: str) -> bool:
+    """Whether a line of a program's LLVM text is one of the looks that `rt try` adds."""
+    return line.lstrip().startswith(LOOKS)
+
+
 def data_layout(clang: Path) -> str:
     """The line of the target's data layout, as the kit's clang writes it."""
     text = run([clang, *TARGET, "-S", "-emit-llvm", "-x", "c", "-", "-o", "-"], "int x;")
@@ -78,8 +88,8 @@ def retargeted(line: str, layout: str) -> str:
     return line
 
 
-def retarget(clang: Path, module: Path, text: Path) -> None:
-    """Writes the LLVM text of the module, for WebAssembly."""
+def retarget(clang: Path, module: Path, text: Path, is_proved: bool) -> None:
+    """Writes the LLVM text of the module, for WebAssembly; of one that is not proved without the looks at conditions."""
     layout, printed = data_layout(clang), text.with_suffix(".x86.ll")
     run(
         [
@@ -98,6 +108,8 @@ def retarget(clang: Path, module: Path, text: Path) -> None:
     )
     with open(printed, encoding="utf-8") as lines, open(text, "w", encoding="utf-8") as to:
         for number, line in enumerate(lines, 1):
+            if not is_proved and is_look(line):
+                continue
             line = retargeted(line.rstrip("\n"), layout)
             if "x86" in line:
                 sys.exit(f"page: {printed}:{number} asks for x86: {line[:120]}")
@@ -106,10 +118,10 @@ def retarget(clang: Path, module: Path, text: Path) -> None:
     printed.unlink()
 
 
-def make_module(clang: Path, module: Path, shim: Path, room: Path) -> Path:
+def make_module(clang: Path, module: Path, shim: Path, room: Path, is_proved: bool) -> Path:
     """Makes the WebAssembly module in the folder `room`; what it is made of goes again."""
     text, program, of_shim, wasm = (room / it for it in ("program.ll", "program.o", "shim.o", "course-match.wasm"))
-    retarget(clang, module, text)
+    retarget(clang, module, text, is_proved)
     run([clang, *TARGET, *PROGRAM.split(), "-c", "-x", "ir", text, "-o", program])
     run([clang, *TARGET, *SHIM.split(), "-c", shim, "-o", of_shim])
     linker = room / "wasm-ld"  # (the kit's linker goes by the name that it is called)

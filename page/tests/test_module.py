@@ -16,6 +16,7 @@ from common import HERE, PAGE, PROGRAM, TERM, native, refuser
 
 sys.path.insert(0, str(HERE.parent))
 import narrow
+from module import is_look
 
 MODULE, WIDE = PAGE.with_suffix(".wasm"), PAGE.parent / "module/wide.wasm"
 
@@ -47,6 +48,16 @@ def caller(module: Path) -> Iterator[Caller]:
             yield Caller(process)
         finally:
             process.terminate()
+
+
+class Looks(unittest.TestCase):
+    """What is left out of a program that is built without proofs."""
+
+    def test_looks_at_conditions_are_known(self) -> None:
+        for line in '  call void @"rattle-llvm-checks::Alignment"(i8 %r7)', "  call void @llvm.trap()":
+            self.assertTrue(is_look(line), line)
+        for line in "declare void @llvm.trap()", '  call void @"core::hint::spin_loop"()', "  unreachable":
+            self.assertFalse(is_look(line), line)
 
 
 @unittest.skipUnless(shutil.which("node") and MODULE.is_file(), "no node, or no page is built")
