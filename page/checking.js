@@ -1,7 +1,7 @@
 // Checks a text, and puts together what the views show of one that holds.
 
-import { callOf } from './program.js';
-import { wishesBy } from './wishes.js';
+import { callOf, filesOf } from './program.js';
+import { upToOrder, wishesBy } from './wishes.js';
 import { read, work } from './work.js';
 
 const MOST_ORDERS = 24;
@@ -14,7 +14,8 @@ const MOST_ORDERS = 24;
  */
 export async function ordersOf({ text, sessions }) {
   if (!text || !sessions.length) return { orders: [], areOwn: false };
-  return read('Reading the sessions', 'orders', text.bytes, sessions.map(it => it.bytes), MOST_ORDERS + 1);
+  const order = upToOrder(text.bytes); // (the rest need not go to the worker for it)
+  return read('Reading the sessions', 'orders', order, sessions.map(it => it.bytes), MOST_ORDERS + 1);
 }
 
 /**
@@ -72,8 +73,8 @@ export async function marketOf({ answer, parts }, spelling) {
   const found = await read('Reading the text, and what the students want', 'whole', parts);
   if (!found) return { refusal: stopped(parts) };
   if (found.refusal) return { refusal: found.refusal };
-  const market = await withFiles(found.market, parts, parts.sessions, answer.ms, spelling);
-  return market ? { market } : { refusal: stopped(parts) };
+  const files = summedAs(filesOf(parts, parts.sessions), found.sums);
+  return { market: withFiles(found.market, parts, files, answer.ms, spelling) };
 }
 
 /**
@@ -86,18 +87,24 @@ export async function ownMarket(parts, lines, spelling) {
   if (!found) return { refusal: stopped(parts) };
   if (!found.market) return { refusal: found.refusal, finding: found.finding };
   const given = { ...parts, sessions: /** @type {GivenFile[]} */ ([]) };
-  const market = await withFiles(found.market, given, lines, found.ms, spelling);
-  return market ? { market } : { refusal: stopped(parts) };
+  const files = summedAs(filesOf(parts, lines), found.sums);
+  return { market: withFiles(found.market, given, files, found.ms, spelling) };
 }
 
 /**
- * A market with its files, each with its sum; null where that was stopped.
- * @param {ReadMarket} market @param {Parts} parts @param {GivenFile[]} lines of the students @param {number} ms
- * @param {Spelling} spelling
- * @returns {Promise<Market | null>}
+ * Files with their sums.
+ * @param {GivenFile[]} files @param {(string | null)[]} sums
  */
-async function withFiles({ wished, ...market }, parts, lines, ms, spelling) {
-  const files = [parts.catalogue, parts.roll, parts.settings, parts.text, ...lines];
-  if (!await summed(files)) return null;
-  return { ...market, wishes: wishesBy(wished), parts, files, ms, spelling };
+function summedAs(files, sums) {
+  files.forEach((it, at) => { it.sum ??= sums[at]; });
+  return files;
 }
+
+/**
+ * A market with its files.
+ * @param {ReadMarket} market @param {Parts} parts @param {GivenFile[]} files @param {number} ms
+ * @param {Spelling} spelling
+ * @returns {Market}
+ */
+const withFiles = ({ wished, ...market }, parts, files, ms, spelling) =>
+  ({ ...market, wishes: wishesBy(wished), parts, files, ms, spelling });

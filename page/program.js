@@ -137,3 +137,9 @@ export function callOf(form, parts, names = []) {
   const words = [form, ...BEFORE[form] ?? [], ...tables, ...names, ...given.slice(given.length - sessions)];
   return { form, words, inputs, files: inputs.map((it, at) => [given[at], it.bytes]) };
 }
+
+/**
+ * The files of a market, with the given ones of what the students wished.
+ * @param {Parts} parts @param {GivenFile[]} lines
+ */
+export const filesOf = ({ catalogue, roll, settings, text }, lines) => [catalogue, roll, settings, text, ...lines];

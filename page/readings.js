@@ -5,7 +5,7 @@ import { decoded, hashOf } from './bytes.js';
 import { lookOf } from './look.js';
 import { commandCount } from './lines.js';
 import { ownMarketOf } from './own_market.js';
-import { callOf } from './program.js';
+import { callOf, filesOf } from './program.js';
 import { originalsIn } from './spelling.js';
 import { MOST_SECTIONS, MOST_STUDENTS, firstRecords, sectionsOf, studentsOf } from './tables.js';
 import { wholeMarketOf } from './whole_market.js';
@@ -36,7 +36,8 @@ export const READINGS = {
   /**
    * The orders of the sessions in which each has as many commands as the text takes; and, where there is none, whether
    * each names one student alone.
-   * @param {Uint8Array} text @param {Uint8Array[]} sessions @param {number} most how many orders are looked for
+   * @param {Uint8Array} text up to its order line @param {Uint8Array[]} sessions
+   * @param {number} most how many orders are looked for
    */
   orders: (text, sessions, most) => {
     const orders = possibleOrders(sessions.map(commandCount), orderOf(text), most);
@@ -68,11 +69,17 @@ export const READINGS = {
    */
   sum: async bytes => ({ sum: await hashOf(bytes) }),
 
-  /** @param {Parts} parts @param {Ask} [ask] */
-  whole: (parts, ask) => wholeMarketOf(ask, parts),
+  /**
+   * What the views need of a text that holds, with the sums of its files: a long text need not come once more for its
+   * own.
+   * @param {Parts} parts @param {Ask} [ask]
+   */
+  whole: async (parts, ask) =>
+    ({ ...await wholeMarketOf(ask, parts), sums: await sumsOf(filesOf(parts, parts.sessions)) }),
 
   /** @param {Parts} parts @param {GivenFile[]} lines @param {Ask} [ask] */
-  own: (parts, lines, ask) => ownMarketOf(ask, parts, lines),
+  own: async (parts, lines, ask) =>
+    ({ ...await ownMarketOf(ask, parts, lines), sums: await sumsOf(filesOf(parts, lines)) }),
 
   /** @param {Checked} checked */
   refusal: checked => refusalOf(checked),
@@ -93,3 +100,9 @@ export const READINGS = {
     return answer.status === 0 ? { look: lookOf(answer.text, parts) } : { told: answerWords(answer, call) };
   },
 };
+
+/**
+ * The SHA-256 of each file, also of those that were summed before.
+ * @param {GivenFile[]} files
+ */
+const sumsOf = files => Promise.all(files.map(it => it.sum ?? hashOf(it.bytes)));

@@ -52,9 +52,24 @@ export function possibleOrders(sizes, order, most) {
  * @param {Uint8Array} bytes @returns {number[]}
  */
 export function orderOf(bytes) {
-  const from = bytes.indexOf(LINE_FEED) + 1, to = bytes.indexOf(LINE_FEED, from);
-  const line = decoded(bytes.subarray(from, Math.min(to < 0 ? bytes.length : to, from + LONGEST_ORDER)));
+  const line = decoded(bytes.subarray(...orderPlace(bytes)));
   return line.startsWith('order') ? line.split(' ').slice(1).map(Number) : [];
+}
+
+/**
+ * A text up to the end of its order line.
+ * @param {Uint8Array} bytes
+ */
+export const upToOrder = bytes => bytes.subarray(0, orderPlace(bytes)[1]);
+
+/**
+ * From where to where the order line of a text stands, as far as it is read.
+ * @param {Uint8Array} bytes
+ * @returns {[number, number]}
+ */
+function orderPlace(bytes) {
+  const from = bytes.indexOf(LINE_FEED) + 1, to = bytes.indexOf(LINE_FEED, from);
+  return [from, Math.min(to < 0 ? bytes.length : to, from + LONGEST_ORDER)];
 }
 
 /** How a line looks by which a student says what it wishes. */

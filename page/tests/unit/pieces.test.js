@@ -4,12 +4,12 @@
 import assert from 'node:assert/strict';
 import { test } from 'node:test';
 
-import { encoded, isSame, withText } from '../../bytes.js';
+import { decoded, encoded, isSame, withText } from '../../bytes.js';
 import { Lines } from '../../lines.js';
 import { assembled, lifted } from '../../pieces.js';
 import { originalsIn } from '../../spelling.js';
 import { firstRecords } from '../../tables.js';
-import { orderOf, wishedLines, wishesBy } from '../../wishes.js';
+import { orderOf, upToOrder, wishedLines, wishesBy } from '../../wishes.js';
 
 test('long bytes go ahead of their message, each once, and short ones with it', () => {
   const long = new Uint8Array(2 ** 21).fill(7), short = encoded('abc').subarray(1);
@@ -59,6 +59,9 @@ test('of spellings no more is read than a school has', () => {
 
 test('the order line is read as far as any order goes', () => {
   assert.deepEqual(orderOf(encoded('course-match 1\norder 2 1 2\nbudget')), [2, 1, 2]);
+  const whole = encoded('course-match 1\norder 2 1 2\nbudget'), head = upToOrder(whole);
+  assert.deepEqual([decoded(head), orderOf(head)], ['course-match 1\norder 2 1 2', [2, 1, 2]]);
+  assert.deepEqual(['', 'order 1', 'x\n'].map(it => decoded(upToOrder(encoded(it)))), ['', 'order 1', 'x\n']);
   assert.ok(orderOf(encoded(`course-match 1\norder${' 1'.repeat(2 ** 21)}`)).length < 2 ** 20);
 });
 
