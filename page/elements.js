@@ -70,15 +70,17 @@ export function bar(share, kind = '') {
 }
 
 /**
- * The names that a field suggests. They are made when the field first gets the focus: of thousands that takes long.
+ * The names that a field suggests. They are made when the field gets the focus, or something is typed, since thousands
+ * take long.
  * @param {HTMLElement} field which names the list @param {string} id of the list
  * @param {() => [string, string][]} names each with how it is shown
  */
 export function suggestions(field, id, names) {
   const list = el('datalist', { id });
-  field.addEventListener('focus', () => {
-    list.append(...names().map(([value, shown]) => el('option', { value }, shown)));
-  }, { once: true });
+  const fill = () => {
+    if (!list.childElementCount) list.append(...names().map(([value, shown]) => el('option', { value }, shown)));
+  };
+  for (const it of ['focus', 'input']) field.addEventListener(it, fill);
   return list;
 }
 
