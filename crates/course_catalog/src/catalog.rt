@@ -69,6 +69,20 @@ impl Catalog {
         })
     }
 
+    /// Another catalogue that is equal to this one, or that memory is wanting.
+    pub fn copy(&self, alloc: Global) -> Result<Catalog, NoMemory>
+        ensures { IfOk result (λ catalog. catalog ≡ self.now) }
+    {
+        Ok(Catalog {
+            version: self.version,
+            names: self.names.clone()?,
+            rows: self.rows.to_vec(alloc)?,
+            seats: self.seats.to_vec(alloc)?,
+            courses: self.courses.to_vec(alloc)?,
+            clashes: self.clashes.copy(alloc)?,
+        })
+    }
+
     /// The version of the catalogue's table: 1, in which each section runs in the whole term, or 2.
     pub fn version(&self) -> u8
         ensures version { result ≡ self.now.version }

@@ -9,7 +9,7 @@ use std::marker::Model;
 use timetable_rules::{Meetings, Parts};
 
 /// A section as it is kept. Contracts see it as what its record means.
-#[derive(Drop)]
+#[derive(Clone, Drop)]
 pub(crate) struct Row {
     pub name: Name,
     pub course: Name,

@@ -1,12 +1,14 @@
 -- Names that are found at one place.
-use Rattle.std.proofs.Common.{ℕ, suc, ◌≡◌, ◌+◌, ◌<◌, Bool, true, false, cond, not, ◌||◌, List, [], ◌∷◌, length, get_or, refl, ap, sym, ◌∙◌, arith, true≢false, map}
-use Rattle.std.specs.List.{list_any, position, position_or_len}
-use Rattle.std.specs.Prelude.{Some, nat_lt}
+use Rattle.std.proofs.Common.{ℕ, suc, ◌≡◌, ◌+◌, ◌<◌, Bool, true, false, cond, not, ◌||◌, List, [], ◌∷◌, length, get_or, ap, sym, ◌∙◌, arith, true≢false, inl, inr}
+use Rattle.std.specs.List.{list_any, position_or_len}
+use Rattle.std.specs.Prelude.{IfNone, IfSome, None, Option, Some, nat_lt, option_map, position}
 use Rattle.std.specs.Str.{bytes_eq}
 use Rattle.std.specs.Cmp.Lexicographic.{nat_list_eq_equiv}
+use Rattle.std.proofs.lemmas.Bool.{cases_Bool, lt-ltb}
+use Rattle.std.proofs.lemmas.List.Folds.{list_any_at}
+use Rattle.std.proofs.lemmas.List.Quantifiers.{position-Some}
 use Rattle.std.proofs.lemmas.List.Sums.{passes_at_first}
-use Rattle.plain_facts.proofs.Lists.{position_or_len-map, list_any-map}
-use Rattle.plain_facts.proofs.Outcomes.{cond_some}
+use Rattle.plain_facts.proofs.Outcomes.{cond_none, cond_some}
 use Rattle.market_units.specs.declared.names.Name.{Name}
 use Rattle.market_units.specs.Name.{name_bytes}
 use Rattle.preference_desk.specs.DeskNames.{has_name, ordinal_of}
@@ -37,17 +39,34 @@ pub other_ordinals : (names : List (List ℕ)) (first second : Name) (one other 
     → bytes_eq (name_bytes first) (name_bytes second) ≡ false → one ≡ other → ⊥
 other_ordinals names first second one other has has' e f apart same = true≢false (sym (same_ordinal names first second has has' (sym e ∙ same ∙ f)) ∙ apart)
 
--- the place that was found is the ordinal
-pub found_ordinal : (keys : List Name) (name : Name) (i : ℕ) → position (λ key. bytes_eq (name_bytes name) (name_bytes key)) keys ≡ Some i
-    → i ≡ ordinal_of (map name_bytes keys) name
-found_ordinal keys name i e =
-    cond_some (nat_lt (position_or_len (λ key. bytes_eq (name_bytes name) (name_bytes key)) keys) (length keys)) _ i e
-    ∙ sym (position_or_len-map (bytes_eq (name_bytes name)) name_bytes keys)
+-- a name that was found is one of these, at its ordinal
+pub found_is : {A : Type 0} (number : A → ℕ) (names : List (List ℕ)) (name : Name) (found : Option A)
+    → option_map number found ≡ position (bytes_eq (name_bytes name)) names → IfSome found (λ a. has_name names name ≡ true)
+found_is number names name None e = tt
+found_is number names name (Some a) e =
+    let at = position-Some (bytes_eq (name_bytes name)) names (number a) [] (sym e) in
+    list_any_at (bytes_eq (name_bytes name)) names (number a) [] at.0 at.1
 
-pub has_by_keys : (keys : List Name) (name : Name) (b : Bool) → list_any (λ key. bytes_eq (name_bytes name) (name_bytes key)) keys ≡ b
-    → has_name (map name_bytes keys) name ≡ b
-has_by_keys keys name b e = list_any-map (bytes_eq (name_bytes name)) name_bytes keys ∙ e
+pub found_ordinal : {A : Type 0} (number : A → ℕ) (names : List (List ℕ)) (name : Name) (found : Option A)
+    → option_map number found ≡ position (bytes_eq (name_bytes name)) names → IfSome found (λ a. number a ≡ ordinal_of names name)
+found_ordinal number names name None e = tt
+found_ordinal number names name (Some a) e =
+    cond_some (nat_lt (ordinal_of names name) (length names)) (ordinal_of names name) (number a) (sym e)
 
-pub length-names : (keys : List Name) → length (map name_bytes keys) ≡ length keys
-length-names [] = refl
-length-names (key ∷ keys) = omega (arith, length-names keys)
+pub found_below : {A : Type 0} (number : A → ℕ) (names : List (List ℕ)) (name : Name) (found : Option A)
+    → option_map number found ≡ position (bytes_eq (name_bytes name)) names → IfSome found (λ a. number a < length names)
+found_below number names name None e = tt
+found_below number names name (Some a) e = (position-Some (bytes_eq (name_bytes name)) names (number a) [] (sym e)).0
+
+-- and one that was not found is none of these
+pub not_found_is_none : {A : Type 0} (number : A → ℕ) (names : List (List ℕ)) (name : Name) (found : Option A)
+    → option_map number found ≡ position (bytes_eq (name_bytes name)) names → IfNone found (has_name names name ≡ false)
+not_found_is_none number names name (Some a) e = tt
+not_found_is_none number names name None e = elim (cases_Bool (has_name names name)) [
+  | inl has ↦
+      absurd
+      (true≢false
+      (sym (lt-ltb (ordinal_of names name) (length names) (found_inside (bytes_eq (name_bytes name)) names has))
+      ∙ cond_none (nat_lt (ordinal_of names name) (length names)) (ordinal_of names name) (sym e)))
+  | inr none ↦ none
+]

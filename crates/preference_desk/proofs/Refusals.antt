@@ -1,10 +1,9 @@
 -- Refused commands change nothing.
-use Rattle.std.proofs.Common.{◌≡◌, true, false, List, [], ◌∷◌, refl, sym, ap, subst, ◌∙◌, inl, inr}
+use Rattle.std.proofs.Common.{◌≡◌, List, [], ◌∷◌, refl, sym, ap, subst, ◌∙◌, inl, inr}
 use Rattle.std.proofs.lemmas.Bool.{cases_Bool}
-use Rattle.utility_language.specs.declared.commands.Command.{Command}
 use Rattle.preference_desk.specs.declared.entry.Entry.{Entry}
 use Rattle.preference_desk.specs.DeskNames.{DeskNames}
-use Rattle.preference_desk.specs.DeskStep.{DeskState, is_done, reply_to, state_after}
+use Rattle.preference_desk.specs.DeskStep.{DeskState, is_done, state_after}
 use Rattle.preference_desk.specs.Journals.{IsLegalFrom, opening, state_after_all}
 use Rattle.preference_desk.specs.RefusedCommands.{DoneCommandsAreEnough, RefusedCommandsChangeNothing, done_of}
 

@@ -5,7 +5,6 @@ ghost use Rattle.preference_desk.specs.DeskStep.{state_in};
 ghost use Rattle.preference_desk.specs.Histories.{IsHistory, IsHistory-prop};
 ghost use Rattle.preference_desk.specs.{NamesView.names_in, PreferencesView.preferences_of};
 
-use crate::copies::{names_in_limits, sections_of, students_of};
 use crate::names::Names;
 use crate::preferences::Preferences;
 use crate::steps::carry_out;
@@ -56,11 +55,8 @@ impl Desk {
         ensures entries { IfOk result (λ desk. entries_of desk ≡ []) }
         ensures room { IfOk result (λ desk. commands_left desk ≡ lines) }
     {
-        let students = students_of(alloc, roll)?;
-        let sections = sections_of(alloc, catalog)?;
-        let names = names_in_limits(catalog, roll, students, sections);
         Ok(Desk {
-            names,
+            names: Names::copy(alloc, catalog, roll)?,
             preferences: Preferences::new(alloc, roll.len())?,
             closed: false,
             journal: Vec::with_capacity(alloc, lines as usize)?,

@@ -4,7 +4,6 @@
 // student's row.
 #![tactic(auto)]
 
-mod copies;
 mod desk;
 mod entry;
 pub mod laws;

@@ -1,33 +1,31 @@
 // The names that the desk knows.
-ghost use Rattle.std.specs.Prelude.{◌≤◌, length};
-ghost use Rattle.market_units.specs.declared.limits.TheConstants.{MAX_SECTIONS, MAX_STUDENTS};
+ghost use Rattle.std.specs.Prelude.{◌≡◌, ◌<◌, true, false, length, IfOk, IfSome, IfNone};
+ghost use Rattle.preference_desk.specs.DeskNames.{has_name, ordinal_of};
+ghost use Rattle.preference_desk.specs.{MarketNames.market_names, NamesView.names_in};
 
-use indexmap::IndexSet;
-use market_units::{MAX_SECTIONS, MAX_STUDENTS, Name, SectionNo, StudentNo};
+use course_catalog::Catalog;
+use market_units::{Name, NoMemory, SectionNo, StudentNo};
+use std::alloc::Global;
+use student_roll::Roll;
 
-/// The names of a roll's students and of a catalogue's sections, in file order.
+/// The students of a roll and the sections of a catalogue, by name.
 #[derive(Drop)]
 pub(crate) struct Names {
-    students: IndexSet<Name>,
-    sections: IndexSet<Name>,
-    ghost few_students: { length students.keys ≤ MAX_STUDENTS },
-    ghost few_sections: { length sections.keys ≤ MAX_SECTIONS },
+    catalog: Catalog,
+    roll: Roll,
 }
 
 impl Names {
-    ghost use Rattle.std.specs.Prelude.{◌≡◌, ◌<◌, true, false, map, IfSome, IfNone};
-    ghost use Rattle.market_units.specs.Name.{name_bytes};
-    ghost use Rattle.preference_desk.specs.DeskNames.{has_name, ordinal_of};
-    ghost use Rattle.preference_desk.specs.NamesView.{names_in};
-
-    /// The names of a market with these students and sections, each numbered from 0 in this order.
-    pub(crate) fn of(students: IndexSet<Name>, sections: IndexSet<Name>) -> Names
-        requires students { length students.keys ≤ MAX_STUDENTS }
-        requires sections { length sections.keys ≤ MAX_SECTIONS }
-        ensures students { (names_in result).students ≡ map name_bytes students.keys }
-        ensures sections { (names_in result).sections ≡ map name_bytes sections.keys }
+    /// The names of a market, from copies of its catalogue and its roll. The only error is that
+    /// memory was not given.
+    pub(crate) fn copy(alloc: Global, catalog: &Catalog, roll: &Roll) -> Result<Names, NoMemory>
+        ensures { IfOk result
+            (λ names. names_in names ≡ market_names catalog.now.sections roll.now.students) }
     {
-        Names { students, sections }
+        Ok(Names {
+            catalog: catalog.copy(alloc)?,
+            roll: roll.copy(alloc)?,
+        })
     }
 
     /// The number of the student with this name; `None` where no student has it.
@@ -40,8 +38,7 @@ impl Names {
             (λ student. student.0 < length (names_in self.now).students) }
         ensures none { IfNone result (has_name (names_in self.now).students name.now ≡ false) }
     {
-        let place = self.students.get_index_of(name)?;
-        Some(StudentNo(place as u16))
+        self.roll.find(name)
     }
 
     /// The number of the section with this name; `None` where no section has it.
@@ -54,7 +51,6 @@ impl Names {
             (λ section. section.0 < length (names_in self.now).sections) }
         ensures none { IfNone result (has_name (names_in self.now).sections name.now ≡ false) }
     {
-        let place = self.sections.get_index_of(name)?;
-        Some(SectionNo(place as u16))
+        self.catalog.find(name)
     }
 }

@@ -4,7 +4,7 @@ use std::marker::Model;
 
 /// A student: the name, the base budget in tokens, the most credits and the most courses that it
 /// may take, and the tokens carried over from before. Contracts see it as these.
-#[derive(Drop)]
+#[derive(Clone, Drop)]
 pub(crate) struct Entry {
     pub name: Name,
     pub base: u32,

@@ -76,6 +76,17 @@ impl Roll {
         }
     }
 
+    /// Another roll that is equal to this one, or that memory is wanting.
+    pub fn copy(&self, alloc: Global) -> Result<Roll, NoMemory>
+        ensures { IfOk result (λ roll. roll ≡ self.now) }
+    {
+        Ok(Roll {
+            version: self.version,
+            names: self.names.clone()?,
+            students: self.students.to_vec(alloc)?,
+        })
+    }
+
     /// The version of the roll's table: 1, in which nothing is carried over, or 2.
     pub fn version(&self) -> u8
         ensures version { result ≡ self.now.version }

@@ -65,6 +65,15 @@ impl ClashTable {
         Ok(ClashTable { rows })
     }
 
+    /// Another table that is equal to this one, or that memory is wanting.
+    pub fn copy(&self, alloc: Global) -> Result<ClashTable, NoMemory>
+        ensures { IfOk result (λ table. table ≡ self.now) }
+    {
+        Ok(ClashTable {
+            rows: self.rows.to_vec(alloc)?,
+        })
+    }
+
     /// Whether the two sections clash, as the table was built.
     pub fn clash(&self, a: SectionNo, b: SectionNo) -> bool
         requires first { a.0 < length self.now }

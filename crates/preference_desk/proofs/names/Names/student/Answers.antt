@@ -1,13 +1,16 @@
-use Rattle.std.proofs.Common.{true, false, sym}
-use Rattle.preference_desk.proofs.NameLemmas.{has_by_keys, found_ordinal}
+use Rattle.market_units.specs.declared.units.StudentNo.{StudentNo}
+use Rattle.student_roll.specs.Students.{names_of}
+use Rattle.preference_desk.proofs.NameLemmas.{found_below, found_is, found_ordinal, not_found_is_none}
 use Rattle.preference_desk.proofs.names.Names.student.Goals as goal
 
-pub returns-in_err-place-clause-none : goal.returns-in_err-place-clause-none
-returns-in_err-place-clause-none c =
-    rw c.from_residual.ensures (has_by_keys c.args.self.now.students.keys c.args.name.now false (sym c.in_err-place.ensures.found))
-
 pub returns-clause-has : goal.returns-clause-has
-returns-clause-has c = has_by_keys c.args.self.now.students.keys c.args.name.now true (sym c.in_ok-place.ensures.found)
+returns-clause-has c = found_is (λ (student : StudentNo). student.0) (names_of c.args.self.now.roll.students) c.args.name.now c.find.result c.find.ensures.place
 
 pub returns-clause-ordinal : goal.returns-clause-ordinal
-returns-clause-ordinal c = found_ordinal c.args.self.now.students.keys c.args.name.now c.in_ok-place.place (sym c.in_ok-place.ensures.index)
+returns-clause-ordinal c = found_ordinal (λ (student : StudentNo). student.0) (names_of c.args.self.now.roll.students) c.args.name.now c.find.result c.find.ensures.place
+
+pub returns-clause-within : goal.returns-clause-within
+returns-clause-within c = found_below (λ (student : StudentNo). student.0) (names_of c.args.self.now.roll.students) c.args.name.now c.find.result c.find.ensures.place
+
+pub returns-clause-none : goal.returns-clause-none
+returns-clause-none c = not_found_is_none (λ (student : StudentNo). student.0) (names_of c.args.self.now.roll.students) c.args.name.now c.find.result c.find.ensures.place
