@@ -1,8 +1,6 @@
 pub mod BundleParts
-pub mod ClashSets
 pub mod CloseUp
 pub mod Conserved
-pub mod CopyLemmas
 pub mod DeskLemmas
 pub mod Fitting
 pub mod Handing

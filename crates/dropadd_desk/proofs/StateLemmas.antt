@@ -13,9 +13,8 @@ use Rattle.held_seats.specs.Floors.{AreBelow, IsFloor, held_on}
 use Rattle.dropadd_desk.specs.declared.shared.HallState.{HallState}
 use Rattle.dropadd_desk.specs.Fits.{fits, lowest_clash, exceeds_credits, exceeds_courses}
 use Rattle.dropadd_desk.specs.Halls.{IsHall, IsQueue, opening}
-use Rattle.dropadd_desk.specs.Kept.{IsMarket}
 use Rattle.dropadd_desk.specs.Lists.{Lists}
-use Rattle.dropadd_desk.specs.Market.{Market, enrolled, section_count, seats_in, student_count}
+use Rattle.dropadd_desk.specs.Market.{IsMarket, Market, enrolled, section_count, seats_in, student_count}
 use Rattle.dropadd_desk.specs.Step.{has_free_seat, with_held, with_waiting}
 
 -- one bundle is another

@@ -3,7 +3,6 @@ pub mod Fronts
 pub mod HallView
 pub mod Halls
 pub mod Holdings
-pub mod Kept
 pub mod Laws
 pub mod Lines
 pub mod Lists

@@ -3,13 +3,18 @@ use Rattle.std.specs.Prelude.{ℕ, ◌<◌, Option, List, length, map, position,
 use Rattle.std.specs.Str.{bytes_eq}
 use Rattle.market_units.specs.declared.names.Name.{Name}
 use Rattle.market_units.specs.Name.{name_bytes}
-use Rattle.course_catalog.specs.Catalog.{CatalogData}
+use Rattle.course_catalog.specs.Catalog.{CatalogData, IsCatalog}
 use Rattle.course_catalog.specs.Sections.{Section, section_at, section_names}
-use Rattle.student_roll.specs.Students.{RollData, Student, no_student, names_of}
+use Rattle.student_roll.specs.Students.{IsRoll, RollData, Student, no_student, names_of}
 
 pub record Market : Type 0 where
   pub catalog : CatalogData
   pub roll : RollData
+
+-- a catalogue and a roll, in their ranges
+pub record IsMarket (market : Market) : Type 0 where
+  pub catalog : IsCatalog market.catalog
+  pub roll : IsRoll market.roll
 
 -- how many sections and students there are; both are numbered from 0, in file order
 abbrev pub section_count : Market → ℕ

@@ -4,7 +4,7 @@ ghost use Rattle.std.proofs.Props.{props};
 ghost use Rattle.bundle_rules.specs.{Bundles.sections_of, Sets.IsAscending-prop};
 ghost use Rattle.market_units.specs.Members.{has};
 ghost use Rattle.held_seats.specs.Floors.{AreBelow, IsFloor, held_on};
-ghost use Rattle.dropadd_desk.specs.{Halls.IsHall, Kept.IsMarket, Market.seats_in};
+ghost use Rattle.dropadd_desk.specs.{Halls.IsHall, Market.IsMarket, Market.seats_in};
 
 use crate::bundles::{with_section, without_section};
 use crate::command::HallCommand;

@@ -4,7 +4,6 @@
 
 mod bundles;
 mod command;
-mod copies;
 mod desk;
 pub mod laws;
 mod lists;

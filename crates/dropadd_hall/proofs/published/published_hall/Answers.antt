@@ -1,12 +1,16 @@
 use Rattle.std.proofs.Common.{subst, ap, arith, ◌∙◌}
 use Rattle.std.specs.Prelude.{All}
 use Rattle.chronicle.specs.History.{IsLegal, state_after as state_after_steps}
+use Rattle.certificate_checker.proofs.Composing.{err_from}
+use Rattle.certificate_checker.specs.declared.findings.CheckEnd.TheVariants as end
+use Rattle.certificate_checker.specs.Findings.{OnFound}
 use Rattle.dropadd_desk.specs.declared.shared.HallState.{HallState}
 use Rattle.dropadd_desk.specs.HallView.{state_of}
 use Rattle.dropadd_desk.specs.Lines.{HallStep}
 use Rattle.dropadd_desk.specs.Market.{Market}
 use Rattle.dropadd_desk.specs.Replies.{NamesInRange}
 use Rattle.dropadd_desk.specs.Shared.{is_sound, reply_to, state_after}
+use Rattle.dropadd_hall.specs.Openings.{IsNoOpening}
 use Rattle.dropadd_hall.specs.Streams.{request_lists}
 use Rattle.dropadd_hall.specs.Texts.{hall_text}
 use Rattle.dropadd_hall.specs.Told.{IsToldOf}
@@ -45,3 +49,8 @@ returns-clause-told g c =
       history = hall.journal;
       told_of = subst (λ (state : HallState). IsToldOf market state streams hall.journal c.in_ok-told.told.items) opened.2.state told_of;
     }
+
+pub returns-in_err-told-clause-refused : goal.returns-in_err-told-clause-refused
+returns-in_err-told-clause-refused g c =
+    let market : Market = record { catalog = c.args.catalog.now; roll = c.args.roll.now } in
+    err_from c.from_residual-in_err-told.result end.NoMemory (λ end. OnFound end (IsNoOpening market c.args.text.now)) c.from_residual-in_err-told.ensures.1 tt

@@ -1,131 +1,84 @@
-use Rattle.std.proofs.Common.{◌≡◌, ◌<◌, ◌≤◌, ◌+◌, ◌∙◌, None, ap, sym, subst, arith, length, get_or, map, refl, ◌*◌}
-use Rattle.std.specs.FinSet as sets
-use Rattle.std.specs.List.{find}
+use Rattle.std.proofs.Common.{◌≡◌, ◌+◌, ◌∙◌, true, false, ap, arith, get_or, length, refl, subst, sym}
 use Rattle.std.proofs.lemmas.Bool.{le-ltb, lt-ltb}
-use Rattle.std.proofs.lemmas.List.{length-map, take_all}
-use Rattle.market_units.specs.declared.units.SectionNo.{SectionNo}
-use Rattle.bundle_rules.specs.Bundles.{sections_of}
-use Rattle.bundle_rules.specs.Ordinals.{ordinals}
-use Rattle.course_catalog.specs.Sections.{Section}
-use Rattle.dropadd_desk.specs.Fits.{credits_of, exceeds_courses, exceeds_credits, lowest_clash}
-use Rattle.dropadd_desk.specs.Kept.{AreCaps, AreClashes, IsMarket}
-use Rattle.dropadd_desk.specs.Market.{enrolled, offered, section_count}
-use Rattle.dropadd_desk.proofs.DeskLemmas.{against_clash, against_courses, against_credits, against_none}
-use Rattle.dropadd_desk.proofs.RuleLemmas.{all_below, cap_at, clash_found, credit_at, credits_more, found_first}
-use Rattle.dropadd_desk.proofs.rules.MarketRules.obstacle.Goals as goal
+use Rattle.plain_facts.proofs.Lists.{read_at}
 use Rattle.bundle_rules.proofs.PlaceLists.{none_more}
+use Rattle.bundle_rules.specs.Bundles.{sections_of}
+use Rattle.course_catalog.specs.Sections.{sections_clash}
+use Rattle.student_roll.specs.Students.{Student, no_student}
+use Rattle.dropadd_desk.specs.Fits.{credits_of, exceeds_courses, exceeds_credits, lowest_clash}
+use Rattle.dropadd_desk.specs.Market.{IsMarket, Market, enrolled, offered, section_count}
+use Rattle.dropadd_desk.proofs.DeskLemmas.{against_clash, against_courses, against_credits, against_none}
+use Rattle.dropadd_desk.proofs.RuleLemmas.{all_below, all_looked, credits_more, few_credits, found_first}
+use Rattle.dropadd_desk.proofs.rules.MarketRules.obstacle.Goals as goal
 
-pub has-requires : goal.has-requires
-has-requires c =
-    let items = c.sections-sections.result.now in
-    let low : (get_or items c.held.other-index (record { 0 = 0 })).0 < section_count c.args.self.now =
-    all_below (section_count c.args.self.now) items (sections_of c.args.held.now) c.sections-sections.ensures.value c.requires.within c.held.other-index
-    (record { 0 = 0 }) c.held-test.true in
-    let few : section_count c.args.self.now ≤ 400 = (subst IsMarket c.self.view_is c.self.invariant.is_market).catalog.few in
-    omega (arith, low, few)
+pub clash-requires-clause-second : goal.clash-requires-clause-second
+clash-requires-clause-second c =
+    let within = subst (λ (m : Market). section_count c.args.self.now ≡ section_count m) (sym c.self.view_is) refl in
+    let low =
+    all_below (section_count c.args.self.now) c.sections-sections.result.now (sections_of c.args.held.now) c.sections-sections.ensures.value
+    c.requires.within c.held.other-index (record { 0 = 0 }) c.held-test.true in
+    omega (arith, low, within)
 
-pub index-requires-in-held : goal.index-requires-in-held
-index-requires-in-held c =
-    let items = c.sections-sections.result.now in
-    let low : (get_or items c.held.other-index (record { 0 = 0 })).0 < section_count c.args.self.now =
-    all_below (section_count c.args.self.now) items (sections_of c.args.held.now) c.sections-sections.ensures.value c.requires.within c.held.other-index
-    (record { 0 = 0 }) c.held-test.true in
-    let count : length c.self.inside.credits.items ≡ section_count c.args.self.now =
-    ap length (c.self.invariant.credits ∙ ap (λ m. map (λ (section : Section). section.credits) m.catalog.sections) c.self.view_is)
-    ∙ length-map c.args.self.now.catalog.sections (λ (section : Section). section.credits) in
-    omega (arith, low, count, c.from-in-held.ensures, c.self.inside.credits.ok.0)
+pub credits-credits-requires-in-held : goal.credits-credits-requires-in-held
+credits-credits-requires-in-held c =
+    let within = subst (λ (m : Market). section_count c.args.self.now ≡ section_count m) (sym c.self.view_is) refl in
+    let low =
+    all_below (section_count c.args.self.now) c.sections-sections.result.now (sections_of c.args.held.now) c.sections-sections.ensures.value
+    c.requires.within c.held.other-index (record { 0 = 0 }) c.held-test.true in
+    omega (arith, low, within)
 
-pub held-init : goal.held-init
-held-init c =
-    let credit =
-    credit_at c.args.self.now c.self.inside.credits.items c.args.section.0 c.index-credits.result.now
-    (subst IsMarket c.self.view_is c.self.invariant.is_market)
-    (c.self.invariant.credits ∙ ap (λ m. map (λ (section : Section). section.credits) m.catalog.sections) c.self.view_is) c.requires.known.section
-    (subst (λ n. c.index-credits.result.now ≡ get_or c.self.inside.credits.items n c.index-credits.result.now) c.from-2.ensures c.index-credits.ensures) in
-    record { none = refl; sum = omega (arith, credit.value); few = omega (arith, credit.few) }
-
-pub returns-then-has-clause-obstacle : goal.returns-then-has-clause-obstacle
-returns-then-has-clause-obstacle c =
+pub returns-then-clash-clause-obstacle : goal.returns-then-clash-clause-obstacle
+returns-then-clash-clause-obstacle c =
     let market = c.args.self.now in
-    let i = c.args.student.0 in
     let s = c.args.section.0 in
     let set = sections_of c.args.held.now in
     let items = c.sections-sections.result.now in
-    against_clash (lowest_clash market s set) (exceeds_credits market i s set) (exceeds_courses market i set)
-    (get_or items c.held.other-index (record { 0 = 0 }))
+    let other = get_or items c.held.other-index (record { 0 = 0 }) in
+    let clash : sections_clash market.catalog.sections s other.0 ≡ true =
+    subst (λ (m : Market). sections_clash m.catalog.sections s other.0 ≡ true) c.self.view_is (sym c.clash.ensures.test ∙ c.if-clash.true) in
+    against_clash (lowest_clash market s set) (exceeds_credits market c.args.student.0 s set) (exceeds_courses market c.args.student.0 set) other
     (sym
-    (found_first (λ t. sets.contains c.index.result.now t) items c.held.other-index (record { 0 = 0 }) c.held-test.true c.held.invariant.none
-    (sym c.has.ensures ∙ c.if-has.true)
-    ∙ ap (find (λ t. sets.contains c.index.result.now t)) c.sections-sections.ensures.value
-    ∙ clash_found market c.self.inside.clashes.items s c.index.result.now set
-    (subst (λ m. AreClashes m.catalog.sections c.self.inside.clashes.items) c.self.view_is c.self.invariant.clashes) c.requires.known.section
-    (subst (λ n. c.index.result.now ≡ get_or c.self.inside.clashes.items n c.index.result.now) c.from.ensures c.index.ensures) c.requires.within))
-
-pub overflow_add-credits : goal.overflow_add-credits
-overflow_add-credits c =
-    let items = c.sections-sections.result.now in
-    let low : (get_or items c.held.other-index (record { 0 = 0 })).0 < section_count c.args.self.now =
-    all_below (section_count c.args.self.now) items (sections_of c.args.held.now) c.sections-sections.ensures.value c.requires.within c.held.other-index
-    (record { 0 = 0 }) c.held-test.true in
-    let credit =
-    credit_at c.args.self.now c.self.inside.credits.items (get_or items c.held.other-index (record { 0 = 0 })).0 c.index-in-held.result.now
-    (subst IsMarket c.self.view_is c.self.invariant.is_market)
-    (c.self.invariant.credits ∙ ap (λ m. map (λ (section : Section). section.credits) m.catalog.sections) c.self.view_is) low
-    (subst (λ n. c.index-in-held.result.now ≡ get_or c.self.inside.credits.items n c.index-in-held.result.now) c.from-in-held.ensures
-    c.index-in-held.ensures) in
-    let few : c.index-in-held.result.now ≤ 100 = credit.few in
-    let count : length (sections_of c.args.held.now) ≡ length items =
-    ap length (sym c.sections-sections.ensures.value) ∙ length-map items (λ (section : SectionNo). section.0) in
-    omega (arith, few, count, c.sections-sections.ensures.bundle.few, c.held.invariant.few, c.held-test.true)
+    (found_first (λ t. sections_clash market.catalog.sections s t) items c.held.other-index (record { 0 = 0 }) c.held-test.true c.held.invariant.none
+    clash
+    ∙ ap (lowest_clash market s) c.sections-sections.ensures.value))
 
 pub held-preserved : goal.held-preserved
 held-preserved c =
+    let market = c.args.self.now in
+    let s = c.args.section.0 in
     let items = c.sections-sections.result.now in
-    let low : (get_or items c.held.other-index (record { 0 = 0 })).0 < section_count c.args.self.now =
-    all_below (section_count c.args.self.now) items (sections_of c.args.held.now) c.sections-sections.ensures.value c.requires.within c.held.other-index
+    let other = get_or items c.held.other-index (record { 0 = 0 }) in
+    let low =
+    all_below (section_count market) items (sections_of c.args.held.now) c.sections-sections.ensures.value c.requires.within c.held.other-index
     (record { 0 = 0 }) c.held-test.true in
-    let credit =
-    credit_at c.args.self.now c.self.inside.credits.items (get_or items c.held.other-index (record { 0 = 0 })).0 c.index-in-held.result.now
-    (subst IsMarket c.self.view_is c.self.invariant.is_market)
-    (c.self.invariant.credits ∙ ap (λ m. map (λ (section : Section). section.credits) m.catalog.sections) c.self.view_is) low
-    (subst (λ n. c.index-in-held.result.now ≡ get_or c.self.inside.credits.items n c.index-in-held.result.now) c.from-in-held.ensures
-    c.index-in-held.ensures) in
-    let few : c.index-in-held.result.now ≤ 100 = credit.few in
-    let more =
-    credits_more c.args.self.now items c.held.other-index (record { 0 = 0 }) c.index-in-held.result.now c.held-test.true credit.value in
+    let credit : c.credits-credits-in-held.result ≡ (offered market other.0).credits =
+    c.credits-credits-in-held.ensures ∙ ap (λ (m : Market). (offered m other.0).credits) c.self.view_is in
+    let few = few_credits market other.0 c.credits-credits-in-held.result (subst IsMarket c.self.view_is c.self.invariant) low credit in
+    let more = credits_more market items c.held.other-index (record { 0 = 0 }) c.credits-credits-in-held.result c.held-test.true credit in
+    let apart : sections_clash market.catalog.sections s other.0 ≡ false =
+    subst (λ (m : Market). sections_clash m.catalog.sections s other.0 ≡ false) c.self.view_is (sym c.clash.ensures.test ∙ c.if-clash.false) in
     record {
-      none = none_more (λ t. sets.contains c.index.result.now t) items c.held.other-index (record { 0 = 0 }) c.held-test.true c.held.invariant.none
-          (sym c.has.ensures ∙ c.if-has.false);
+      none =
+          none_more (λ t. sections_clash market.catalog.sections s t) items c.held.other-index (record { 0 = 0 }) c.held-test.true c.held.invariant.none
+          apart;
       sum = omega (arith, more, c.held.invariant.sum);
       few = omega (arith, few, c.held.invariant.few);
     }
 
-pub returns-then-credits-caps-clause-obstacle : goal.returns-then-credits-caps-clause-obstacle
-returns-then-credits-caps-clause-obstacle c =
+pub returns-then-credits-clause-obstacle : goal.returns-then-credits-clause-obstacle
+returns-then-credits-clause-obstacle c =
     let market = c.args.self.now in
     let i = c.args.student.0 in
     let s = c.args.section.0 in
     let set = sections_of c.args.held.now in
-    let items = c.sections-sections.result.now in
-    let past : length items ≤ c.held.other-index = omega (arith, c.held-test.false) in
-    let none : lowest_clash market s set ≡ None =
-    sym
-    (clash_found market c.self.inside.clashes.items s c.index.result.now set
-    (subst (λ m. AreClashes m.catalog.sections c.self.inside.clashes.items) c.self.view_is c.self.invariant.clashes) c.requires.known.section
-    (subst (λ n. c.index.result.now ≡ get_or c.self.inside.clashes.items n c.index.result.now) c.from.ensures c.index.ensures) c.requires.within)
-    ∙ ap (find (λ t. sets.contains c.index.result.now t)) (sym c.sections-sections.ensures.value)
-    ∙ ap (λ xs. find (λ t. sets.contains c.index.result.now t) (ordinals xs)) (sym (take_all c.held.other-index items past)) ∙ c.held.invariant.none in
-    let sum : c.held.credits ≡ credits_of market set + (offered market s).credits =
-    c.held.invariant.sum ∙ ap (λ xs. credits_of market (ordinals xs) + (offered market s).credits) (take_all c.held.other-index items past)
-    ∙ ap (λ xs. credits_of market xs + (offered market s).credits) c.sections-sections.ensures.value in
-    let cap =
-    cap_at market c.self.inside.caps.items i c.index-caps.result.now (subst IsMarket c.self.view_is c.self.invariant.is_market)
-    (subst (λ m. AreCaps m.roll.students c.self.inside.caps.items) c.self.view_is c.self.invariant.caps) c.requires.known.student
-    (subst (λ n. c.index-caps.result.now ≡ get_or c.self.inside.caps.items n c.index-caps.result.now) c.from-3.ensures c.index-caps.ensures) in
-    let size : length items ≡ length set =
-    sym (length-map items (λ (section : SectionNo). section.0)) ∙ ap length c.sections-sections.ensures.value in
-    against_credits (lowest_clash market s set) (exceeds_credits market i s set) (exceeds_courses market i set) none
-    (lt-ltb (enrolled market i).credits (credits_of market set + (offered market s).credits) (omega (arith, cap.credits, sum, c.if-credits-caps.true)))
+    let looked =
+    all_looked market s set c.sections-sections.result.now c.held.other-index c.held.credits c.sections-sections.ensures.value
+    (omega (arith, c.held-test.false)) c.held.invariant.none c.held.invariant.sum in
+    let cap : c.credits.result ≡ (enrolled market i).credits =
+    read_at (λ (student : Student). student.credits) c.self.inside.roll.students i c.credits.result no_student c.credits.ensures.credits
+    ∙ ap (λ (m : Market). (enrolled m i).credits) c.self.view_is in
+    against_credits (lowest_clash market s set) (exceeds_credits market i s set) (exceeds_courses market i set) looked.none
+    (lt-ltb (enrolled market i).credits (credits_of market set + (offered market s).credits) (omega (arith, cap, looked.sum, c.if-credits.true)))
 
 pub returns-then-sections-from-clause-obstacle : goal.returns-then-sections-from-clause-obstacle
 returns-then-sections-from-clause-obstacle c =
@@ -133,27 +86,18 @@ returns-then-sections-from-clause-obstacle c =
     let i = c.args.student.0 in
     let s = c.args.section.0 in
     let set = sections_of c.args.held.now in
-    let items = c.sections-sections.result.now in
-    let past : length items ≤ c.held.other-index = omega (arith, c.held-test.false) in
-    let none : lowest_clash market s set ≡ None =
-    sym
-    (clash_found market c.self.inside.clashes.items s c.index.result.now set
-    (subst (λ m. AreClashes m.catalog.sections c.self.inside.clashes.items) c.self.view_is c.self.invariant.clashes) c.requires.known.section
-    (subst (λ n. c.index.result.now ≡ get_or c.self.inside.clashes.items n c.index.result.now) c.from.ensures c.index.ensures) c.requires.within)
-    ∙ ap (find (λ t. sets.contains c.index.result.now t)) (sym c.sections-sections.ensures.value)
-    ∙ ap (λ xs. find (λ t. sets.contains c.index.result.now t) (ordinals xs)) (sym (take_all c.held.other-index items past)) ∙ c.held.invariant.none in
-    let sum : c.held.credits ≡ credits_of market set + (offered market s).credits =
-    c.held.invariant.sum ∙ ap (λ xs. credits_of market (ordinals xs) + (offered market s).credits) (take_all c.held.other-index items past)
-    ∙ ap (λ xs. credits_of market xs + (offered market s).credits) c.sections-sections.ensures.value in
-    let cap =
-    cap_at market c.self.inside.caps.items i c.index-caps.result.now (subst IsMarket c.self.view_is c.self.invariant.is_market)
-    (subst (λ m. AreCaps m.roll.students c.self.inside.caps.items) c.self.view_is c.self.invariant.caps) c.requires.known.student
-    (subst (λ n. c.index-caps.result.now ≡ get_or c.self.inside.caps.items n c.index-caps.result.now) c.from-3.ensures c.index-caps.ensures) in
-    let size : length items ≡ length set =
-    sym (length-map items (λ (section : SectionNo). section.0)) ∙ ap length c.sections-sections.ensures.value in
-    against_courses (lowest_clash market s set) (exceeds_credits market i s set) (exceeds_courses market i set) none
-    (le-ltb (enrolled market i).credits (credits_of market set + (offered market s).credits) (omega (arith, cap.credits, sum, c.if-credits-caps.false)))
-    (lt-ltb (enrolled market i).courses (length set + 1) (omega (arith, cap.courses, size, c.from-4.ensures, c.if-sections-from.true)))
+    let looked =
+    all_looked market s set c.sections-sections.result.now c.held.other-index c.held.credits c.sections-sections.ensures.value
+    (omega (arith, c.held-test.false)) c.held.invariant.none c.held.invariant.sum in
+    let cap : c.credits.result ≡ (enrolled market i).credits =
+    read_at (λ (student : Student). student.credits) c.self.inside.roll.students i c.credits.result no_student c.credits.ensures.credits
+    ∙ ap (λ (m : Market). (enrolled m i).credits) c.self.view_is in
+    let most : c.courses.result ≡ (enrolled market i).courses =
+    read_at (λ (student : Student). student.courses) c.self.inside.roll.students i c.courses.result no_student c.courses.ensures.courses
+    ∙ ap (λ (m : Market). (enrolled m i).courses) c.self.view_is in
+    against_courses (lowest_clash market s set) (exceeds_credits market i s set) (exceeds_courses market i set) looked.none
+    (le-ltb (enrolled market i).credits (credits_of market set + (offered market s).credits) (omega (arith, cap, looked.sum, c.if-credits.false)))
+    (lt-ltb (enrolled market i).courses (length set + 1) (omega (arith, most, looked.size, c.from.ensures, c.if-sections-from.true)))
 
 pub returns-clause-obstacle : goal.returns-clause-obstacle
 returns-clause-obstacle c =
@@ -161,35 +105,15 @@ returns-clause-obstacle c =
     let i = c.args.student.0 in
     let s = c.args.section.0 in
     let set = sections_of c.args.held.now in
-    let items = c.sections-sections.result.now in
-    let past : length items ≤ c.held.other-index = omega (arith, c.held-test.false) in
-    let none : lowest_clash market s set ≡ None =
-    sym
-    (clash_found market c.self.inside.clashes.items s c.index.result.now set
-    (subst (λ m. AreClashes m.catalog.sections c.self.inside.clashes.items) c.self.view_is c.self.invariant.clashes) c.requires.known.section
-    (subst (λ n. c.index.result.now ≡ get_or c.self.inside.clashes.items n c.index.result.now) c.from.ensures c.index.ensures) c.requires.within)
-    ∙ ap (find (λ t. sets.contains c.index.result.now t)) (sym c.sections-sections.ensures.value)
-    ∙ ap (λ xs. find (λ t. sets.contains c.index.result.now t) (ordinals xs)) (sym (take_all c.held.other-index items past)) ∙ c.held.invariant.none in
-    let sum : c.held.credits ≡ credits_of market set + (offered market s).credits =
-    c.held.invariant.sum ∙ ap (λ xs. credits_of market (ordinals xs) + (offered market s).credits) (take_all c.held.other-index items past)
-    ∙ ap (λ xs. credits_of market xs + (offered market s).credits) c.sections-sections.ensures.value in
-    let cap =
-    cap_at market c.self.inside.caps.items i c.index-caps.result.now (subst IsMarket c.self.view_is c.self.invariant.is_market)
-    (subst (λ m. AreCaps m.roll.students c.self.inside.caps.items) c.self.view_is c.self.invariant.caps) c.requires.known.student
-    (subst (λ n. c.index-caps.result.now ≡ get_or c.self.inside.caps.items n c.index-caps.result.now) c.from-3.ensures c.index-caps.ensures) in
-    let size : length items ≡ length set =
-    sym (length-map items (λ (section : SectionNo). section.0)) ∙ ap length c.sections-sections.ensures.value in
-    against_none (lowest_clash market s set) (exceeds_credits market i s set) (exceeds_courses market i set) none
-    (le-ltb (enrolled market i).credits (credits_of market set + (offered market s).credits) (omega (arith, cap.credits, sum, c.if-credits-caps.false)))
-    (le-ltb (enrolled market i).courses (length set + 1) (omega (arith, cap.courses, size, c.from-4.ensures, c.if-sections-from.false)))
-
-pub returns-clause-room : goal.returns-clause-room
-returns-clause-room c = λ _.
-    let cap =
-    cap_at c.args.self.now c.self.inside.caps.items c.args.student.0 c.index-caps.result.now (subst IsMarket c.self.view_is c.self.invariant.is_market)
-    (subst (λ m. AreCaps m.roll.students c.self.inside.caps.items) c.self.view_is c.self.invariant.caps) c.requires.known.student
-    (subst (λ n. c.index-caps.result.now ≡ get_or c.self.inside.caps.items n c.index-caps.result.now) c.from-3.ensures c.index-caps.ensures) in
-    let few : c.index-caps.result.now.courses ≤ 8 = cap.few in
-    let size : length c.sections-sections.result.now ≡ length (sections_of c.args.held.now) =
-    sym (length-map c.sections-sections.result.now (λ (section : SectionNo). section.0)) ∙ ap length c.sections-sections.ensures.value in
-    omega (arith, few, size, c.from-4.ensures, c.if-sections-from.false)
+    let looked =
+    all_looked market s set c.sections-sections.result.now c.held.other-index c.held.credits c.sections-sections.ensures.value
+    (omega (arith, c.held-test.false)) c.held.invariant.none c.held.invariant.sum in
+    let cap : c.credits.result ≡ (enrolled market i).credits =
+    read_at (λ (student : Student). student.credits) c.self.inside.roll.students i c.credits.result no_student c.credits.ensures.credits
+    ∙ ap (λ (m : Market). (enrolled m i).credits) c.self.view_is in
+    let most : c.courses.result ≡ (enrolled market i).courses =
+    read_at (λ (student : Student). student.courses) c.self.inside.roll.students i c.courses.result no_student c.courses.ensures.courses
+    ∙ ap (λ (m : Market). (enrolled m i).courses) c.self.view_is in
+    against_none (lowest_clash market s set) (exceeds_credits market i s set) (exceeds_courses market i set) looked.none
+    (le-ltb (enrolled market i).credits (credits_of market set + (offered market s).credits) (omega (arith, cap, looked.sum, c.if-credits.false)))
+    (le-ltb (enrolled market i).courses (length set + 1) (omega (arith, most, looked.size, c.from.ensures, c.if-sections-from.false)))
