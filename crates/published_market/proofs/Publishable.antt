@@ -35,7 +35,6 @@ use Rattle.proof_tree.proofs.Alphabet.{trees_have_tree_bytes}
 use Rattle.aftermarket_stage.specs.Passes.{ArePasses, IsMadeOf, due_of}
 use Rattle.aftermarket_stage.specs.Turns.{IsTurn, TurnData, after_turns}
 use Rattle.aftermarket_stage.proofs.Passing.{stays_within_seats}
-use Rattle.market_certificate.specs.Lines.{joined}
 use Rattle.market_certificate.specs.Publications.{IsSession, Proved, ProvedTurn, Publication}
 use Rattle.market_certificate.specs.Tables.{Tables}
 use Rattle.market_certificate.specs.Texts.{lines_of, text_of, turn_line}

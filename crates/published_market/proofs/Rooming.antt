@@ -1,7 +1,8 @@
 -- What rooms hold, and what is shown of the trees that are copied out of them.
-use Rattle.std.proofs.Common.{ℕ, ◌≡◌, ◌<◌, ◌+◌, ◌∙◌, List, [], ◌∷◌, ◌++◌, map, length, get_or, take, ap, sym, subst, length-append, arith}
+use Rattle.std.proofs.Common.{ℕ, suc, ◌≡◌, ◌<◌, ◌+◌, ◌∙◌, List, [], ◌∷◌, ◌++◌, map, length, get_or, ap, refl, sym, subst, length-append, arith, inl, inr}
 use Rattle.std.specs.List.{AllZip}
-use Rattle.std.proofs.lemmas.List.{get_or-map, length-map}
+use Rattle.std.proofs.lemmas.Bool.{cases_lt}
+use Rattle.std.proofs.lemmas.List.{get_or-map, get_or_append_left, get_or_push, length-map}
 use Rattle.std.proofs.lemmas.Option.{slice_get-get_or}
 use Rattle.market_units.specs.declared.units.Tokens.{Tokens}
 use Rattle.bundle_rules.specs.Bundles.{sections_of}
@@ -9,7 +10,6 @@ use Rattle.bundle_rules.specs.Demand.{price_in}
 use Rattle.bundle_rules.specs.Menus.{MenuData}
 use Rattle.bundle_bounds.specs.Offers.{OfferData}
 use Rattle.budget_draw.specs.Budgets.{raised_by}
-use Rattle.demand_api.specs.declared.crowd.Crowd.{Crowd}
 use Rattle.demand_api.specs.Crowds.{Student}
 use Rattle.demand_api.specs.Views.{data_of}
 use Rattle.demand_api.proofs.Parts.{students_length}
@@ -17,18 +17,17 @@ use Rattle.aftermarket_stage.specs.declared.turns.Turn.{Turn}
 use Rattle.aftermarket_stage.specs.After.{turn_of, turns_of}
 use Rattle.aftermarket_stage.specs.Turns.{TurnData}
 use Rattle.market_certificate.specs.declared.publication.Proved as proved
-use Rattle.market_certificate.specs.declared.publication.ProvedTurn as turn
-use Rattle.market_certificate.specs.Publications.{Proved, ProvedTurn}
-use Rattle.market_certificate.specs.Views.{proved_of, turn_of as published_of}
-use Rattle.published_parts.specs.Offers.{IsProvedBest, IsProvedDemand, nobody, offer_to}
+use Rattle.market_certificate.specs.Publications.{ProvedTurn}
+use Rattle.published_parts.specs.Offers.{IsProvedBest, nobody, offer_to}
 use Rattle.published_market.specs.declared.chosen.Chosen.{Chosen}
 use Rattle.published_market.specs.declared.rooms.Room.{Room}
 use Rattle.published_market.specs.declared.taken.Taken.{Taken}
 use Rattle.published_market.specs.Asked.{offer_chosen, turn_chosen}
-use Rattle.published_market.specs.Making.{AreProved, AreProvedTurns, HasForm, HasTurnForm, IsBestTurn}
+use Rattle.published_market.specs.Making.{IsBestTurn}
 use Rattle.published_market.specs.Rooms.{IsRoomOf}
+use Rattle.published_market.specs.Shown.{AreShown}
 use Rattle.published_market.specs.Turns.{IsPublishedTurn, no_turn, offer_at, offer_for}
-use Rattle.published_market.proofs.Showing.{all_more, asked, asked_at, taken_count, zip_more}
+use Rattle.published_market.proofs.Showing.{asked, asked_at, taken_count}
 
 -- a room of the same bundle in the same offer
 pub room_for : {offer other : OfferData} {bundle same : List ℕ} (room : Room) → offer ≡ other → bundle ≡ same → IsRoomOf offer bundle room
@@ -89,12 +88,12 @@ offer_turned chosen n turn menu budget more at low is has_it raised =
     ∙ ap (λ (k : ℕ). offer_at chosen.prices.now chosen.raise (get_or (data_of crowd).students k nobody) turn) at
 
 -- a turn with the tree of its bundle is as it is published
-pub turn_shown : (chosen : Chosen) (i : ℕ) (turn : Turn) (offer : OfferData) (one : proved.Proved) (published : ProvedTurn)
-    → i < length chosen.turns.now → turn ≡ get_or chosen.turns.now i turn → offer ≡ offer_chosen chosen i
-    → IsProvedBest offer (sections_of one.bundle) one.tree.items → sections_of one.bundle ≡ (turn_chosen chosen i).bundle
+pub turn_shown : (chosen : Chosen) (i : ℕ) (turn : Turn) (one : proved.Proved) (published : ProvedTurn)
+    → i < length chosen.turns.now → turn ≡ get_or chosen.turns.now i turn
+    → IsProvedBest (offer_chosen chosen i) (sections_of one.bundle) one.tree.items → sections_of one.bundle ≡ (turn_chosen chosen i).bundle
     → published ≡ record { pass = turn.pass; student = turn.student.0; bundle = sections_of one.bundle; tree = one.tree.items }
     → IsPublishedTurn (data_of chosen.crowd.now) chosen.prices.now chosen.raise (turn_chosen chosen i) published
-turn_shown chosen i turn offer one published low is offered proved bundle told =
+turn_shown chosen i turn one published low is proved bundle told =
     let crowd = data_of chosen.crowd.now in
     let at : turn_chosen chosen i ≡ turn_of turn = chosen_at chosen i turn low is in
     let within : (turn_chosen chosen i).student < length crowd.students =
@@ -106,40 +105,28 @@ turn_shown chosen i turn offer one published low is offered proved bundle told =
       bundle = bundle;
       who = get_or crowd.students (turn_chosen chosen i).student nobody;
       listed = slice_get-get_or crowd.students (turn_chosen chosen i).student nobody within;
-      proved = subst (λ (o : OfferData). IsProvedBest o (sections_of one.bundle) one.tree.items) offered proved;
+      proved = proved;
     } in
     subst (IsPublishedTurn crowd chosen.prices.now chosen.raise (turn_chosen chosen i)) (sym told) made
 
-one_longer : {A : Type 0} (all : List A) (one : A) (later : List A) → later ≡ all ++ one ∷ [] → length later ≡ length all + 1
-one_longer all one later more = ap length more ∙ length-append all (one ∷ [])
+-- one more is published of a bundle
+pub shown_more : {S : Type 0} (is_shown : ℕ → S → Type 0) (all : List S) (one : S) (later : List S) → AreShown is_shown all → is_shown (length all) one
+    → later ≡ all ++ one ∷ [] → AreShown is_shown later
+shown_more {S} is_shown all one later are is more =
+    subst (AreShown is_shown) (sym more)
+    (λ k d low. elim (cases_lt k (length all)) [
+      | inl before ↦ subst (is_shown k) (sym (get_or_append_left all (one ∷ []) d k before)) (are k d before)
+      | inr after ↦
+          let at : k ≡ length all = omega (arith, after, low, length-append all (one ∷ [])) in
+          subst (λ n. is_shown n (get_or (all ++ one ∷ []) n d)) (sym at) (subst (is_shown (length all)) (sym (get_or_push all one d (length all) refl)) is)
+    ])
 
--- one more student's bundle is shown with its tree
-pub proved_more : (crowd : Crowd) (prices : List Tokens) (all : List proved.Proved) (one : proved.Proved) (later : List proved.Proved)
-    → length all < length (data_of crowd).students → later ≡ all ++ one ∷ [] → AreProved crowd prices all
-    → IsProvedDemand crowd.sections (price_in prices) (get_or (data_of crowd).students (length all) nobody) (proved_of one)
-    → HasForm (sections_of one.bundle) one.tree.items
-    → AreProved crowd prices later
-proved_more crowd prices all one later low more are is form =
-    let students = (data_of crowd).students in
-    record {
-      proved =
-          subst (λ n. AllZip (IsProvedDemand crowd.sections (price_in prices)) (take n students) (map proved_of later)) (sym (one_longer all one later more))
-          (zip_more (IsProvedDemand crowd.sections (price_in prices)) proved_of students (length all) nobody all one later low more are.proved is);
-      form = all_more (λ (shown : Proved). HasForm shown.bundle shown.tree) proved_of all one later more are.form form;
-    }
-
--- one more turn is shown with its tree
-pub turns_more : (crowd : Crowd) (prices : List Tokens) (raise : ℕ) (turns : List Turn) (d : TurnData) (all : List turn.ProvedTurn) (one : turn.ProvedTurn)
-    (later : List turn.ProvedTurn)
-    → length all < length (turns_of turns) → later ≡ all ++ one ∷ [] → AreProvedTurns crowd prices raise turns all
-    → IsPublishedTurn (data_of crowd) prices raise (get_or (turns_of turns) (length all) d) (published_of one)
-    → HasTurnForm (published_of one)
-    → AreProvedTurns crowd prices raise turns later
-turns_more crowd prices raise turns d all one later low more are is form =
-    let wanted = IsPublishedTurn (data_of crowd) prices raise in
-    record {
-      published =
-          subst (λ n. AllZip wanted (take n (turns_of turns)) (map published_of later)) (sym (one_longer all one later more))
-          (zip_more wanted published_of (turns_of turns) (length all) d all one later low more are.published is);
-      form = all_more HasTurnForm published_of all one later more are.form form;
-    }
+-- all of them, beside what they are published of
+pub shown_beside : {A B S : Type 0} (R : A → B → Type 0) (f : S → B) (xs : List A) (d : A) (all : List S) → length all ≡ length xs
+    → ((k : ℕ) (e : S) → k < length all → R (get_or xs k d) (f (get_or all k e)))
+    → AllZip R xs (map f all)
+shown_beside R f [] d [] same each = tt
+shown_beside R f [] d (y ∷ ys) same each = absurd (omega arith)
+shown_beside R f (x ∷ xs) d [] same each = absurd (omega arith)
+shown_beside R f (x ∷ xs) d (y ∷ ys) same each =
+    (each 0 y (omega arith), shown_beside R f xs d ys (omega arith) (λ k e low. each (suc k) e (omega arith)))

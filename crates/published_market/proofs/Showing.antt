@@ -1,10 +1,8 @@
 -- The students of a made crowd, by their places, and what is shown of them in a loop.
 use Rattle.std.proofs.Common.{ℕ, zero, suc, ◌≡◌, ◌<◌, ◌+◌, ◌∙◌, Bool, List, [], ◌∷◌, ◌++◌, map, length, get_or, take, refl, ap, sym, subst, arith}
-use Rattle.std.specs.Prelude.{All, nat_lt}
-use Rattle.std.specs.List.{AllZip, zip}
-use Rattle.std.proofs.lemmas.List.{get_or-map, length-map, map-append, take_more}
-use Rattle.std.proofs.lemmas.List.Elements.{All-append, All-cons, All-nil}
-use Rattle.plain_facts.proofs.Lists.{all_zip_push}
+use Rattle.std.specs.Prelude.{nat_lt}
+use Rattle.std.specs.List.{zip}
+use Rattle.std.proofs.lemmas.List.{get_or-map, length-map}
 use Rattle.market_units.specs.declared.units.Tokens.{Tokens}
 use Rattle.bundle_rules.specs.declared.bundle.Bundle.{Bundle}
 use Rattle.bundle_rules.specs.Bundles.{sections_of}
@@ -70,18 +68,6 @@ offer_read crowd prices i menu budget allowed low is has_it told =
     ap (offer_to (asked menu budget) (price_in prices) budget.0) sections_are
     ∙ ap (λ (student : Student). offer_to student (price_in prices) student.budget (all_sections crowd.sections))
     (sym (asked_at crowd.menus.items crowd.budgets.items i nobody menu budget crowd.same low is has_it))
-
--- one more pair of items, where the second list is seen through f
-pub zip_more : {A B C : Type 0} (R : A → B → Type 0) (f : C → B) (xs : List A) (i : ℕ) (d : A) (shown : List C) (y : C) (later : List C) → i < length xs
-    → later ≡ shown ++ y ∷ [] → AllZip R (take i xs) (map f shown) → R (get_or xs i d) (f y)
-    → AllZip R (take (i + 1) xs) (map f later)
-zip_more R f xs i d shown y later low more are is =
-    rw (more, take_more xs i d low, map-append f shown (y ∷ [])) (all_zip_push R (take i xs) (map f shown) (get_or xs i d) (f y) are is)
-
--- one more item of which P holds
-pub all_more : {B C : Type 0} (P : B → Type 0) (f : C → B) (shown : List C) (y : C) (later : List C) → later ≡ shown ++ y ∷ [] → All P (map f shown) → P (f y)
-    → All P (map f later)
-all_more P f shown y later more are is = rw (more, map-append f shown (y ∷ [])) (All-append P (map f shown) (f y ∷ []) are (All-cons P (f y) [] is (All-nil P)))
 
 -- one more pair of a zip
 pub zip_next : (xs ys : List ℕ) (i : ℕ) → i < length xs → i < length ys

@@ -2,6 +2,7 @@ pub mod Turns
 pub mod Publishing
 pub mod Laws
 pub mod Making
+pub mod Shown
 pub mod Stages
 pub mod Rooms
 pub mod Views

@@ -1,5 +1,5 @@
 // What students choose in an aftermarket.
-ghost use Rattle.std.specs.Prelude.{◌<◌, ◌≤◌, ◌^◌, All, length};
+ghost use Rattle.std.specs.Prelude.{◌≤◌, All};
 ghost use Rattle.market_units.specs.declared.limits.TheConstants.{MAX_RAISE};
 ghost use Rattle.aftermarket_stage.specs.After.{turns_of};
 ghost use Rattle.demand_api.specs.{Asking.ArePricesFor, Views.data_of};
@@ -17,8 +17,6 @@ pub(crate) struct Chosen<'a> {
     pub prices: &'a [Tokens],
     pub raise: u8,
     pub turns: &'a [Turn],
-    // True of every slice; the prover is not told so of a field.
-    pub ghost fits: { length turns.now < 2 ^ 64 },
     pub ghost priced: { ArePricesFor (data_of crowd.now) prices.now },
     pub ghost raised: { raise ≤ MAX_RAISE },
     pub ghost best: { All (IsBestTurn (data_of crowd.now) prices.now raise) (turns_of turns.now) },

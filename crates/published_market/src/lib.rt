@@ -14,6 +14,7 @@ mod rooms;
 mod seats;
 mod sessions;
 mod taken;
+mod trees;
 mod turns;
 mod writers;
 

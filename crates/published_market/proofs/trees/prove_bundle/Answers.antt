@@ -1,7 +1,7 @@
 use Rattle.proof_tree.proofs.Alphabet.{trees_have_tree_bytes}
 use Rattle.published_market.specs.Views.{bundle_in, offer_of_best}
 use Rattle.published_market.proofs.Bests.{best_holds}
-use Rattle.published_market.proofs.bundles.prove_bundle.Goals as goal
+use Rattle.published_market.proofs.trees.prove_bundle.Goals as goal
 
 pub returns-clause-proved : goal.returns-clause-proved
 returns-clause-proved c = record { best = best_holds c.args.best.now; proved = c.in_ok-tree.ensures }

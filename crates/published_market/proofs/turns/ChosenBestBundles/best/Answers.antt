@@ -6,34 +6,34 @@ use Rattle.aftermarket_stage.specs.After.{turn_of}
 use Rattle.aftermarket_stage.specs.Turns.{TurnData}
 use Rattle.published_market.specs.Turns.{best_of, offer_for}
 use Rattle.published_market.proofs.Rooming.{chosen_at, offer_turned, turn_best, turn_inside}
-use Rattle.published_market.proofs.turns.best_at.Goals as goal
+use Rattle.published_market.proofs.turns.ChosenBestBundles.best.Goals as goal
 
 pub index-menu-requires : goal.index-menu-requires
 index-menu-requires c =
-    let inside : c.from-student.result < length c.args.chosen.now.crowd.now.menus.items =
-    turn_inside c.args.chosen.now c.args.place c.from-student.result c.index-turns-place.result c.requires c.index-turns-place.is c.from-student.ensures in
+    let inside : c.from-student.result < length c.args.self.now.crowd.now.menus.items =
+    turn_inside c.args.self.now c.args.place c.from-student.result c.index-turns-place.result c.requires c.index-turns-place.is c.from-student.ensures in
     omega arith
 
 pub index-requires : goal.index-requires
 index-requires c =
-    let crowd = c.args.chosen.now.crowd.now in
+    let crowd = c.args.self.now.crowd.now in
     let inside : c.from-student.result < length crowd.menus.items =
-    turn_inside c.args.chosen.now c.args.place c.from-student.result c.index-turns-place.result c.requires c.index-turns-place.is c.from-student.ensures in
+    turn_inside c.args.self.now c.args.place c.from-student.result c.index-turns-place.result c.requires c.index-turns-place.is c.from-student.ensures in
     let same : length crowd.budgets.items ≡ length crowd.menus.items = crowd.same in
     omega arith
 
 pub raised-budget-requires-clause-budget : goal.raised-budget-requires-clause-budget
 raised-budget-requires-clause-budget c =
-    let crowd = c.args.chosen.now.crowd.now in
+    let crowd = c.args.self.now.crowd.now in
     let inside : c.from-student.result < length crowd.menus.items =
-    turn_inside c.args.chosen.now c.args.place c.from-student.result c.index-turns-place.result c.requires c.index-turns-place.is c.from-student.ensures in
+    turn_inside c.args.self.now c.args.place c.from-student.result c.index-turns-place.result c.requires c.index-turns-place.is c.from-student.ensures in
     let same : length crowd.budgets.items ≡ length crowd.menus.items = crowd.same in
     let low : c.from-student.result < length crowd.budgets.items = omega arith in
     subst (λ budget. budget.0 ≤ 1000000) (sym c.index.ensures) (budgets_high crowd c.from-student.result c.index.result.now low)
 
 pub invariant_of-result : goal.invariant_of-result
 invariant_of-result c =
-    let chosen = c.args.chosen.now in
+    let chosen = c.args.self.now in
     let turn = c.index-turns-place.result in
     let inside = turn_inside chosen c.args.place c.from-student.result turn c.requires c.index-turns-place.is c.from-student.ensures in
     let made = turn_best chosen c.args.place turn c.requires c.index-turns-place.is in
@@ -47,7 +47,7 @@ invariant_of-result c =
 
 pub returns-clause-offer : goal.returns-clause-offer
 returns-clause-offer c =
-    let chosen = c.args.chosen.now in
+    let chosen = c.args.self.now in
     let turn = c.index-turns-place.result in
     let inside = turn_inside chosen c.args.place c.from-student.result turn c.requires c.index-turns-place.is c.from-student.ensures in
     offer_turned chosen c.from-student.result (turn_of turn) c.index-menu.result.now c.index.result.now c.raised-budget.result.0 c.from-student.ensures inside
@@ -56,4 +56,4 @@ returns-clause-offer c =
 
 pub returns-clause-bundle : goal.returns-clause-bundle
 returns-clause-bundle c =
-    ap (λ (turn : TurnData). turn.bundle) (sym (chosen_at c.args.chosen.now c.args.place c.index-turns-place.result c.requires c.index-turns-place.is))
+    ap (λ (turn : TurnData). turn.bundle) (sym (chosen_at c.args.self.now c.args.place c.index-turns-place.result c.requires c.index-turns-place.is))

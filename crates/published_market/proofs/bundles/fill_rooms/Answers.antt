@@ -1,7 +1,0 @@
-use Rattle.std.proofs.Common.{◌<◌, ◌≤◌, ◌+◌, length, arith}
-use Rattle.published_market.proofs.bundles.fill_rooms.Goals as goal
-
-pub for_each_mut-requires-clause-accepts : goal.for_each_mut-requires-clause-accepts
-for_each_mut-requires-clause-accepts g c κs within = λ i p below is.
-    let places : c.args.first + length c.args.rooms.now ≤ length c.args.taken.now.bundles.now = c.requires in
-    let goal : c.args.first + i < length c.args.taken.now.bundles.now = omega arith in goal
