@@ -20,12 +20,13 @@ use Rattle.task_board.specs.declared.calls.Reply.TheVariants.{Draw as Drew, Post
 use Rattle.task_board.specs.Seats.{HistoryOf, dones, posts, is_done, is_post}
 use Rattle.task_board.specs.Turns.{HasDrawn, HasPosted}
 use Rattle.price_board.specs.declared.drawn.Draw.{Draw}
-use Rattle.price_board.specs.declared.drawn.Draw.TheVariants.{Task as Drawn, Done}
-use Rattle.price_board.specs.declared.drawn.Task.{Task}
+use Rattle.price_board.specs.declared.drawn.Draw.TheVariants.{Task, Done}
+use Rattle.price_board.specs.declared.drawn.Drawn.{Drawn}
 use Rattle.price_board.specs.Asked.{round_rules}
-use Rattle.price_board.specs.Rows.{number_drawn, number_of}
-use Rattle.price_board.specs.Seats.{RoundBoard, RoundSeat, HoldsNothing, IsFinished, IsFree}
-use Rattle.price_board.specs.Terms.{task_count, version_count, student_count}
+use Rattle.price_board.specs.Rows.{number_drawn}
+use Rattle.price_board.proofs.Numbering.{at_number}
+use Rattle.price_board.specs.Seats.{RoundBoard, RoundSeat, IsNumbered, HoldsNothing, IsFinished, IsFree}
+use Rattle.price_board.specs.Terms.{count_in, task_count, version_count, student_count}
 use Rattle.demand_api.specs.Crowds.{CrowdData}
 use Rattle.demand_api.specs.Views.{data_of}
 use Rattle.demand_api.proofs.Parts.{students_length}
@@ -46,24 +47,26 @@ students_there board crowd same = ap (λ (c : CrowdData). length c.students) sam
 
 -- the tasks of four students
 pub tasks_of_four : (board : RoundBoard) (crowd : Crowd) (versions : List (Vec Tokens Global)) → board.base.crowd ≡ data_of crowd
-    → board.base.versions ≡ prices_of versions → length crowd.menus.items ≡ 4 → length versions * 4 ≤ task_count board.base
-tasks_of_four board crowd versions its_crowd its_versions four =
+    → board.base.versions ≡ prices_of versions → board.base.list ≡ None → length crowd.menus.items ≡ 4 → length versions * 4 ≤ task_count board.base
+tasks_of_four board crowd versions its_crowd its_versions each four =
     let n : ℕ = length versions in
     let there : version_count board.base ≡ n = versions_there board versions its_versions in
     let here : student_count board.base ≡ 4 = students_there board crowd its_crowd ∙ four in
-    subst (λ (v : ℕ). n * 4 ≤ v * student_count board.base) (sym there)
-    (subst (λ (s : ℕ). n * 4 ≤ n * s) (sym here) (let goal : n * 4 ≤ n * 4 = omega arith in goal))
+    subst (λ l. n * 4 ≤ count_in l board.base) (sym each)
+    (subst (λ (v : ℕ). n * 4 ≤ v * student_count board.base) (sym there)
+    (subst (λ (s : ℕ). n * 4 ≤ n * s) (sym here) (let goal : n * 4 ≤ n * 4 = omega arith in goal)))
 
 -- a board of which nothing is drawn
 pub started : (board : RoundBoard) (crowd : Crowd) (versions : List (Vec Tokens Global)) (least : ℕ) (seats : List RoundSeat) (notes : List Note)
-    → board.base.crowd ≡ data_of crowd → board.base.versions ≡ prices_of versions → AreVersionsFor (data_of crowd) versions
+    → board.base.crowd ≡ data_of crowd → board.base.versions ≡ prices_of versions → board.base.list ≡ None → AreVersionsFor (data_of crowd) versions
     → least ≤ task_count board.base → length board.allotments ≡ length seats
     → ((n : ℕ) (d : RoundSeat) → n < length seats → (slice_index_or seats n d).number ≡ n)
     → All (λ (s : RoundSeat). IsFree board s) seats → All (λ (s : RoundSeat). (s.seen ≡ []) × (s.own ≡ [])) seats
     → notes ≡ replicate (length seats) (None, 0) → IsDriven board crowd versions least seats notes
-started board crowd versions least seats notes its_crowd its_versions prices tasks all numbers free fresh blank = record {
+started board crowd versions least seats notes its_crowd its_versions each_student prices tasks all numbers free fresh blank = record {
   its_crowd = its_crowd;
   its_versions = its_versions;
+  each_student = each_student;
   prices = prices;
   tasks = tasks;
   all = all;
@@ -93,6 +96,7 @@ pub driven_again : (board : RoundBoard) (crowd : Crowd) (versions : List (Vec To
 driven_again board crowd versions least seats notes n seat note is low now = record {
   its_crowd = is.its_crowd;
   its_versions = is.its_versions;
+  each_student = is.each_student;
   prices = is.prices;
   tasks = is.tasks;
   all = is.all ∙ sym (length-set seats n seat);
@@ -123,22 +127,22 @@ idle board n seat note is none = subst (λ (since : Option Draw). HoldsSince boa
 
 -- the worker after a draw
 pub worker_drew : (board : RoundBoard) (n : ℕ) (old new : RoundSeat) (note : Note) (drawn : Draw) → IsWorker board n old note
-    → HasDrawn round_rules board old (number_drawn board.base drawn) new → IsWorker board n new (Some drawn, note.1)
+    → HasDrawn round_rules board old (number_drawn drawn) new → IsWorker board n new (Some drawn, note.1)
 worker_drew board n old new note drawn was has = record {
   number = has.number ∙ was.number;
   is_seat = has.seat;
   holds = has.holds;
   posts =
-      ap posts has.own ∙ posts-append old.own (step_of old.number DrawCall (Drew (number_drawn board.base drawn)) ∷ [])
+      ap posts has.own ∙ posts-append old.own (step_of old.number DrawCall (Drew (number_drawn drawn)) ∷ [])
       ∙ (let p : ℕ = posts old.own in let h : p ≡ note.1 = was.posts in let goal : p + 0 ≡ note.1 = omega arith in goal);
 }
 
 -- the worker after it posted the task that it held, or held none
-pub worker_posted : (board : RoundBoard) (n : ℕ) (old new : RoundSeat) (note : Note) (task : Task) (bundle : Bundle) (said : Posted)
-    → IsWorker board n old note → (note.0 ≡ None) ⊎ (note.0 ≡ Some (Drawn task))
-    → HasPosted round_rules board old (number_of board.base task.version task.student.0) bundle said new → IsWorker board n new (None, note.1 + 1)
-worker_posted board n old new note task bundle said was since has =
-    let number : ℕ = number_of board.base task.version task.student.0 in
+pub worker_posted : (board : RoundBoard) (n : ℕ) (old new : RoundSeat) (note : Note) (drawn : Drawn) (bundle : Bundle) (said : Posted)
+    → IsWorker board n old note → (note.0 ≡ None) ⊎ (note.0 ≡ Some (Task drawn))
+    → HasPosted round_rules board old drawn.number bundle said new → IsWorker board n new (None, note.1 + 1)
+worker_posted board n old new note drawn bundle said was since has =
+    let number : ℕ = drawn.number in
     let none : dones new.own ≡ dones old.own =
     ap dones has.own ∙ dones-append old.own (step_of old.number (Post number bundle) (Answered said) ∷ [])
     ∙ (let p : ℕ = dones old.own in let goal : p + 0 ≡ p = omega arith in goal) in
@@ -156,6 +160,17 @@ worker_posted board n old new note task bundle said was since has =
       posts =
           ap posts has.own ∙ posts-append old.own (step_of old.number (Post number bundle) (Answered said) ∷ []) ∙ ap (λ (p : ℕ). p + 1) was.posts;
     }
+
+-- the number that a version and a student of the crowd give
+pub numbered_there : (board : RoundBoard) (crowd : Crowd) (versions : List (Vec Tokens Global)) (drawn : Drawn) → board.base.crowd ≡ data_of crowd
+    → board.base.versions ≡ prices_of versions → board.base.list ≡ None → drawn.task.version < length versions
+    → drawn.task.student.0 < length crowd.menus.items → drawn.task.raised ≡ None
+    → drawn.number ≡ drawn.task.version * length crowd.menus.items + drawn.task.student.0 → IsNumbered board.base drawn
+numbered_there board crowd versions drawn its_crowd its_versions each low within plain is =
+    let all = students_there board crowd its_crowd in
+    at_number board.base drawn each (subst (λ (n : ℕ). drawn.task.version < n) (sym (versions_there board versions its_versions)) low)
+    (subst (λ (n : ℕ). drawn.task.student.0 < n) (sym all) within) plain
+    (is ∙ ap (λ (n : ℕ). drawn.task.version * n + drawn.task.student.0) (sym all))
 
 -- a worker that was told that there is no task
 pub worker_ended : (board : RoundBoard) (n : ℕ) (seat : RoundSeat) (note : Note) → IsWorker board n seat note → note.0 ≡ Some Done → IsFinished board seat

@@ -17,7 +17,7 @@ use Rattle.task_board.specs.Turns.{HoldsDrawn}
 abbrev pub HoldsSince : RoundBoard → Option Draw → RoundSeat → Type 0
 HoldsSince board None seat = HoldsNothing board seat × (dones seat.own ≡ 0)
 HoldsSince board (Some drawn) seat =
-    HoldsDrawn round_rules board (number_drawn board.base drawn) seat
+    HoldsDrawn round_rules board (number_drawn drawn) seat
 
 -- the worker with this number, what it drew since it posted last, and how often it posted
 pub record IsWorker (board : RoundBoard) (n : ℕ) (seat : RoundSeat)
@@ -32,6 +32,7 @@ pub record IsWorker (board : RoundBoard) (n : ℕ) (seat : RoundSeat)
 pub record IsDriven (board : RoundBoard) (crowd : Crowd) (versions : List (Vec Tokens Global))
     (least : ℕ) (seats : List RoundSeat) (notes : List (Option Draw × ℕ)) : Type 0 where
   pub its_crowd : board.base.crowd ≡ data_of crowd
+  pub each_student : board.base.list ≡ None
   pub its_versions : board.base.versions ≡ prices_of versions
   pub prices : AreVersionsFor (data_of crowd) versions
   pub tasks : least ≤ task_count board.base

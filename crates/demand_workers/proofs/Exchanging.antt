@@ -13,11 +13,11 @@ use Rattle.demand_api.specs.Crowds.{CrowdData, counts, demand_of, demands}
 use Rattle.demand_api.proofs.Parts.{menus_few, students_length}
 use Rattle.demand_api.proofs.Takers.{counts_done, demand_within, demands_length}
 use Rattle.demand_workers.specs.declared.inquiry.Inquiries.{Inquiries}
-use Rattle.demand_workers.specs.declared.inquiry.Inquiry.{Inquiry}
+use Rattle.price_board.specs.declared.round.Task.{Task}
 use Rattle.demand_workers.specs.declared.remembered.Remembered.{Remembered}
-use Rattle.demand_workers.specs.Asked.{no_inquiry}
-use Rattle.demand_workers.specs.Found.{AreFound, terms_of}
-use Rattle.demand_workers.specs.Inquiring.{with_raised}
+use Rattle.price_board.specs.Tasks.{no_task}
+use Rattle.demand_workers.specs.Found.{AreFound, tasks_of}
+use Rattle.price_board.specs.Tasks.{with_raised}
 use Rattle.demand_workers.specs.Remembered.{AreTaken}
 use Rattle.demand_workers.specs.Rounds.{prices_of}
 use Rattle.demand_workers.specs.Surveyed.{AreSurveyed, IsPart}
@@ -60,7 +60,7 @@ counts_taken remembered prices bundles found all taken tally =
     (taken_demands remembered prices bundles all taken ∙ sym (take_all (length whole) whole past))
     tally.counted)
 
-module _ (crowd : CrowdData) (prices : List Tokens) (v n : ℕ) (inquiries : List Inquiry) where
+module _ (crowd : CrowdData) (prices : List Tokens) (v n : ℕ) (inquiries : List Task) where
   -- before the part of the version nobody is asked there
   pub written_begin : (bundles : List Bundle) (m : ℕ) (part : ℕ × ℕ) → AreOthersKept crowd bundles prices v inquiries → n ≡ length bundles
       → m ≡ length inquiries → IsPart inquiries m v part → AreWritten crowd prices v n part.0 inquiries bundles
@@ -69,7 +69,7 @@ module _ (crowd : CrowdData) (prices : List Tokens) (v n : ℕ) (inquiries : Lis
 
   -- what was found for the inquiry at this place is written
   pub written_more : (place student : ℕ) (bundles : List Bundle) (other : Bundle) → AreWritten crowd prices v n place inquiries bundles
-      → student < length bundles → (slice_index_or inquiries place no_inquiry).student.0 ≡ student → sections_of other ≡ demand_of crowd (price_in prices) student
+      → student < length bundles → (slice_index_or inquiries place no_task).student.0 ≡ student → sections_of other ≡ demand_of crowd (price_in prices) student
       → AreWritten crowd prices v n (place + 1) inquiries (slice_set bundles student other)
   written_more place student bundles other written inside at taken s low left d = elim (cases_eq s student) [
     | inl here ↦
@@ -79,7 +79,7 @@ module _ (crowd : CrowdData) (prices : List Tokens) (v n : ℕ) (inquiries : Lis
         ap sections_of (get_or-set_other bundles student s other d apart)
         ∙ written s low
         (λ k from within same. elim (cases_order k place) [
-          | inl here ↦ λ e. apart (sym e ∙ ap (λ j. (slice_index_or inquiries j no_inquiry).student.0) here ∙ at)
+          | inl here ↦ λ e. apart (sym e ∙ ap (λ j. (slice_index_or inquiries j no_task).student.0) here ∙ at)
           | inr (inl less) ↦ absurd (omega (arith, from, less))
           | inr (inr more) ↦ left k (let goal : place + 1 ≤ k = omega (arith, more) in goal) within same
         ]) d
@@ -97,35 +97,35 @@ module _ (crowd : CrowdData) (prices : List Tokens) (v n : ℕ) (inquiries : Lis
 
 -- the prices of a version
 abbrev pub prices_then : Inquiries → ℕ → List Tokens
-prices_then inquiries v = slice_index_or (prices_of inquiries.versions.items) v []
+prices_then inquiries v = slice_index_or (prices_of (arc_value inquiries.round).versions.items) v []
 
 -- what was found so far at the version is exchanged, and counted
 pub record IsExchanged (inquiries : Inquiries) (v place : ℕ) (bundles : List Bundle) (counted : List ℕ) : Type 0 where
   pub len : length bundles ≡ length (arc_value inquiries.remembered).bundles.items
-  pub written : AreWritten (crowd_of (arc_value inquiries.remembered)) (prices_then inquiries v) v (length bundles) place inquiries.list.items bundles
+  pub written : AreWritten (crowd_of (arc_value inquiries.remembered)) (prices_then inquiries v) v (length bundles) place (tasks_of inquiries) bundles
   pub tally : IsTally (crowd_of (arc_value inquiries.remembered)).sections bundles counted
 
 module _ (inquiries : Inquiries) (v : ℕ) (surveyed : AreSurveyed inquiries) where
   -- an asked student has a remembered bundle
-  pub asked_low : (place student : ℕ) → place < length inquiries.list.items → (slice_index_or inquiries.list.items place no_inquiry).student.0 ≡ student
+  pub asked_low : (place student : ℕ) → place < length (tasks_of inquiries) → (slice_index_or (tasks_of inquiries) place no_task).student.0 ≡ student
       → student < length (arc_value inquiries.remembered).bundles.items
   asked_low place student low is =
       let remembered : Remembered = arc_value inquiries.remembered in
       let many : length (crowd_of remembered).students ≡ length remembered.bundles.items =
       students_length (arc_value remembered.crowd) ∙ sym remembered.each in
-      subst (λ s. s < length remembered.bundles.items) is (rw (← many) (surveyed.asked place no_inquiry low).student)
+      subst (λ s. s < length remembered.bundles.items) is (rw (← many) (surveyed.asked place no_task low).student)
 
   -- what was found for who is asked at the version is what is taken there
-  pub found_then : (place student : ℕ) (found : List Bundle) (other : Bundle) → AreFound (terms_of inquiries) found → place < length inquiries.list.items
-      → (slice_index_or inquiries.list.items place no_inquiry).version ≡ v
-      → (slice_index_or inquiries.list.items place no_inquiry).student.0 ≡ student → other ≡ slice_index_or found place other
+  pub found_then : (place student : ℕ) (found : List Bundle) (other : Bundle) → AreFound inquiries found → place < length (tasks_of inquiries)
+      → (slice_index_or (tasks_of inquiries) place no_task).version ≡ v
+      → (slice_index_or (tasks_of inquiries) place no_task).student.0 ≡ student → other ≡ slice_index_or found place other
       → sections_of other ≡ demand_of (crowd_of (arc_value inquiries.remembered)) (price_in (prices_then inquiries v)) student
   found_then place student found other are low at is other_is =
       let crowd : CrowdData = crowd_of (arc_value inquiries.remembered) in
-      let inquiry : Inquiry = slice_index_or inquiries.list.items place no_inquiry in
-      let each : length found ≡ length inquiries.list.items = are.each in
+      let inquiry : Task = slice_index_or (tasks_of inquiries) place no_task in
+      let each : length found ≡ length (tasks_of inquiries) = are.each in
       ap sections_of other_is ∙ are.right place other (rw each low)
-      ∙ ap (λ r. demand_of crowd (price_in (with_raised r (prices_then inquiries inquiry.version))) inquiry.student.0) (surveyed.plain place no_inquiry low)
+      ∙ ap (λ r. demand_of crowd (price_in (with_raised r (prices_then inquiries inquiry.version))) inquiry.student.0) (surveyed.plain place no_task low)
       ∙ ap (λ w. demand_of crowd (price_in (prices_then inquiries w)) inquiry.student.0) at
       ∙ ap (demand_of crowd (price_in (prices_then inquiries v))) is
 
@@ -137,8 +137,8 @@ module _ (inquiries : Inquiries) (v : ℕ) (surveyed : AreSurveyed inquiries) wh
       demand_within (crowd_of (arc_value inquiries.remembered)) (price_in (prices_then inquiries v)) student s (ap (λ b. has b s) (sym taken) ∙ is)
 
   -- before the part of the version nothing has to be exchanged
-  pub exchange_begins : (bundles : List Bundle) (counted base : List ℕ) (part : ℕ × ℕ) → v < length inquiries.versions.items
-      → IsPart inquiries.list.items (length inquiries.list.items) v part → bundles ≡ (arc_value inquiries.remembered).bundles.items → counted ≡ base
+  pub exchange_begins : (bundles : List Bundle) (counted base : List ℕ) (part : ℕ × ℕ) → v < length (arc_value inquiries.round).versions.items
+      → IsPart (tasks_of inquiries) (length (tasks_of inquiries)) v part → bundles ≡ (arc_value inquiries.remembered).bundles.items → counted ≡ base
       → AreRememberedCounts (arc_value inquiries.remembered) base → IsExchanged inquiries v part.0 bundles counted
   exchange_begins bundles counted base part low stands copied same are =
       let remembered : Remembered = arc_value inquiries.remembered in
@@ -147,14 +147,14 @@ module _ (inquiries : Inquiries) (v : ℕ) (surveyed : AreSurveyed inquiries) wh
       (record {
         len = refl;
         written =
-            written_begin (crowd_of remembered) (prices_then inquiries v) v (length remembered.bundles.items) inquiries.list.items remembered.bundles.items
-            (length inquiries.list.items) part (surveyed.others v low) refl refl stands;
+            written_begin (crowd_of remembered) (prices_then inquiries v) v (length remembered.bundles.items) (tasks_of inquiries) remembered.bundles.items
+            (length (tasks_of inquiries)) part (surveyed.others v low) refl refl stands;
         tally = record { few = remembered_few remembered; within = remembered_within remembered; counted = are };
       }))
 
   -- one exchange more
   pub exchange_more : (place student n : ℕ) (bundles lent new : List Bundle) (counted after : List ℕ) (other : Bundle) → IsExchanged inquiries v place bundles counted
-      → lent ≡ bundles → student < length bundles → (slice_index_or inquiries.list.items place no_inquiry).student.0 ≡ student
+      → lent ≡ bundles → student < length bundles → (slice_index_or (tasks_of inquiries) place no_task).student.0 ≡ student
       → sections_of other ≡ demand_of (crowd_of (arc_value inquiries.remembered)) (price_in (prices_then inquiries v)) student
       → new ≡ slice_set lent student other → n ≡ (crowd_of (arc_value inquiries.remembered)).sections → IsTally n new after
       → IsExchanged inquiries v (place + 1) new after
@@ -164,20 +164,20 @@ module _ (inquiries : Inquiries) (v : ℕ) (surveyed : AreSurveyed inquiries) wh
         len = long ∙ was.len;
         written =
             subst (λ (b : List Bundle).
-            AreWritten (crowd_of (arc_value inquiries.remembered)) (prices_then inquiries v) v (length b) (place + 1) inquiries.list.items b)
+            AreWritten (crowd_of (arc_value inquiries.remembered)) (prices_then inquiries v) v (length b) (place + 1) (tasks_of inquiries) b)
             (sym (set ∙ ap (λ (b : List Bundle). slice_set b student other) back))
             (rw (length-set bundles student other)
-            (written_more (crowd_of (arc_value inquiries.remembered)) (prices_then inquiries v) v (length bundles) inquiries.list.items place student bundles
+            (written_more (crowd_of (arc_value inquiries.remembered)) (prices_then inquiries v) v (length bundles) (tasks_of inquiries) place student bundles
             other was.written inside is taken));
         tally = subst (λ k. IsTally k new after) all tally;
       }
 
   -- behind the part of the version the counts are those at its prices
   pub exchange_done : (place : ℕ) (bundles : List Bundle) (counted : List ℕ) (part : ℕ × ℕ) → IsExchanged inquiries v place bundles counted
-      → IsPart inquiries.list.items (length inquiries.list.items) v part → part.1 ≤ place
+      → IsPart (tasks_of inquiries) (length (tasks_of inquiries)) v part → part.1 ≤ place
       → counted ≡ counts (crowd_of (arc_value inquiries.remembered)) (price_in (prices_then inquiries v))
   exchange_done place bundles counted part was stands past =
       let remembered : Remembered = arc_value inquiries.remembered in
       counts_taken remembered (prices_then inquiries v) bundles counted (was.len ∙ remembered.each)
-      (written_all (crowd_of remembered) (prices_then inquiries v) v (length bundles) inquiries.list.items place bundles (length inquiries.list.items) part
+      (written_all (crowd_of remembered) (prices_then inquiries v) v (length bundles) (tasks_of inquiries) place bundles (length (tasks_of inquiries)) part
       was.written refl refl stands past) was.tally

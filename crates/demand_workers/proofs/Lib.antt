@@ -8,7 +8,6 @@ pub mod HoldersLeave
 pub mod Halved
 pub mod Recalling
 pub mod Rounds
-pub mod Working
 pub mod Noting
 pub mod Listing
 pub mod LeadingOthers

@@ -6,7 +6,7 @@ use Rattle.market_units.specs.declared.units.SectionNo.{SectionNo}
 use Rattle.market_units.specs.declared.limits.TheConstants.{MAX_PRICE}
 use Rattle.demand_api.specs.Crowds.{CrowdData, top}
 use Rattle.demand_workers.specs.Leaving.{AreLeft, leaves}
-use Rattle.demand_workers.specs.Inquiring.{IsInquiry}
+use Rattle.price_board.specs.Tasks.{IsTask}
 use Rattle.demand_workers.proofs.Surveying.{can_be_raised}
 
 -- a student of the crowd, listed by a price from which it does not keep what it holds, which is at most the top
@@ -30,7 +30,7 @@ first_listed crowd hs rest first popped all = All-permutation (IsListed crowd) h
 
 -- a listed holder can be asked at the price from which it does not keep what it holds
 pub listed_inquiry : (crowd : CrowdData) (section : SectionNo) (first : ℕ × ℕ) → section.0 < crowd.sections → IsListed crowd first
-    → IsInquiry crowd 1 (record { student = record { 0 = first.1 }; version = 0; raised = Some (section, record { 0 = leaves first }) })
+    → IsTask crowd 1 (record { student = record { 0 = first.1 }; version = 0; raised = Some (section, record { 0 = leaves first }) })
 listed_inquiry crowd section first within first_is = record {
   student = first_is.student;
   its_version = (let goal : 0 < 1 = omega arith in goal);

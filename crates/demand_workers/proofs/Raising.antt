@@ -11,7 +11,7 @@ use Rattle.bundle_rules.specs.Demand.{price_in}
 use Rattle.demand_api.specs.Crowds.{CrowdData, demand_of}
 use Rattle.demand_api.proofs.Halving.{is_raised}
 use Rattle.demand_api.proofs.Keeping.{none_falls}
-use Rattle.demand_workers.specs.declared.inquiry.Inquiry.{Inquiry}
+use Rattle.price_board.specs.declared.round.Task.{Task}
 use Rattle.demand_workers.specs.declared.remembered.Remembered.{Remembered}
 use Rattle.demand_workers.specs.Leaving.{AreLeft, listed}
 use Rattle.demand_workers.specs.Remembered.{IsKept}
@@ -34,7 +34,7 @@ abbrev pub IsPassed : ℕ → ℕ → List (ℕ × ℕ) → Type 0
 IsPassed place s hs = (k : ℕ) → place ≤ k → k < length hs → (slice_index_or hs k (0, 0)).1 ≢ s
 
 -- each student that is none of these, and is not asked, takes what stands for it
-abbrev pub AreRestKept : CrowdData → List Bundle → List Tokens → ℕ → List (ℕ × ℕ) → List Inquiry → Type 0
+abbrev pub AreRestKept : CrowdData → List Bundle → List Tokens → ℕ → List (ℕ × ℕ) → List Task → Type 0
 AreRestKept crowd bundles prices place hs inquiries =
     (s : ℕ) → s < length bundles → IsPassed place s hs → IsLeftOut 0 0 s inquiries → IsKept crowd prices bundles s
 
@@ -58,7 +58,7 @@ passed_before place s hs apart passed k from low = elim (cases_order k place) [
 
 -- at first: who does not hold the section takes what is remembered
 pub rest_begin : (remembered : Remembered) (raised : List Tokens) (s : ℕ) (least : Tokens) (hs : List (ℕ × ℕ)) (bundles : List Bundle)
-    (inquiries : List Inquiry) → s < (arc_value remembered.crowd).sections → price_before remembered s ≤ least.0
+    (inquiries : List Task) → s < (arc_value remembered.crowd).sections → price_before remembered s ≤ least.0
     → raised ≡ slice_set remembered.prices.items s least
     → AreLeft (crowd_of remembered) (price_before remembered) s (price_before remembered s) hs → bundles ≡ remembered.bundles.items
     → AreRestKept (crowd_of remembered) bundles raised 0 hs inquiries
@@ -85,7 +85,7 @@ rest_begin remembered raised s least hs bundles inquiries within up written left
 
 module _ (crowd : CrowdData) (prices : List Tokens) (place : ℕ) (hs : List (ℕ × ℕ)) where
   -- the next holder takes another bundle, which is written
-  pub rest_written : (bundles new : List Bundle) (inquiries : List Inquiry) (student : ℕ) (other : Bundle)
+  pub rest_written : (bundles new : List Bundle) (inquiries : List Task) (student : ℕ) (other : Bundle)
       → AreRestKept crowd bundles prices place hs inquiries → new ≡ slice_set bundles student other → student < length bundles
       → (slice_index_or hs place (0, 0)).1 ≡ student → sections_of other ≡ demand_of crowd (price_in prices) student
       → AreRestKept crowd new prices (place + 1) hs inquiries
@@ -103,7 +103,7 @@ module _ (crowd : CrowdData) (prices : List Tokens) (place : ℕ) (hs : List (�
       ]
 
   -- the next holder is asked
-  pub rest_asked : (bundles : List Bundle) (inquiries new : List Inquiry) (inquiry : Inquiry) → AreRestKept crowd bundles prices place hs inquiries
+  pub rest_asked : (bundles : List Bundle) (inquiries new : List Task) (inquiry : Task) → AreRestKept crowd bundles prices place hs inquiries
       → new ≡ inquiries ++ inquiry ∷ [] → (slice_index_or hs place (0, 0)).1 ≡ inquiry.student.0 → inquiry.version ≡ 0
       → AreRestKept crowd bundles prices (place + 1) hs new
   rest_asked bundles inquiries new inquiry kept more at is s within passed out =

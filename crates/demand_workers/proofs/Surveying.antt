@@ -9,9 +9,9 @@ use Rattle.market_units.specs.declared.units.Tokens.{Tokens}
 use Rattle.bundle_rules.specs.declared.bundle.Bundle.{Bundle}
 use Rattle.bundle_rules.specs.declared.menu.Rated.{Rated}
 use Rattle.demand_api.specs.Crowds.{CrowdData, top}
-use Rattle.demand_workers.specs.declared.inquiry.Inquiry.{Inquiry}
-use Rattle.demand_workers.specs.Asked.{no_inquiry}
-use Rattle.demand_workers.specs.Inquiring.{CanBeRaised, IsInquiry}
+use Rattle.price_board.specs.declared.round.Task.{Task}
+use Rattle.price_board.specs.Tasks.{no_task}
+use Rattle.price_board.specs.Tasks.{CanBeRaised, IsTask}
 use Rattle.demand_workers.specs.Remembered.{FellWithin, IsKept, NoneIsCheaper}
 use Rattle.demand_workers.specs.Surveys.{IsLeftOut, AreOthersKept, IsSurvey}
 
@@ -28,28 +28,28 @@ none_between places before after first past within empty listed priced i d low =
     ]
 
 -- who is left out of more inquiries is left out of the first of them
-pub left_out_before : (v s : ℕ) (first more : List Inquiry) → IsLeftOut 0 v s (first ++ more) → IsLeftOut 0 v s first
+pub left_out_before : (v s : ℕ) (first more : List Task) → IsLeftOut 0 v s (first ++ more) → IsLeftOut 0 v s first
 left_out_before v s first more left k from low same =
-    let there : slice_index_or (first ++ more) k no_inquiry ≡ slice_index_or first k no_inquiry = get_or_append_left first more no_inquiry k low in
+    let there : slice_index_or (first ++ more) k no_task ≡ slice_index_or first k no_task = get_or_append_left first more no_task k low in
     let longer : length (first ++ more) ≡ length first + length more = length-append first more in
-    subst (λ (q : Inquiry). q.student.0 ≢ s) there
-    (left k from (let goal : k < length (first ++ more) = omega (arith, low, longer) in goal) (subst (λ (q : Inquiry). q.version ≡ v) (sym there) same))
+    subst (λ (q : Task). q.student.0 ≢ s) there
+    (left k from (let goal : k < length (first ++ more) = omega (arith, low, longer) in goal) (subst (λ (q : Task). q.version ≡ v) (sym there) same))
 
 -- and of the later ones
-pub left_out_after : (v s : ℕ) (first more : List Inquiry) → IsLeftOut 0 v s (first ++ more) → IsLeftOut 0 v s more
+pub left_out_after : (v s : ℕ) (first more : List Task) → IsLeftOut 0 v s (first ++ more) → IsLeftOut 0 v s more
 left_out_after v s first more left k from low same =
-    let there : slice_index_or (first ++ more) (length first + k) no_inquiry ≡ slice_index_or more k no_inquiry = get_or-append-add first more k no_inquiry in
+    let there : slice_index_or (first ++ more) (length first + k) no_task ≡ slice_index_or more k no_task = get_or-append-add first more k no_task in
     let longer : length (first ++ more) ≡ length first + length more = length-append first more in
-    subst (λ (q : Inquiry). q.student.0 ≢ s) there
+    subst (λ (q : Task). q.student.0 ≢ s) there
     (left (length first + k) (let goal : 0 ≤ length first + k = omega arith in goal)
-    (let goal : length first + k < length (first ++ more) = omega (arith, low, longer) in goal) (subst (λ (q : Inquiry). q.version ≡ v) (sym there) same))
+    (let goal : length first + k < length (first ++ more) = omega (arith, low, longer) in goal) (subst (λ (q : Task). q.version ≡ v) (sym there) same))
 
 -- who of the first students is not asked at the version takes what is remembered
-abbrev pub AreFirstKept : CrowdData → List Bundle → List Tokens → ℕ → ℕ → List Inquiry → Type 0
+abbrev pub AreFirstKept : CrowdData → List Bundle → List Tokens → ℕ → ℕ → List Task → Type 0
 AreFirstKept crowd bundles prices v n inquiries = (s : ℕ) → s < n → IsLeftOut 0 v s inquiries → IsKept crowd prices bundles s
 
 -- one student more, who takes what is remembered
-pub first_kept : (crowd : CrowdData) (bundles : List Bundle) (prices : List Tokens) (v n : ℕ) (inquiries : List Inquiry)
+pub first_kept : (crowd : CrowdData) (bundles : List Bundle) (prices : List Tokens) (v n : ℕ) (inquiries : List Task)
     → AreFirstKept crowd bundles prices v n inquiries → IsKept crowd prices bundles n → AreFirstKept crowd bundles prices v (n + 1) inquiries
 first_kept crowd bundles prices v n inquiries kept is s low left = elim (cases_order s n) [
   | inl same ↦ subst (IsKept crowd prices bundles) (sym same) is
@@ -58,7 +58,7 @@ first_kept crowd bundles prices v n inquiries kept is s low left = elim (cases_o
 ]
 
 -- one student more, who is asked
-pub first_asked : (crowd : CrowdData) (bundles : List Bundle) (prices : List Tokens) (v n : ℕ) (inquiries new : List Inquiry) (inquiry : Inquiry)
+pub first_asked : (crowd : CrowdData) (bundles : List Bundle) (prices : List Tokens) (v n : ℕ) (inquiries new : List Task) (inquiry : Task)
     → AreFirstKept crowd bundles prices v n inquiries → new ≡ inquiries ++ inquiry ∷ [] → inquiry.student.0 ≡ n → inquiry.version ≡ v
     → AreFirstKept crowd bundles prices v (n + 1) new
 first_asked crowd bundles prices v n inquiries new inquiry kept more is at s low left =
@@ -84,17 +84,17 @@ settled_has_row rows s v holds = elim (cases_lt s (length rows)) [
 
 module _ (crowd : CrowdData) (bundles : List Bundle) (versions : List (List Tokens)) where
   -- one inquiry more
-  pub survey_asks : (n : ℕ) (inquiries new : List Inquiry) (inquiry : Inquiry) → IsSurvey crowd bundles versions n inquiries
-      → new ≡ inquiries ++ inquiry ∷ [] → IsInquiry crowd (length versions) inquiry → inquiry.raised ≡ None → IsSurvey crowd bundles versions n new
+  pub survey_asks : (n : ℕ) (inquiries new : List Task) (inquiry : Task) → IsSurvey crowd bundles versions n inquiries
+      → new ≡ inquiries ++ inquiry ∷ [] → IsTask crowd (length versions) inquiry → inquiry.raised ≡ None → IsSurvey crowd bundles versions n new
   survey_asks n inquiries new inquiry is more its plain = record {
-    asked = subst (All (IsInquiry crowd (length versions))) (sym more) (All-push (IsInquiry crowd (length versions)) inquiries inquiry is.asked its);
-    plain = subst (All (λ (q : Inquiry). q.raised ≡ None)) (sym more) (All-push (λ (q : Inquiry). q.raised ≡ None) inquiries inquiry is.plain plain);
+    asked = subst (All (IsTask crowd (length versions))) (sym more) (All-push (IsTask crowd (length versions)) inquiries inquiry is.asked its);
+    plain = subst (All (λ (q : Task). q.raised ≡ None)) (sym more) (All-push (λ (q : Task). q.raised ≡ None) inquiries inquiry is.plain plain);
     others = λ v low. subst (AreOthersKept crowd bundles (slice_index_or versions v []) v) (sym more)
         (λ s inside left. is.others v low s inside (left_out_before v s inquiries (inquiry ∷ []) left));
   }
 
   -- one version more
-  pub survey_more : (n students : ℕ) (inquiries : List Inquiry) → IsSurvey crowd bundles versions n inquiries
+  pub survey_more : (n students : ℕ) (inquiries : List Task) → IsSurvey crowd bundles versions n inquiries
       → AreFirstKept crowd bundles (slice_index_or versions n []) n students inquiries → length bundles ≤ students
       → IsSurvey crowd bundles versions (n + 1) inquiries
   survey_more n students inquiries is here all = record {
@@ -110,7 +110,7 @@ module _ (crowd : CrowdData) (bundles : List Bundle) (versions : List (List Toke
   }
 
 -- who is not asked at the version from this place on takes the bundle that stands for it
-abbrev pub AreWritten : CrowdData → List Tokens → ℕ → ℕ → ℕ → List Inquiry → List Bundle → Type 0
+abbrev pub AreWritten : CrowdData → List Tokens → ℕ → ℕ → ℕ → List Task → List Bundle → Type 0
 AreWritten crowd prices v n place inquiries bundles = (s : ℕ) → s < n → IsLeftOut place v s inquiries → IsKept crowd prices bundles s
 
 -- ---- inquiries with a told price

@@ -1,9 +1,8 @@
 pub mod Allowances
 pub mod Answering
-pub mod Asked
 pub mod Foreseen
 pub mod Found
-pub mod Inquiring
+pub mod Inquiries
 pub mod Leaving
 pub mod Notes
 pub mod Remembered

@@ -6,9 +6,9 @@ use Rattle.market_units.specs.declared.units.Tokens.{Tokens}
 use Rattle.bundle_rules.specs.declared.bundle.Bundle.{Bundle}
 use Rattle.demand_api.specs.Crowds.{CrowdData}
 use Rattle.demand_workers.specs.declared.cheaper.Cheaper.{Cheaper}
-use Rattle.demand_workers.specs.declared.inquiry.Inquiry.{Inquiry}
-use Rattle.demand_workers.specs.Asked.{no_inquiry}
-use Rattle.demand_workers.specs.Inquiring.{IsInquiry}
+use Rattle.price_board.specs.declared.round.Task.{Task}
+use Rattle.price_board.specs.Tasks.{no_task}
+use Rattle.price_board.specs.Tasks.{IsTask}
 use Rattle.demand_workers.specs.Remembered.{FellWithin, IsKept}
 
 -- each says, of the version of its place, where the sections stand that became cheaper
@@ -33,14 +33,14 @@ AreSettledRows crowd bundles versions rows =
     → IsSettledRow crowd bundles versions student (slice_index_or rows student d)
 
 -- from this place on the student is not asked at the version
-abbrev pub IsLeftOut : ℕ → ℕ → ℕ → List Inquiry → Type 0
+abbrev pub IsLeftOut : ℕ → ℕ → ℕ → List Task → Type 0
 IsLeftOut from version student inquiries =
     (k : ℕ) → from ≤ k → k < length inquiries
-    → (slice_index_or inquiries k no_inquiry).version ≡ version
-    → (slice_index_or inquiries k no_inquiry).student.0 ≢ student
+    → (slice_index_or inquiries k no_task).version ≡ version
+    → (slice_index_or inquiries k no_task).student.0 ≢ student
 
 -- who is not asked at the version, which has these prices, takes what is remembered
-abbrev pub AreOthersKept : CrowdData → List Bundle → List Tokens → ℕ → List Inquiry → Type 0
+abbrev pub AreOthersKept : CrowdData → List Bundle → List Tokens → ℕ → List Task → Type 0
 AreOthersKept crowd bundles prices version inquiries =
     (student : ℕ) → student < length bundles → IsLeftOut 0 version student inquiries
     → IsKept crowd prices bundles student
@@ -48,8 +48,8 @@ AreOthersKept crowd bundles prices version inquiries =
 -- inquiries at versions as they are; who is not asked at one of the first so many versions takes
 -- there what is remembered
 pub record IsSurvey (crowd : CrowdData) (bundles : List Bundle) (versions : List (List Tokens))
-    (n : ℕ) (inquiries : List Inquiry) : Type 0 where
-  pub asked : All (IsInquiry crowd (length versions)) inquiries
+    (n : ℕ) (inquiries : List Task) : Type 0 where
+  pub asked : All (IsTask crowd (length versions)) inquiries
   pub plain : All (λ inquiry. inquiry.raised ≡ None) inquiries
   pub others : (v : ℕ) → v < n
       → AreOthersKept crowd bundles (slice_index_or versions v []) v inquiries

@@ -1,5 +1,5 @@
 // What is read from the answers of a board.
-ghost use Rattle.std.specs.Prelude.{◌≡◌, ◌<◌, [], length, slice_index_or};
+ghost use Rattle.std.specs.Prelude.{◌≡◌, ◌<◌, [], None, length, slice_index_or};
 ghost use Rattle.demand_api.specs.Crowds.{IsCrowd};
 ghost use Rattle.demand_workers.specs.Remembered.{AreTaken};
 ghost use Rattle.price_board.specs.Settling.{ask_of};
@@ -11,6 +11,7 @@ use price_board::{Answers, Ask};
 
 /// Writes what each student takes at a version of which all bundles were asked.
 pub(crate) fn read_all(answers: &Answers, version: u8, bundles: &mut [Bundle])
+    requires each { answers.now.terms.list ≡ None }
     requires crowd { IsCrowd answers.now.terms.crowd }
     requires version { version < version_count answers.now.terms }
     requires counts { ask_of answers.now.terms.asks version ≡ Ask.Counts }

@@ -1,20 +1,22 @@
 // Rounds of workers, whose students are counted. The functions that start a round are private here:
 // other code asks by those below, and each of them counts.
-ghost use Rattle.std.specs.Prelude.{◌≡◌, ◌<◌, ◌↔◌, [], ◌∷◌, IfOk, IsTrue, length};
+ghost use Rattle.std.specs.Prelude.{◌≡◌, ◌<◌, ◌↔◌, [], ◌∷◌, IfOk, IsTrue, None, length};
 ghost use Rattle.std.specs.Arc.{arc_value};
 ghost use Rattle.bundle_rules.specs.Demand.{price_in};
 ghost use Rattle.demand_api.specs.Asking.{ArePricesFor, RoseAtMost, RoseBy};
 ghost use Rattle.demand_api.specs.{Crowds.count, Views.data_of};
 ghost use Rattle.price_board.specs.{Openings.IsAskOf, declared.terms.Terms.Terms};
+ghost use Rattle.demand_workers.specs.Found.{tasks_of};
 
-mod asking;
+mod listing;
 mod round;
 
 use crate::PooledDemands;
 use crate::found::Found;
 use crate::inquiry::Inquiries;
+use crate::remembered::Remembered;
 use crate::worker::Lent;
-use asking::ask;
+use listing::ask;
 use market_edge::AnyGate;
 use market_units::{NoMemory, SectionNo, SectionSet, Tokens};
 use price_board::{Answers, Ask, Board, Round};
@@ -47,22 +49,41 @@ impl PooledDemands<AnyGate<'_>> {
               crowd = data_of (arc_value self.old.crowd);
               versions = prices.now ∷ [];
               asks = ask ∷ [];
+              list = None;
             }) }
     {
         let version = prices.to_vec(alloc)?;
         let mut versions = Vec::with_capacity(alloc, 1)?;
         versions.push(version)?;
         let asks = vec![in alloc; ask; 1]?;
-        let round = Round { versions, asks };
+        let round = Round {
+            versions,
+            asks,
+            list: None,
+        };
+        let round = Arc::new(alloc, round)?;
         let crowd = Arc::try_clone(&self.crowd)?;
-        let (board, seats) = Board::start(alloc, crowd, round, self.pool.workers)?;
+        let shared = Arc::try_clone(&round)?;
+        let (board, seats) = Board::start(alloc, crowd, shared, self.pool.workers)?;
+        let remembered: Option<&Remembered> = match &self.remembered {
+            Some(remembered) => Some(remembered),
+            None => None,
+        };
         let lent = Lent {
             crowd: &self.crowd,
-            prices,
+            round: &round,
             allowed: &SectionSet::full(self.crowd.sections),
-            remembered: &self.remembered,
+            remembered,
+            kept: 1,
         };
-        let answers = work_and_close(rt, board, seats, self.pool.workspaces(), &lent, self.gate);
+        let (answers, _) = work_and_close(
+            rt,
+            board,
+            seats,
+            self.pool.workspaces(),
+            &lent,
+            self.gate,
+        );
         let students = self.crowd.menus.len();
         self.inquiries = self.inquiries.saturating_add(students as u64);
         Ok(answers)
@@ -76,12 +97,12 @@ impl PooledDemands<AnyGate<'_>> {
         inquiries: Inquiries,
     ) -> Result<Found, NoMemory>
         ensures kept { (self.new.crowd ≡ self.old.crowd) × (self.new.asked ≡ self.old.asked) }
-        ensures inquiries { RoseAtMost (length inquiries.list.items) self.old.inquiries
+        ensures inquiries { RoseAtMost (length (tasks_of inquiries)) self.old.inquiries
             self.new.inquiries }
         ensures counted { IfOk result
-            (λ found. RoseBy (length inquiries.list.items) self.old.inquiries
+            (λ found. RoseBy (length (tasks_of inquiries)) self.old.inquiries
             self.new.inquiries) }
-        ensures found { IfOk result (λ found. arc_value found.inquiries ≡ inquiries) }
+        ensures found { IfOk result (λ found. found.inquiries ≡ inquiries) }
     {
         let found = ask(rt, alloc, &self.pool, self.gate, inquiries)?;
         self.inquiries = self.inquiries.saturating_add(found.bundles.len() as u64);

@@ -18,10 +18,10 @@ impl Foreseen {
     /// Whether the versions that come next are these.
     pub(crate) fn goes_on_with(&self, batch: &[Vec<Tokens>]) -> bool
         ensures { IsTrue result
-            ↔ AreNext (prices_of (arc_value self.now.survey.found.inquiries).versions.items)
+            ↔ AreNext (prices_of (arc_value self.now.survey.found.inquiries.round).versions.items)
             self.now.done (prices_of batch.now) }
     {
-        let versions: &[Vec<Tokens>] = &self.survey.found.inquiries.versions;
+        let versions: &[Vec<Tokens>] = self.survey.found.inquiries.versions();
         if self.done > versions.len() || versions.len() - self.done < batch.len() {
             return false;
         }

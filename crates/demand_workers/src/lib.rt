@@ -8,7 +8,6 @@
 
 mod allowance;
 mod answering;
-mod asker;
 mod beside;
 mod cheaper;
 mod counted;
@@ -25,8 +24,6 @@ mod remembered;
 mod settled;
 mod survey;
 mod taking;
-mod tasks;
-mod terms;
 mod trial;
 mod unsettled;
 mod walks;

@@ -4,16 +4,16 @@ ghost use Rattle.std.specs.Arc.{arc_value};
 ghost use Rattle.bundle_rules.specs.{Bundles.sections_of, Demand.price_in};
 ghost use Rattle.demand_workers.specs.Answering.{answer_to};
 ghost use Rattle.demand_workers.specs.Notes.{AreNoted, IsNoted, price_among};
-ghost use Rattle.demand_workers.specs.Inquiring.{IsInquiry, taken_at};
+ghost use Rattle.price_board.specs.Tasks.{IsTask, taken_at};
 ghost use Rattle.demand_workers.specs.Views.{crowd_of};
 
-use crate::inquiry::Inquiry;
 use crate::note::Note;
 use crate::question::Question;
 use crate::remembered::Remembered;
 use crate::trial::{ROOM, raised_question};
 use bundle_rules::{Bundle, Rated};
 use market_units::{NoMemory, Tokens};
+use price_board::Task;
 use std::alloc::Global;
 use std::sync::Arc;
 
@@ -82,8 +82,8 @@ impl Notes {
 
     /// What is noted of the student of an inquiry, where it surely takes that at its prices: the
     /// remembered ones, with a raised one.
-    pub(crate) fn told_at(&self, inquiry: Inquiry) -> Option<Bundle>
-        requires { IsInquiry (crowd_of (arc_value self.now.remembered)) 1 inquiry }
+    pub(crate) fn told_at(&self, inquiry: Task) -> Option<Bundle>
+        requires { IsTask (crowd_of (arc_value self.now.remembered)) 1 inquiry }
         ensures { IfSome result
             (λ bundle. sections_of bundle
             ≡ taken_at (crowd_of (arc_value self.now.remembered))

@@ -39,12 +39,12 @@ const MOST_AHEAD: usize = 2 * MAX_VERSIONS * MAX_STUDENTS as usize;
 
 /// A crowd that is asked by the workers of a pool, each with a workspace of its own. What each
 /// student takes at some prices is remembered. Whom that does not settle at the versions of a call,
-/// or at all that several workers are told of before, is asked in one round: an inquiry for each
-/// student and version, which workers draw from a board, each in a thread of its own where one can
-/// be started, or the first worker alone, in the caller's thread, where the inquiries are few.
-/// Where nothing is remembered, and in `exceeds`, each student is a task of a price board. Workers
-/// pass the gate before their first draw and after each post. On a walk to a least price the holder
-/// who leaves next is asked, alone. What is found is noted, and serves wherever no section of the
+/// or at all that several workers are told of before, is asked in one round: a list of students,
+/// each at a version, which workers draw from a price board, each in a thread of its own where one
+/// can be started, or the first worker alone, in the caller's thread, where the list is short. Where
+/// nothing is remembered, and in `exceeds`, each student is a task of such a board. Workers pass the
+/// gate before their first draw and after each post. On a walk to a least price the holder who
+/// leaves next is asked, alone. What is found is noted, and serves wherever no section of the
 /// student's menu costs less and a noted bundle is affordable. Where a call asked as many as it may,
 /// the rest of a walk is found by halving. The one form of this type is `PooledDemands<AnyGate>`,
 /// which `make` gives.
@@ -54,15 +54,14 @@ pub struct PooledDemands<G> {
     pub(crate) pool: Pool,
     pub(crate) gate: G,
     asked: u64,
-    // At least how many students were asked: each inquiry of a round, and each student of a price
-    // board.
+    // At least how many students were asked: each task of a round.
     pub(crate) inquiries: u64,
     pub(crate) remembered: Option<Arc<Remembered>>,
     notes: Option<Notes>,
     // The last survey that counts were asked of, or will be where they were foreseen.
     foreseen: Option<Foreseen>,
     ghost same: { IfSome remembered (λ memory. crowd_of (arc_value memory) ≡ data_of (arc_value crowd)) } by { Prim.hlevel (props, codes, rated.the_row.coded) },
-    ghost surveyed: { IfSome foreseen (λ foreseen. crowd_of (arc_value (arc_value foreseen.survey.found.inquiries).remembered) ≡ data_of (arc_value crowd)) } by { Prim.hlevel (props, codes, rated.the_row.coded) },
+    ghost surveyed: { IfSome foreseen (λ foreseen. crowd_of (arc_value foreseen.survey.found.inquiries.remembered) ≡ data_of (arc_value crowd)) } by { Prim.hlevel (props, codes, rated.the_row.coded) },
     ghost noted: { IfSome notes (λ noted. crowd_of (arc_value noted.remembered) ≡ data_of (arc_value crowd)) } by { Prim.hlevel (props, codes, rated.the_row.coded) },
 }
 
@@ -182,10 +181,10 @@ impl<'g> PooledDemands<AnyGate<'g>> {
             (length versions.now * length (crowd_of (arc_value remembered.now)).students)
             self.old.inquiries self.new.inquiries }
         ensures remembered { IfOk result
-            (λ survey. arc_value (arc_value survey.found.inquiries).remembered
+            (λ survey. arc_value survey.found.inquiries.remembered
             ≡ arc_value remembered.now) }
         ensures versions { IfOk result
-            (λ survey. prices_of (arc_value survey.found.inquiries).versions.items
+            (λ survey. prices_of (arc_value survey.found.inquiries.round).versions.items
             ≡ prices_of versions.now) }
     {
         let inquiries = inquiries_at(rt, alloc, self.pool.workers, remembered, versions)?;
@@ -210,11 +209,11 @@ impl<'g> PooledDemands<AnyGate<'g>> {
             self.old.inquiries self.new.inquiries }
         ensures crowd { IfOk result
             (λ foreseen. crowd_of
-            (arc_value (arc_value foreseen.survey.found.inquiries).remembered)
+            (arc_value foreseen.survey.found.inquiries.remembered)
             ≡ data_of (arc_value self.old.crowd)) }
         ensures next { IfOk result
             (λ foreseen. AreNext
-            (prices_of (arc_value foreseen.survey.found.inquiries).versions.items)
+            (prices_of (arc_value foreseen.survey.found.inquiries.round).versions.items)
             foreseen.done (prices_of batch.now)) }
     {
         if let Some(foreseen) = self.foreseen.take() {
@@ -333,7 +332,7 @@ impl Demands for PooledDemands<AnyGate<'_>> {
         }
         let remembered = self.recall_first(rt, alloc, &vectors[0])?;
         let inquiries = inquiries_at(rt, alloc, self.pool.workers, &remembered, vectors)?;
-        if inquiries.list.len() <= MOST_AHEAD {
+        if inquiries.list().len() <= MOST_AHEAD {
             let found = self.inquire(rt, alloc, inquiries)?;
             let survey = Survey::of(alloc, found)?;
             self.foreseen = Some(Foreseen { survey, done: 0 });

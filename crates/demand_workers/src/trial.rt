@@ -1,13 +1,13 @@
 // Prices of which one is tried.
 ghost use Rattle.std.specs.Prelude.{◌≡◌, ◌<◌, ◌≤◌, ◌↔◌, [], ◌∷◌, IfSome, None, length, slice_set};
 ghost use Rattle.demand_workers.specs.Answering.{answer_to};
-ghost use Rattle.demand_workers.specs.Inquiring.{IsInquiry, taken_at};
+ghost use Rattle.price_board.specs.Tasks.{IsTask, taken_at};
 ghost use Rattle.demand_workers.specs.Views.{crowd_of};
 
-use crate::inquiry::Inquiry;
 use crate::question::Question;
 use crate::remembered::Remembered;
 use market_units::{MAX_SECTIONS, SectionNo, Tokens};
+use price_board::Task;
 
 /// Room for a price of each section that a market may have.
 pub(crate) const ROOM: usize = MAX_SECTIONS as usize;
@@ -33,9 +33,9 @@ pub(crate) fn raised_prices<'r>(
 pub(crate) fn raised_question<'r>(
     room: &'r mut [Tokens; ROOM],
     remembered: &'r Remembered,
-    inquiry: Inquiry,
+    inquiry: Task,
 ) -> Option<Question<'r>>
-    requires { IsInquiry (crowd_of remembered.now) 1 inquiry }
+    requires { IsTask (crowd_of remembered.now) 1 inquiry }
     ensures remembered { IfSome result (λ question. question.remembered.now ≡ remembered.now) }
     ensures student { IfSome result (λ question. question.student ≡ inquiry.student) }
     ensures none { (result ≡ None) ↔ (inquiry.raised ≡ None) }

@@ -4,20 +4,23 @@ ghost use Rattle.std.specs.Prelude.{max, slice_index_or};
 ghost use Rattle.std.specs.Arc.{arc_value};
 ghost use Rattle.bundle_rules.specs.{Bundles.sections_of, Demand.price_in};
 ghost use Rattle.demand_api.specs.{Crowds.demand_of, Views.data_of};
-ghost use Rattle.demand_workers.specs.{Asked.no_inquiry, Remembered.AreTaken};
+ghost use Rattle.demand_workers.specs.{Remembered.AreTaken};
+ghost use Rattle.price_board.specs.Tasks.{no_task};
 ghost use Rattle.demand_workers.specs.Rounds.{AreVersionsFor, prices_of};
 ghost use Rattle.demand_workers.specs.Surveyed.{AreSurveyed};
 ghost use Rattle.demand_workers.specs.Surveys.{AreEachWithin, AreOthersKept, AreSettledRows};
 ghost use Rattle.demand_workers.specs.Surveys.{IsSettledRow, IsSurvey};
 ghost use Rattle.demand_workers.specs.Views.{crowd_of};
+ghost use Rattle.demand_workers.specs.Found.{tasks_of};
 
 use crate::cheaper::Cheaper;
-use crate::inquiry::{Inquiries, Inquiry, copies_of};
+use crate::inquiry::{Inquiries, copies_of};
 use crate::question::Question;
 use crate::remembered::Remembered;
 use bundle_rules::Bundle;
 use demand_api::Crowd;
 use market_units::{MAX_SECTIONS, MAX_STEPS, NoMemory, StudentNo, Tokens};
+use price_board::Task;
 use std::alloc::Global;
 use std::sync::Arc;
 use std::thread::Threads;
@@ -40,21 +43,17 @@ pub(crate) fn inquiries_at<R: Threads + Sync>(
 ) -> Result<Inquiries, NoMemory>
     requires { AreVersionsFor (crowd_of (arc_value remembered.now)) versions.now }
     ensures few { IfOk result
-        (λ inquiries. length inquiries.list.items
+        (λ inquiries. length (tasks_of inquiries)
         ≤ length versions.now * length (crowd_of (arc_value remembered.now)).students) }
     ensures remembered { IfOk result
         (λ inquiries. arc_value inquiries.remembered ≡ arc_value remembered.now) }
     ensures versions { IfOk result
-        (λ inquiries. prices_of inquiries.versions.items ≡ prices_of versions.now) }
+        (λ inquiries. prices_of (arc_value inquiries.round).versions.items ≡ prices_of versions.now) }
     ensures surveyed { IfOk result AreSurveyed }
 {
     let list = unsettled(rt, alloc, workers, remembered, versions)?;
-    Ok(Inquiries {
-        remembered: Arc::try_clone(remembered)?,
-        versions: copies_of(alloc, versions)?,
-        list,
-        kept: 1,
-    })
+    let inquiries = Inquiries::of(alloc, remembered, copies_of(alloc, versions)?, list, 1)?;
+    Ok(inquiries)
 }
 
 // An inquiry for each student at each of these versions at which what is remembered does not settle
@@ -65,7 +64,7 @@ fn unsettled<R: Threads + Sync>(
     workers: u16,
     remembered: &Remembered,
     versions: &[Vec<Tokens>],
-) -> Result<Vec<Inquiry>, NoMemory>
+) -> Result<Vec<Task>, NoMemory>
     requires { AreVersionsFor (crowd_of remembered.now) versions.now }
     ensures few { IfOk result
         (λ inquiries. length inquiries.items
@@ -208,7 +207,7 @@ fn add_unsettled(
     _versions: &[Vec<Tokens>],
     version: usize,
     rows: &[[bool; ROW]],
-    inquiries: &mut Vec<Inquiry>,
+    inquiries: &mut Vec<Task>,
 ) -> Result<(), NoMemory>
     requires version { version < length _versions.now }
     requires rows { AreSettledRows (crowd_of remembered.now) remembered.now.bundles.items
@@ -227,7 +226,7 @@ fn add_unsettled(
             continue;
         }
         let student = StudentNo(place as u16);
-        inquiries.push(Inquiry {
+        inquiries.push(Task {
             student,
             version,
             raised: None,
@@ -253,7 +252,7 @@ fn is_settled(rows: &[[bool; ROW]], version: usize, student: usize) -> bool
 pub(crate) fn write_found(
     _crowd: &Crowd,
     _prices: &[Tokens],
-    inquiries: &[Inquiry],
+    inquiries: &[Task],
     found: &[Bundle],
     version: usize,
     bundles: &mut [Bundle],
@@ -261,10 +260,10 @@ pub(crate) fn write_found(
     requires each { length found.now ≡ length inquiries.now }
     requires students { All (λ inquiry. inquiry.student.0 < length bundles.old) inquiries.now }
     requires found { (k : ℕ) (d : Bundle) → k < length found.now
-        → (slice_index_or inquiries.now k no_inquiry).version ≡ version
+        → (slice_index_or inquiries.now k no_task).version ≡ version
         → sections_of (slice_index_or found.now k d)
         ≡ demand_of (data_of _crowd.now) (price_in _prices.now)
-        (slice_index_or inquiries.now k no_inquiry).student.0 }
+        (slice_index_or inquiries.now k no_task).student.0 }
     requires others { AreOthersKept (data_of _crowd.now) bundles.old _prices.now version
         inquiries.now }
     ensures len { length bundles.new ≡ length bundles.old }

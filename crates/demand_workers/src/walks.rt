@@ -6,14 +6,14 @@ ghost use Rattle.bundle_rules.specs.Bundles.{sections_of};
 ghost use Rattle.demand_api.specs.{Asking.RoseAtMost, Crowds.count, Crowds.top, Views.data_of};
 ghost use Rattle.demand_api.specs.Prices.{AreLeastPrices, IsLeastFrom, with_price};
 ghost use Rattle.demand_workers.specs.Allowances.{HasSpent};
-ghost use Rattle.demand_workers.specs.Inquiring.{IsInquiry, taken_at};
+ghost use Rattle.price_board.specs.Tasks.{IsTask, taken_at};
 ghost use Rattle.demand_workers.specs.Leaving.{AreLeft};
 ghost use Rattle.demand_workers.specs.{Remembered.AreTaken, Rounds.prices_of};
-ghost use Rattle.demand_workers.specs.Surveys.{AreOthersKept};
+ghost use Rattle.demand_workers.specs.{Surveys.AreOthersKept, Found.tasks_of};
 ghost use Rattle.demand_workers.specs.Views.{crowd_of, price_before};
 
 use crate::PooledDemands;
-use crate::inquiry::{Inquiries, Inquiry};
+use crate::inquiry::Inquiries;
 use crate::leaving::{Holder, WalkEnd, holder_of, holders_by_section};
 use crate::notes::Notes;
 use crate::question::Question;
@@ -24,6 +24,7 @@ use crate::unsettled::write_found;
 use bundle_rules::Bundle;
 use market_edge::AnyGate;
 use market_units::{MAX_PRICE, NoMemory, SectionNo, StudentNo, Tokens};
+use price_board::Task;
 use std::alloc::Global;
 use std::collections::BinaryHeap;
 use std::sync::{Arc, Wait};
@@ -33,27 +34,23 @@ use std::thread::Threads;
 fn at_remembered(
     alloc: Global,
     remembered: &Arc<Remembered>,
-    list: Vec<Inquiry>,
+    list: Vec<Task>,
     kept: usize,
 ) -> Result<Inquiries, NoMemory>
     requires some { (1 ≤ kept) × (kept ≤ 8) }
-    requires inquiries { All (IsInquiry (crowd_of (arc_value remembered.now)) 1) list.items }
+    requires inquiries { All (IsTask (crowd_of (arc_value remembered.now)) 1) list.items }
     ensures remembered { IfOk result
         (λ inquiries. arc_value inquiries.remembered ≡ arc_value remembered.now) }
     ensures versions { IfOk result
-        (λ inquiries. prices_of inquiries.versions.items
+        (λ inquiries. prices_of (arc_value inquiries.round).versions.items
         ≡ (arc_value remembered.now).prices.items ∷ []) }
-    ensures list { IfOk result (λ inquiries. inquiries.list.items ≡ list.items) }
+    ensures list { IfOk result (λ inquiries. (tasks_of inquiries) ≡ list.items) }
 {
     let prices = remembered.prices.as_slice().to_vec(alloc)?;
     let mut versions = Vec::with_capacity(alloc, 1)?;
     versions.push(prices)?;
-    Ok(Inquiries {
-        remembered: Arc::try_clone(remembered)?,
-        versions,
-        list,
-        kept,
-    })
+    let inquiries = Inquiries::of(alloc, remembered, versions, list, kept)?;
+    Ok(inquiries)
 }
 
 impl PooledDemands<AnyGate<'_>> {
@@ -147,7 +144,7 @@ impl PooledDemands<AnyGate<'_>> {
             };
             least = Tokens(MAX_PRICE - first.0);
             let student = StudentNo(first.1);
-            let inquiry = Inquiry {
+            let inquiry = Task {
                 student,
                 version: 0,
                 raised: Some((section, least)),
@@ -232,10 +229,10 @@ impl PooledDemands<AnyGate<'_>> {
         rt: &R,
         alloc: Global,
         notes: &mut Notes,
-        inquiry: Inquiry,
+        inquiry: Task,
         left: &mut u64,
     ) -> Result<Option<Bundle>, NoMemory>
-        requires inquiry { IsInquiry (crowd_of (arc_value notes.old.remembered)) 1 inquiry }
+        requires inquiry { IsTask (crowd_of (arc_value notes.old.remembered)) 1 inquiry }
         ensures kept { (self.new.crowd ≡ self.old.crowd) × (self.new.asked ≡ self.old.asked) }
         ensures inquiries { HasSpent 0 left.old left.new self.old.inquiries self.new.inquiries }
         ensures same { IfOk result (λ told. notes.new.remembered ≡ notes.old.remembered) }
@@ -262,9 +259,9 @@ impl PooledDemands<AnyGate<'_>> {
         rt: &R,
         alloc: Global,
         notes: &mut Notes,
-        inquiry: Inquiry,
+        inquiry: Task,
     ) -> Result<Bundle, NoMemory>
-        requires { IsInquiry (crowd_of (arc_value notes.old.remembered)) 1 inquiry }
+        requires { IsTask (crowd_of (arc_value notes.old.remembered)) 1 inquiry }
         ensures kept { (self.new.crowd ≡ self.old.crowd) × (self.new.asked ≡ self.old.asked) }
         ensures inquiries { RoseAtMost 1 self.old.inquiries self.new.inquiries }
         ensures same { IfOk result (λ bundle. notes.new.remembered ≡ notes.old.remembered) }
@@ -313,7 +310,7 @@ impl PooledDemands<AnyGate<'_>> {
         for place in 0..holders.len() {
             let student = StudentNo(holders[place].1);
             let Some(bundle) = settled(notes, walk, &prices, student) else {
-                list.push(Inquiry {
+                list.push(Task {
                     student,
                     version: 0,
                     raised: Some((walk.section, walk.least)),
@@ -339,7 +336,7 @@ impl PooledDemands<AnyGate<'_>> {
         alloc: Global,
         walk: &WalkEnd,
         prices: &[Tokens],
-        list: Vec<Inquiry>,
+        list: Vec<Task>,
         bundles: &mut [Bundle],
     ) -> Result<(), NoMemory>
         requires prices { prices.now
@@ -347,7 +344,7 @@ impl PooledDemands<AnyGate<'_>> {
             walk.now.least }
         requires each { length bundles.old
             ≡ length (crowd_of (arc_value walk.now.remembered)).students }
-        requires asked { All (IsInquiry (crowd_of (arc_value walk.now.remembered)) 1) list.items }
+        requires asked { All (IsTask (crowd_of (arc_value walk.now.remembered)) 1) list.items }
         requires raised { All
             (λ inquiry. inquiry.raised ≡ Some (walk.now.section, walk.now.least)) list.items }
         requires others { AreOthersKept (crowd_of (arc_value walk.now.remembered)) bundles.old
@@ -364,7 +361,7 @@ impl PooledDemands<AnyGate<'_>> {
         let inquiries = at_remembered(alloc, &walk.remembered, list, 1)?;
         let found = self.inquire(rt, alloc, inquiries)?;
         let crowd = &walk.remembered.crowd;
-        let asked = &found.inquiries.list;
+        let asked = found.inquiries.list();
         write_found(crowd, prices, asked, &found.bundles, 0, bundles);
         Ok(())
     }

@@ -1,42 +1,50 @@
-// What one worker does in a round of a price board.
-ghost use Rattle.std.specs.Prelude.{◌≡◌, ◌<◌, ℕ, IfSome, length, nat_lt};
-ghost use Rattle.std.specs.Arc.{arc_value};
+// What one worker does in a round.
+ghost use Rattle.std.specs.Prelude.{◌≡◌, ◌≤◌, ◌<◌, ℕ, IfSome, length, nat_lt};
 ghost use Rattle.std.specs.FinSet as set;
 ghost use Rattle.bundle_rules.specs.{Bundles.sections_of, Demand.price_in};
 ghost use Rattle.demand_api.specs.{Asking.ArePricesFor, Crowds.demand_of, Views.data_of};
+ghost use Rattle.price_board.specs.{Openings.terms_of, Tasks.IsTask, Tasks.taken_at};
 ghost use Rattle.price_board.specs.Seats.{IsFree, IsFinished};
-ghost use Rattle.demand_workers.specs.{Rounds.IsBoardOf, Views.crowd_of};
+ghost use Rattle.demand_workers.specs.{Answering.answer_to, Notes.IsNoted, Views.crowd_of};
+ghost use Rattle.demand_workers.specs.Rounds.{AreVersionsFor, prices_of};
 ghost use Rattle.std.proofs.Props.{props};
 ghost use Rattle.std.specs.Coded.{codes};
 ghost use Rattle.bundle_rules.specs.contracts.menu.Rated as rated;
 
+use crate::beside::asked_beside;
+use crate::note::Note;
 use crate::question::Question;
 use crate::remembered::Remembered;
-use crate::taking::asked_again;
+use crate::taking::listed_again;
+use crate::trial::{ROOM, raised_prices};
 use bundle_rules::Bundle;
 use demand_api::Crowd;
 use demand_oracle::{Workspace, demand};
 use market_edge::{Gate, Stop};
 use market_units::{MAX_WORKERS, SectionSet, StudentNo, Tokens};
-use price_board::{Board, BoardSeat, Draw};
-use std::sync::{Arc, Mutex, Wait};
+use price_board::{Board, BoardSeat, Draw, Round, Task};
+use std::sync::{Mutex, Wait};
 
-/// What the workers of a price board are lent: the crowd, the prices of the board's one version, and
-/// what is remembered of the crowd, if anything is.
+/// What the workers of a round are lent: the crowd, the round, and what is remembered of the crowd,
+/// if anything is.
 #[derive(Clone, Copy)]
 pub(crate) struct Lent<'a> {
     pub crowd: &'a Crowd,
-    pub prices: &'a [Tokens],
+    pub round: &'a Round,
     // All sections of the crowd.
     pub allowed: &'a SectionSet,
-    pub remembered: &'a Option<Arc<Remembered>>,
-    pub ghost priced: { ArePricesFor (data_of crowd.now) prices.now },
+    pub remembered: Option<&'a Remembered>,
+    /// How many best bundles are noted of a student that is asked at a raised price, 1 to 8.
+    pub kept: usize,
+    pub ghost priced: { AreVersionsFor (data_of crowd.now) round.now.versions.items },
     pub ghost every: { (s : ℕ) → set.contains allowed.now s ≡ nat_lt s crowd.now.sections },
-    pub ghost same: { IfSome remembered.now (λ memory. crowd_of (arc_value memory) ≡ data_of crowd.now) } by { Prim.hlevel (props, codes, rated.the_row.coded) },
+    pub ghost same: { IfSome remembered (λ memory. crowd_of memory.now ≡ data_of crowd.now) } by { Prim.hlevel (props, codes, rated.the_row.coded) },
+    pub ghost some: { (1 ≤ kept) × (kept ≤ 8) },
 }
 
 /// Draws one task after another, and posts what its student takes, until no task is left. The
-/// worker passes the gate before its first draw and after each of its posts.
+/// worker passes the gate before its first draw and after each of its posts. What it finds of the
+/// last student that is asked at a raised price it leaves behind as a note: no post tells it.
 pub(crate) fn work<R: Wait>(
     rt: &R,
     board: &Board,
@@ -44,48 +52,103 @@ pub(crate) fn work<R: Wait>(
     workspace: &Mutex<Workspace>,
     lent: &Lent,
     gate: &(dyn Gate + Sync),
+    left: &mut Option<Note>,
 )
-    requires board { IsBoardOf (data_of lent.now.crowd.now) lent.now.prices.now board.now }
+    requires board { board.now.base ≡ terms_of lent.now.crowd.now lent.now.round.now }
     requires number { seat.old.number < MAX_WORKERS }
     requires free { IsFree board.now seat.old }
+    requires noted { IfSome left.old (IsNoted (data_of lent.now.crowd.now)) }
     ensures finished { IsFinished board.now seat.new }
     ensures number { seat.new.number ≡ seat.old.number }
+    ensures noted { IfSome left.new (IsNoted (data_of lent.now.crowd.now)) }
 {
     let mut workspace = workspace.lock(rt);
     let number = seat.number() + 1;
     gate.pass(Stop::WorkerStart(number));
-    while let Draw::Task(task) = board.draw(rt, seat) {
-        let bundle = taken(&mut workspace, lent, task.student);
-        board.post(rt, seat, task.version, task.student, bundle);
+    'tasks: while let Draw::Task(drawn) = board.draw(rt, seat) {
+        let bundle = taken_at(&mut workspace, lent, drawn.task, left);
+        board.post(rt, seat, drawn, bundle);
         gate.pass(Stop::WorkerCall(number));
     }
 }
 
-// What a student takes at the lent prices, of all sections: remembered, or asked. Where nothing is
-// remembered, the search begins with nothing.
-fn taken(workspace: &mut Workspace, lent: &Lent, student: StudentNo) -> Bundle
-    requires { student.0 < length lent.now.crowd.now.menus.items }
-    ensures { sections_of result
-        ≡ demand_of (data_of lent.now.crowd.now) (price_in lent.now.prices.now) student.0 }
+// What the student of a task takes at its prices, of all sections. Of a student of whom something
+// is remembered the best bundles at a raised price are noted.
+fn taken_at(workspace: &mut Workspace, lent: &Lent, task: Task, left: &mut Option<Note>) -> Bundle
+    requires task { IsTask (data_of lent.now.crowd.now)
+        (length lent.now.round.now.versions.items) task }
+    requires noted { IfSome left.old (IsNoted (data_of lent.now.crowd.now)) }
+    ensures taken { sections_of result
+        ≡ taken_at (data_of lent.now.crowd.now) (prices_of lent.now.round.now.versions.items)
+        task }
+    ensures noted { IfSome left.new (IsNoted (data_of lent.now.crowd.now)) }
 {
-    let Some(remembered) = lent.remembered else {
-        let place = usize::from(student.0);
-        return demand(
-            workspace,
-            &lent.crowd.menus[place],
-            lent.prices,
-            lent.crowd.budgets[place],
-            lent.allowed,
-        );
+    let prices: &[Tokens] = &lent.round.versions[task.version];
+    let student = task.student;
+    let Some(raised) = task.raised else {
+        return taken(workspace, lent, prices, student);
     };
-    let known: &Remembered = remembered;
+    let mut room = [Tokens(0); ROOM];
+    let prices = raised_prices(&mut room, prices, raised.0, raised.1);
+    let Some(remembered) = lent.remembered else {
+        return demanded(workspace, lent, prices, student);
+    };
     let question = Question {
-        remembered: known,
-        prices: lent.prices,
+        remembered,
+        prices,
         student,
     };
-    match question.kept() {
+    let best = listed_again(workspace, &question, lent.kept);
+    *left = Some(question.note(best));
+    question.first_of(&best)
+}
+
+// What a student takes at these prices, of all sections: remembered, or asked beside what is
+// remembered.
+fn taken(workspace: &mut Workspace, lent: &Lent, prices: &[Tokens], student: StudentNo) -> Bundle
+    requires prices { ArePricesFor (data_of lent.now.crowd.now) prices.now }
+    requires student { student.0 < length lent.now.crowd.now.menus.items }
+    ensures { sections_of result
+        ≡ demand_of (data_of lent.now.crowd.now) (price_in prices.now) student.0 }
+{
+    let Some(remembered) = lent.remembered else {
+        return demanded(workspace, lent, prices, student);
+    };
+    let question = Question {
+        remembered,
+        prices,
+        student,
+    };
+    match kept_by(lent, &question) {
         Some(bundle) => bundle,
-        None => asked_again(workspace, &question),
+        None => asked_beside(workspace, &question),
     }
+}
+
+// What is remembered of the student, where it surely takes that. A list has nobody of whom that is
+// known.
+fn kept_by(lent: &Lent, question: &Question) -> Option<Bundle>
+    ensures { IfSome result (λ bundle. sections_of bundle ≡ answer_to question.now) }
+{
+    match &lent.round.list {
+        Some(_) => None,
+        None => question.kept(),
+    }
+}
+
+// What a student takes at these prices, of all sections, where the search begins with nothing.
+fn demanded(workspace: &mut Workspace, lent: &Lent, prices: &[Tokens], student: StudentNo) -> Bundle
+    requires prices { ArePricesFor (data_of lent.now.crowd.now) prices.now }
+    requires student { student.0 < length lent.now.crowd.now.menus.items }
+    ensures { sections_of result
+        ≡ demand_of (data_of lent.now.crowd.now) (price_in prices.now) student.0 }
+{
+    let place = usize::from(student.0);
+    demand(
+        workspace,
+        &lent.crowd.menus[place],
+        prices,
+        lent.crowd.budgets[place],
+        lent.allowed,
+    )
 }

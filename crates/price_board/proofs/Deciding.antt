@@ -16,15 +16,16 @@ use Rattle.task_board.specs.Kept.{AreRight, AreSettled as AreTasksSettled}
 use Rattle.task_board.specs.Marks.{mark_at, answer_in, answers_in}
 use Rattle.price_board.specs.declared.round.Ask.{Ask}
 use Rattle.price_board.specs.declared.round.Ask.TheVariants.{Counts, Exceeds}
+use Rattle.price_board.specs.declared.round.Task.{Task}
 use Rattle.price_board.specs.declared.tally.Tally.{Tally}
 use Rattle.price_board.specs.declared.terms.Terms.{Terms}
-use Rattle.price_board.specs.Asked.{round_rules}
-use Rattle.price_board.specs.Closings.{AreSettled, exceeds_at, exceeds_of}
+use Rattle.price_board.specs.Asked.{rules_in}
+use Rattle.price_board.specs.Closings.{AreSettledIn, exceeds_at, exceeds_of}
 use Rattle.price_board.specs.Lasting.{row-at}
 use Rattle.price_board.specs.Rows.{number_of, row_of}
 use Rattle.price_board.specs.Settling.{ask_of, count_for, is_settled, is_with, unfilled_in}
 use Rattle.price_board.specs.Tallies.{tally_of, exceeds_by, HaveTallied}
-use Rattle.price_board.specs.Terms.{student_count, task_count, version_count, prices_of, count_of, demand_of}
+use Rattle.price_board.specs.Terms.{student_count, count_in, version_count, prices_of, count_of, demand_of}
 use Rattle.price_board.proofs.Numbering.{number-below, version-at, row-length, right_bundle}
 use Rattle.demand_api.proofs.Counts.{length-demands}
 
@@ -53,8 +54,8 @@ full_settled (Exceeds section limit) row none =
       | inr under ↦ or_right (nat_lt limit c) (nat_le (c + u) limit) (le-leb (c + u) limit (omega (arith, under, none)))
     ]
 
-module _ (terms : Terms) (marks : List (Mark Bundle)) (each : length marks ≡ task_count terms) where
-  each_answer : length (answers_in marks) ≡ task_count terms
+module _ (terms : Terms) (marks : List (Mark Bundle)) (each : length marks ≡ count_in None terms) where
+  each_answer : length (answers_in marks) ≡ count_in None terms
   each_answer = length-map marks answer_in ∙ each
 
   -- what was posted for a student
@@ -65,7 +66,7 @@ module _ (terms : Terms) (marks : List (Mark Bundle)) (each : length marks ≡ t
       ∙ get_or-map answer_in marks (number_of terms v s) Open d (subst (λ n. number_of terms v s < n) (sym each) (number-below terms v s low within))
 
   -- where each task is answered or of a settled version, each version is settled
-  pub all_settled : AreTasksSettled round_rules terms marks → AreSettled terms marks
+  pub all_settled : AreTasksSettled (rules_in None) terms marks → AreSettledIn None terms marks
   all_settled settled v low =
       let row : List (Option Bundle) = row_of terms (answers_in marks) v in
       let long : length row ≡ student_count terms = row-length terms (answers_in marks) v each_answer low in
@@ -86,7 +87,7 @@ module _ (terms : Terms) (marks : List (Mark Bundle)) (each : length marks ≡ t
       ]
 
   -- each student of a `Counts` version is answered
-  pub counts_filled : AreSettled terms marks → (v s : ℕ) → v < version_count terms → s < student_count terms → ask_of terms.asks v ≡ Counts
+  pub counts_filled : AreSettledIn None terms marks → (v s : ℕ) → v < version_count terms → s < student_count terms → ask_of terms.asks v ≡ Counts
       → IsSome (answer_in (mark_at marks (number_of terms v s)))
   counts_filled settled v s low within counts =
       let row : List (Option Bundle) = row_of terms (answers_in marks) v in
@@ -98,6 +99,18 @@ module _ (terms : Terms) (marks : List (Mark Bundle)) (each : length marks ≡ t
       some_of : (b : Option Bundle) (u : ℕ) → u ≡ 0 → cond (is_none b) 1 0 ≤ u → IsSome b
       some_of None u none one = absurd (omega (arith, one))
       some_of (Some bundle) u none one = refl
+
+-- where each task is answered or of a settled version, each version is settled, or each task of the list answered
+pub settled_in : (list : Option (List Task)) (terms : Terms) (marks : List (Mark Bundle)) → length marks ≡ count_in list terms
+    → AreTasksSettled (rules_in list) terms marks → AreSettledIn list terms marks
+settled_in None terms marks each settled = all_settled terms marks each settled
+settled_in (Some list) terms marks each settled = λ number low. elim (settled number low) [ inl some ↦ some | inr over ↦ absurd (false≢true over) ]
+
+-- each task of a list is answered
+pub listed_filled : (list : Option (List Task)) (terms : Terms) (marks : List (Mark Bundle)) → IsSome list → AreSettledIn list terms marks → (number : ℕ)
+    → number < count_in list terms → IsSome (answer_in (mark_at marks number))
+listed_filled None terms marks some settled number low = absurd (false≢true some)
+listed_filled (Some list) terms marks some settled number low = settled number low
 
 -- ---- what the posted bundles with the section decide
 
@@ -128,8 +141,8 @@ between section (b ∷ row) (sections ∷ list) same right =
 decided : (limit h g c : ℕ) → (nat_lt limit h || nat_le (h + g) limit) ≡ true → h ≤ c → c ≤ h + g → nat_lt limit h ≡ nat_lt limit c
 decided limit h g c settled low high = grind (arith, nat_tests)
 
-module _ (terms : Terms) (marks : List (Mark Bundle)) (each : length marks ≡ task_count terms) (right : AreRight round_rules terms marks)
-    (settled : AreSettled terms marks) where
+module _ (terms : Terms) (marks : List (Mark Bundle)) (each : length marks ≡ count_in None terms) (right : AreRight (rules_in None) terms marks)
+    (settled : AreSettledIn None terms marks) where
   -- past the last student of a row nothing is posted
   posted_right : (v s : ℕ) (bundle : Bundle) → v < version_count terms → slice_index_or (row_of terms (answers_in marks) v) s None ≡ Some bundle
       → sections_of bundle ≡ demand_of terms v s

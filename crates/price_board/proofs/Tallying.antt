@@ -1,8 +1,8 @@
 -- Tallies as bundles are posted.
-use Rattle.std.proofs.Common.{ℕ, ◌≡◌, ◌<◌, ◌≤◌, ◌+◌, ◌-◌, ◌*◌, ◌∙◌, Bool, List, length, Option, Some, None, replicate, take, drop, sym, ap, subst, arith, slice_index_or, slice_set, cond, inl, inr}
+use Rattle.std.proofs.Common.{ℕ, ◌≡◌, ◌<◌, ◌≤◌, ◌+◌, ◌-◌, ◌*◌, ◌∙◌, Bool, false, List, length, Option, Some, None, replicate, take, drop, refl, sym, ap, subst, arith, slice_index_or, slice_set, cond, inl, inr}
 use Rattle.std.specs.Prelude.{is_none}
 use Rattle.std.proofs.lemmas.Bool.{cases_eq}
-use Rattle.std.proofs.lemmas.List.{take-replicate, drop-replicate, get_or-replicate, get_or-map, get_or-set_same, get_or-set_other, get_or_read_under, length-set, length-replicate, length-take}
+use Rattle.std.proofs.lemmas.List.{take-replicate, drop-replicate, get_or-replicate, get_or-map, get_or-set_same, get_or-set_other, length-set, length-replicate, length-take}
 use Rattle.std.proofs.lemmas.List.Folds.{sum_by-replicate}
 use Rattle.std.proofs.lemmas.List.Sums.{count_by-le-length}
 use Rattle.bundle_rules.specs.declared.bundle.Bundle.{Bundle}
@@ -12,14 +12,15 @@ use Rattle.task_board.specs.Marks.{mark_at, answer_in, answers_in}
 use Rattle.task_board.specs.Openings.{no_answers}
 use Rattle.price_board.specs.declared.round.Ask.{Ask}
 use Rattle.price_board.specs.declared.round.Ask.TheVariants.{Counts, Exceeds}
+use Rattle.price_board.specs.declared.round.Task.{Task}
 use Rattle.price_board.specs.declared.tally.Tally.{Tally}
 use Rattle.price_board.specs.declared.terms.Terms.{Terms}
-use Rattle.price_board.specs.Asked.{round_rules, is_over, version_at, student_at}
+use Rattle.price_board.specs.Asked.{asked_of, counted, rules_in, is_over, version_at, student_at}
 use Rattle.price_board.specs.Lasting.{number-is, row-at, row-set, row-other, unfilled-posted, count-posted}
 use Rattle.price_board.specs.Rows.{number_of, row_of}
 use Rattle.price_board.specs.Settling.{ask_of, count_for, is_asked, is_decided, unfilled_in}
-use Rattle.price_board.specs.Tallies.{tally_of, HaveTallied}
-use Rattle.price_board.specs.Terms.{student_count, task_count, version_count}
+use Rattle.price_board.specs.Tallies.{tally_of, AreNoted, HaveTallied}
+use Rattle.price_board.specs.Terms.{student_count, count_in, task_count, version_count}
 use Rattle.price_board.proofs.Numbering.{row_end}
 
 tally-is : (u v m n : ℕ) → u ≡ v → m ≡ n → record { unfilled = u; count = m } ≡ (let t : Tally = record { unfilled = v; count = n } in t)
@@ -46,7 +47,7 @@ module _ (terms : Terms) (tallies : List Tally) (answers : List (Option Bundle))
         omega (arith, ap (λ (t : Tally). t.count) same, count_by-le-length (is_asked ask) row, short),
       )
 
-  module _ (task : ℕ) (bundle : Bundle) (below : task < task_count terms) (none : slice_index_or answers task (Some bundle) ≡ None) where
+  module _ (task : ℕ) (bundle : Bundle) (below : task < count_in None terms) (none : slice_index_or answers task (Some bundle) ≡ None) where
     abbrev v : ℕ
     v = version_at terms task
 
@@ -92,14 +93,14 @@ module _ (terms : Terms) (tallies : List Tally) (answers : List (Option Bundle))
 
 -- nothing is posted at first
 pub nothing_tallied : (terms : Terms) (tallies : List Tally) → tallies ≡ replicate (version_count terms) (record { unfilled = student_count terms; count = 0 })
-    → HaveTallied terms tallies (no_answers round_rules terms)
+    → HaveTallied terms tallies (no_answers (rules_in None) terms)
 nothing_tallied terms tallies are = record {
   each = ap length are ∙ length-replicate (version_count terms) _;
   tallied = λ v d low.
       let n : ℕ = student_count terms in
-      let row : row_of terms (no_answers round_rules terms) v ≡ replicate n None =
-      ap (take n) (drop-replicate (v * n) (task_count terms) None)
-      ∙ take-replicate n (task_count terms - v * n) None (omega (arith, row_end v (version_count terms) n low)) in
+      let row : row_of terms (no_answers (rules_in None) terms) v ≡ replicate n None =
+      ap (take n) (drop-replicate (v * n) (count_in None terms) None)
+      ∙ take-replicate n (count_in None terms - v * n) None (omega (arith, row_end v (version_count terms) n low)) in
       let unfilled : unfilled_in (replicate n None) ≡ n = omega (arith, sum_by-replicate (λ (o : Option Bundle). cond (is_none o) 1 0) n None) in
       ap (λ l. slice_index_or l v d) are ∙ get_or-replicate (version_count terms) v _ d low
       ∙ tally-is n (unfilled_in (replicate n None)) 0 (count_for (ask_of terms.asks v) (replicate n None)) (sym unfilled)
@@ -111,44 +112,87 @@ nothing_tallied terms tallies are = record {
     none_counted Counts n = omega (arith, sum_by-replicate (λ (o : Option Bundle). cond (is_asked Counts o) 1 0) n None)
     none_counted (Exceeds section limit) n = omega (arith, sum_by-replicate (λ (o : Option Bundle). cond (is_asked (Exceeds section limit) o) 1 0) n None)
 
+-- what of an answer to what is asked is the version, and what is the ask
+abbrev version_in : Option (ℕ × Ask) → ℕ
+version_in None = 0
+version_in (Some asked) = asked.0
+
+abbrev ask_in : Ask → Option (ℕ × Ask) → Ask
+ask_in other None = other
+ask_in other (Some asked) = asked.1
+
+-- of a list nothing is tallied
+pub fresh_in : (list : Option (List Task)) (terms : Terms) (tallies : List Tally)
+    → (list ≡ None → tallies ≡ replicate (version_count terms) (record { unfilled = student_count terms; count = 0 }))
+    → AreNoted list terms tallies (no_answers (rules_in list) terms)
+fresh_in None terms tallies are = nothing_tallied terms tallies (are refl)
+fresh_in (Some list) terms tallies are = tt
+
 -- ---- a task whose version's tally and ask were read
 
-module _ (terms : Terms) (tallies : List Tally) (answers : List (Option Bundle)) (have : HaveTallied terms tallies answers)
-    (asked : length terms.asks ≡ version_count terms) (task v : ℕ) (tally : Tally) (ask : Ask)
-    (at_version : v ≡ version_at terms task) (low : v < length tallies) (is : tally ≡ slice_index_or tallies v tally)
-    (asks : ask ≡ slice_index_or terms.asks v ask) where
-  low_there : version_at terms task < version_count terms
-  low_there = subst (λ n. n < version_count terms) at_version (subst (λ n. v < n) have.each low)
-
-  is_there : tally ≡ slice_index_or tallies (version_at terms task) tally
-  is_there = is ∙ ap (λ n. slice_index_or tallies n tally) at_version
-
-  ask_there : ask ≡ ask_of terms.asks (version_at terms task)
-  ask_there =
-      get_or_read_under terms.asks v (version_count terms) ask Counts asks (subst (λ n. v < n) have.each low) (sym asked)
-      ∙ ap (ask_of terms.asks) at_version
-
+module _ (terms : Terms) (tallies : List Tally) (answers : List (Option Bundle)) (task v : ℕ) (tally : Tally) (ask : Ask)
+    (low : v < length tallies) (is : tally ≡ slice_index_or tallies v tally) where
   -- they say whether the task is over
-  pub over_found : (found : Bool) → found ≡ is_decided ask tally.unfilled tally.count → found ≡ is_over terms answers task
-  over_found found told =
-      told ∙ ap (λ (a : Ask). is_decided a tally.unfilled tally.count) ask_there
-      ∙ ap (λ (t : Tally). is_decided (ask_of terms.asks (version_at terms task)) t.unfilled t.count)
-      (is_there ∙ have.tallied (version_at terms task) tally low_there)
+  pub over_found : (list : Option (List Task)) (found : Bool) → AreNoted list terms tallies answers → Some (v, ask) ≡ asked_of list terms task
+      → found ≡ is_decided ask tally.unfilled tally.count → found ≡ is_over list terms answers task
+  over_found None found have at told =
+      let at_version : v ≡ version_at terms task = ap version_in at in
+      let ask_there : ask ≡ ask_of terms.asks (version_at terms task) = ap (ask_in ask) at in
+      let now : tally ≡ tally_of (ask_of terms.asks v) (row_of terms answers v) = is ∙ have.tallied v tally (subst (λ n. v < n) have.each low) in
+      told ∙ ap (λ (t : Tally). is_decided ask t.unfilled t.count) now ∙ (λ i. is_decided (ask_there i) (unfilled_in (row_of terms answers (at_version i))) (count_for (ask_of terms.asks (at_version i)) (row_of terms answers (at_version i))))
+  over_found (Some list) found have at told = cc
 
-  module _ (bundle : Bundle) (below : task < task_count terms) (none : slice_index_or answers task (Some bundle) ≡ None) where
-    -- some student of the version is still to be posted
-    pub may_note : 1 ≤ tally.unfilled
-    may_note =
-        subst (λ n. 1 ≤ n) (sym (ap (λ (t : Tally). t.unfilled) (is_there ∙ have.tallied (version_at terms task) tally low_there)))
-        (some_unfilled terms tallies answers have task bundle below none)
+  -- they say what is told of it
+  pub count_found : (list : Option (List Task)) → AreNoted list terms tallies answers → Some (v, ask) ≡ asked_of list terms task
+      → tally.count ≡ counted list terms answers task
+  count_found None have at =
+      let at_version : v ≡ version_at terms task = ap version_in at in
+      ap (λ (t : Tally). t.count) (is ∙ have.tallied v tally (subst (λ n. v < n) have.each low))
+      ∙ ap (λ n. count_for (ask_of terms.asks n) (row_of terms answers n)) at_version
+  count_found (Some list) have at = cc
+
+  module _ (bundle : Bundle) (none : slice_index_or answers task (Some bundle) ≡ None) where
+    -- some student of the version is still to be posted, and of the others some have the section
+    pub may_note : (list : Option (List Task)) → AreNoted list terms tallies answers → task < count_in list terms → Some (v, ask) ≡ asked_of list terms task
+        → (1 ≤ tally.unfilled) × (tally.count ≤ student_count terms)
+    may_note None have below at =
+        let at_version : v ≡ version_at terms task = ap version_in at in
+        let inside : v < version_count terms = subst (λ n. v < n) have.each low in
+        let some : 1 ≤ unfilled_in (row_of terms answers (version_at terms task)) = some_unfilled terms tallies answers have task bundle below none in (
+          subst (λ n. 1 ≤ n)
+              (sym
+              (ap (λ (t : Tally). t.unfilled) (is ∙ have.tallied v tally inside) ∙ ap (λ n. unfilled_in (row_of terms answers n)) at_version))
+              some,
+          (tally_small terms tallies answers have v tally inside is).1,
+        )
+    may_note (Some list) have below at = cc
 
     -- the tallies with the noted one
-    pub noted_there : (new : Tally) → new ≡ record { unfilled = tally.unfilled - 1; count = tally.count + cond (is_asked ask (Some bundle)) 1 0 }
-        → HaveTallied terms (slice_set tallies v new) (slice_set answers task (Some bundle))
-    noted_there new put =
+    pub noted_there : (list : Option (List Task)) (new : Tally) → AreNoted list terms tallies answers → task < count_in list terms
+        → Some (v, ask) ≡ asked_of list terms task
+        → new ≡ record { unfilled = tally.unfilled - 1; count = tally.count + cond (is_asked ask (Some bundle)) 1 0 }
+        → AreNoted list terms (slice_set tallies v new) (slice_set answers task (Some bundle))
+    noted_there None new have below at put =
+        let at_version : v ≡ version_at terms task = ap version_in at in
+        let ask_there : ask ≡ ask_of terms.asks (version_at terms task) = ap (ask_in ask) at in
+        let inside : v < version_count terms = subst (λ n. v < n) have.each low in
         subst (λ n. HaveTallied terms (slice_set tallies n new) (slice_set answers task (Some bundle))) (sym at_version)
-        (noted terms tallies answers have task bundle below none tally new low_there is_there
+        (noted terms tallies answers have task bundle below none tally new (subst (λ n. n < version_count terms) at_version inside)
+        (is ∙ ap (λ n. slice_index_or tallies n tally) at_version)
         (put ∙ ap (λ (a : Ask). record { unfilled = tally.unfilled - 1; count = tally.count + cond (is_asked a (Some bundle)) 1 0 }) ask_there))
+    noted_there (Some list) new have below at put = tt
+
+-- nothing is noted of a list's task
+pub kept_there : (list : Option (List Task)) (terms : Terms) (tallies : List Tally) (answers : List (Option Bundle)) (task : ℕ) (bundle : Bundle)
+    → None ≡ asked_of list terms task → AreNoted list terms tallies (slice_set answers task (Some bundle))
+kept_there None terms tallies answers task bundle at = cc
+kept_there (Some list) terms tallies answers task bundle at = tt
+
+-- such a task is not over, and nothing is told of it
+pub listed_left : (list : Option (List Task)) (terms : Terms) (answers : List (Option Bundle)) (task : ℕ) → None ≡ asked_of list terms task
+    → (false ≡ is_over list terms answers task) × (0 ≡ counted list terms answers task)
+listed_left None terms answers task at = cc
+listed_left (Some list) terms answers task at = (refl, refl)
 
 -- a task of which no answer was posted
 pub unanswered_there : (terms : Terms) (marks : List (Mark Bundle)) (task : ℕ) (bundle : Bundle) → length marks ≡ task_count terms

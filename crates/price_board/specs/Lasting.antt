@@ -11,11 +11,12 @@ use Rattle.bundle_rules.specs.declared.bundle.Bundle.{Bundle}
 use Rattle.task_board.specs.Rules.{IsLasting}
 use Rattle.price_board.specs.declared.round.Ask.{Ask}
 use Rattle.price_board.specs.declared.round.Ask.TheVariants.{Counts, Exceeds}
+use Rattle.price_board.specs.declared.round.Task.{Task}
 use Rattle.price_board.specs.declared.terms.Terms.{Terms}
-use Rattle.price_board.specs.Asked.{round_rules, version_at, student_at}
+use Rattle.price_board.specs.Asked.{round_rules, rules_in, version_at, student_at}
 use Rattle.price_board.specs.Rows.{number_of, row_of}
 use Rattle.price_board.specs.Settling.{ask_of, count_for, is_asked, is_settled, unfilled_in}
-use Rattle.price_board.specs.Terms.{student_count, task_count, version_count}
+use Rattle.price_board.specs.Terms.{student_count, count_in, version_count}
 
 module _ {X : Type 0} where
   take-set-lt : (n : ℕ) (xs : List X) (i : ℕ) (x : X) → i < n → take n (slice_set xs i x) ≡ slice_set (take n xs) i x
@@ -141,7 +142,7 @@ no_tasks task versions n below none =
     let e : versions * n ≡ versions * 0 = ap (λ k. versions * k) none in let z : versions * 0 ≡ 0 = omega arith in omega arith
 
 -- a task is that of its version and student
-pub number-is : (terms : Terms) (task : ℕ) → task < task_count terms
+pub number-is : (terms : Terms) (task : ℕ) → task < count_in None terms
     → (student_at terms task < student_count terms) × (number_of terms (version_at terms task) (student_at terms task) ≡ task)
 number-is terms task below =
     let n : ℕ = student_count terms in
@@ -152,9 +153,9 @@ number-is terms task below =
     (mod_below task n some, div-add-mod' task n)
 
 -- a task of a version that is settled stays over when another task is answered
-pub settled_last : IsLasting round_rules
-settled_last terms answers task other bundle each below none over =
-    let low : other < task_count terms = subst (λ n. other < n) each below in
+each_lasts : IsLasting (rules_in None)
+each_lasts terms answers task other bundle each below none over =
+    let low : other < count_in None terms = subst (λ n. other < n) each below in
     let place = number-is terms other low in
     let v : ℕ = version_at terms other in
     let s : ℕ = student_at terms other in
@@ -173,3 +174,12 @@ settled_last terms answers task other bundle each below none over =
       | inr apart ↦ ap (is_settled (ask_of terms.asks w)) (row-other terms answers v w s (Some bundle) place.0 apart) ∙ over
     ] in
     subst (λ k. is_settled (ask_of terms.asks w) (row_of terms (slice_set answers k (Some bundle)) w) ≡ true) is kept
+
+lasts_in : (list : Option (List Task)) → IsLasting (rules_in list)
+lasts_in None terms answers task other answer each below none over =
+    each_lasts terms answers task other answer each below none over
+lasts_in (Some list) terms answers task other answer each below none over = over
+
+-- a task that is over stays over
+pub settled_last : IsLasting round_rules
+settled_last terms = lasts_in terms.list terms

@@ -1,4 +1,5 @@
 pub mod Asked
+pub mod Boards
 pub mod Closings
 pub mod Lasting
 pub mod Openings
@@ -6,4 +7,5 @@ pub mod Rows
 pub mod Seats
 pub mod Settling
 pub mod Tallies
+pub mod Tasks
 pub mod Terms

@@ -1,10 +1,12 @@
--- The tasks of a round by version: the numbers of each, and what stands at them.
+-- The tasks of a round with no list by version: the numbers of each, and what stands at them.
 use Rattle.std.specs.Prelude.{ℕ, ◌+◌, ◌*◌, Option, None, Some, List, slice_index_or, take, drop}
 use Rattle.bundle_rules.specs.declared.bundle.Bundle.{Bundle}
 use Rattle.task_board.specs.declared.mark.Mark.{Mark}
 use Rattle.task_board.specs.declared.mark.Mark.TheVariants.{Open}
+use Rattle.task_board.specs.Marks.{answer_in}
 use Rattle.price_board.specs.declared.drawn.Draw.{Draw}
 use Rattle.price_board.specs.declared.drawn.Draw.TheVariants.{Task as Drawn, Done}
+use Rattle.price_board.specs.declared.round.Task.{Task}
 use Rattle.price_board.specs.declared.terms.Terms.{Terms}
 use Rattle.price_board.specs.Terms.{student_count}
 
@@ -21,7 +23,12 @@ row_of terms list version =
 abbrev pub mark_of : Terms → List (Mark Bundle) → ℕ → ℕ → Mark Bundle
 mark_of terms marks version student = slice_index_or (row_of terms marks version) student Open
 
+-- what was posted there; nothing where there is a list
+abbrev pub posted_in : Option (List Task) → Terms → List (Mark Bundle) → ℕ → ℕ → Option Bundle
+posted_in None terms marks version student = answer_in (mark_of terms marks version student)
+posted_in (Some list) terms marks version student = None
+
 -- the number of the task that was drawn, if there was one
-abbrev pub number_drawn : Terms → Draw → Option ℕ
-number_drawn terms Done = None
-number_drawn terms (Drawn task) = Some (number_of terms task.version task.student.0)
+abbrev pub number_drawn : Draw → Option ℕ
+number_drawn Done = None
+number_drawn (Drawn drawn) = Some drawn.number

@@ -32,37 +32,59 @@ impl Model for Answers {
 }
 
 impl Answers {
-    ghost use Rattle.std.specs.Prelude.{◌≡◌, ◌<◌, IsSome, IfSome};
+    ghost use Rattle.std.specs.Prelude.{◌≡◌, ◌<◌, None, IsSome, IfSome};
     ghost use Rattle.bundle_rules.specs.Bundles.{sections_of};
-    ghost use Rattle.task_board.specs.Marks.{answer_in};
+    ghost use Rattle.task_board.specs.Marks.{answer_in, mark_at};
     ghost use Rattle.price_board.specs.declared.round.Ask.TheVariants as ask;
-    ghost use Rattle.price_board.specs.{Closings.exceeds_of, Rows.mark_of, Settling.ask_of};
-    ghost use Rattle.price_board.specs.Terms.{demand_of, student_count, version_count};
+    ghost use Rattle.price_board.specs.{Asked.task_at, Closings.exceeds_in, Rows.posted_in};
+    ghost use Rattle.price_board.specs.Settling.{ask_of};
+    ghost use Rattle.price_board.specs.Terms.{demand_at, demand_of, student_count, task_count};
+    ghost use Rattle.price_board.specs.Terms.{version_count};
 
-    /// What the student takes at the prices of the version, where it was posted: for every student
-    /// of a `Counts` version.
+    /// What the student takes at the prices of the version, where it was posted: for every student of
+    /// a `Counts` version. `None` of a round with a list.
     pub fn bundle(&self, version: u8, student: StudentNo) -> Option<Bundle>
         ensures posted { result
-            ≡ answer_in (mark_of self.now.terms self.now.marks version student.0) }
-        ensures some { version < version_count self.now.terms
+            ≡ posted_in self.now.terms.list self.now.terms self.now.marks version student.0 }
+        ensures some { self.now.terms.list ≡ None → version < version_count self.now.terms
             → student.0 < student_count self.now.terms
             → ask_of self.now.terms.asks version ≡ ask.Counts → IsSome result }
         ensures right { IfSome result
             (λ bundle. sections_of bundle ≡ demand_of self.now.terms version student.0) }
     {
+        if self.answers.tasks().has_list() {
+            return None;
+        }
         if u32::from(student.0) >= self.students {
             return None;
         }
-        let number = u32::from(version) * self.students + u32::from(student.0);
+        let place = u32::from(version) * self.students + u32::from(student.0);
+        self.answers.answer(place)
+    }
+
+    /// What the student of the task with this number takes at the prices of the task, where it was
+    /// posted: for every task of a list.
+    pub fn answer(&self, number: u32) -> Option<Bundle>
+        ensures posted { result ≡ answer_in (mark_at self.now.marks number) }
+        ensures some { IsSome self.now.terms.list → number < task_count self.now.terms
+            → IsSome result }
+        ensures right { IfSome result
+            (λ bundle. sections_of bundle
+            ≡ demand_at self.now.terms (task_at self.now.terms number)) }
+    {
         self.answers.answer(number)
     }
 
     /// Of an `Exceeds` version, and of no other, whether more students than the limit take the
-    /// section at its prices.
+    /// section at its prices. `None` of a round with a list.
     pub fn exceeds(&self, version: u8) -> Option<bool>
-        ensures { result ≡ exceeds_of self.now.terms version }
+        ensures { result ≡ exceeds_in self.now.terms.list self.now.terms version }
     {
-        self.answers.tasks().exceeds(usize::from(version))
+        let tasks = self.answers.tasks();
+        if tasks.has_list() {
+            return None;
+        }
+        tasks.exceeds(usize::from(version))
     }
 
     /// The history of all calls on the board.

@@ -1,20 +1,20 @@
 // What a draw gives.
-use market_units::StudentNo;
+use crate::round::Task;
 
-/// The work of finding what one student takes at the prices of one version.
+/// A task of a board.
 #[derive(Clone, Copy, Debug, PartialEq, Eq)]
-pub struct Task {
-    /// The number of the version in its round, from 0.
-    pub version: u8,
-    /// The student of the crowd.
-    pub student: StudentNo,
+pub struct Drawn {
+    /// The place of the task in the order in which tasks are drawn, from 0.
+    pub number: u32,
+    /// The student, and the prices at which it is asked.
+    pub task: Task,
 }
 
 /// What a draw gives.
 #[derive(Clone, Copy, Debug, PartialEq, Eq)]
 pub enum Draw {
     /// The seat holds the task from now on.
-    Task(Task),
+    Task(Drawn),
     /// Each task is drawn, or of a settled version.
     Done,
 }

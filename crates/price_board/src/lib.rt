@@ -1,4 +1,5 @@
-//! The price board: the tasks of a round of price vectors, which workers draw and post.
+//! The price board: the students of a round of price vectors, each at one of them, which workers
+//! draw and whose demands they post.
 // Neither: that threads run beside each other on it, beyond the tests; that a post takes constant
 // time, and all draws together look at each task once, as in the code; progress and waiting times
 // of the threads.
@@ -14,8 +15,8 @@ mod terms;
 
 pub use answers::Answers;
 pub use board::{Board, BoardSeat};
-pub use drawn::{Draw, Task};
-pub use round::{Ask, Round};
+pub use drawn::{Draw, Drawn};
+pub use round::{Ask, Round, Task};
 pub use task_board::Posted;
 pub use tasks::RoundTasks;
 pub use terms::Terms;

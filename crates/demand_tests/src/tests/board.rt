@@ -2,7 +2,7 @@
 use crate::tests::driver::Driver;
 use crate::tests::workers::at;
 use market_units::{NoMemory, SectionNo, StudentNo};
-use price_board::{Ask, Draw, Posted, Round, Task};
+use price_board::{Ask, Draw, Drawn, Posted, Round, Task};
 use std::alloc::Global;
 use std::process::Abort;
 use std::sync::Wait;
@@ -17,6 +17,7 @@ fn one_version(alloc: Global, limit: u32) -> Result<Round, NoMemory> {
     Ok(Round {
         versions: vec![in alloc; at(alloc, 0)?]?,
         asks: vec![in alloc; asked]?,
+        list: None,
     })
 }
 
@@ -30,11 +31,11 @@ fn settle<R: Abort + Wait>(
     let mut driver = Driver::start(rt, alloc, one_version(alloc, limit)?, 1)?;
     let mut drawn = Vec::new(alloc);
     for _ in 0..5 {
-        let Draw::Task(task) = driver.draw(rt, 0) else {
+        let Draw::Task(next) = driver.draw(rt, 0) else {
             break;
         };
-        driver.post(rt, 0, task);
-        drawn.push(task.student.0)?;
+        driver.post(rt, 0, next);
+        drawn.push(next.task.student.0)?;
     }
     Ok((drawn, driver.close(rt).exceeds(0)))
 }
@@ -58,10 +59,14 @@ fn a_version_settles_early(rt: HostRuntime) -> Result<(), Fail> {
 }
 
 // The task of the one version and this student.
-fn task_of(student: u16) -> Task {
-    Task {
-        version: 0,
-        student: StudentNo(student),
+fn task_of(student: u16) -> Drawn {
+    Drawn {
+        number: u32::from(student),
+        task: Task {
+            version: 0,
+            student: StudentNo(student),
+            raised: None,
+        },
     }
 }
 

@@ -12,7 +12,7 @@ use crate::tests::workers::all_have_prices;
 use bundle_rules::{Bundle, best_plain};
 use demand_api::Crowd;
 use market_units::{MAX_VERSIONS, MAX_WORKERS, NoMemory, SectionSet, StudentNo, Tokens};
-use price_board::{Answers, Ask, Board, BoardSeat, Draw, Posted, Round, Task};
+use price_board::{Answers, Ask, Board, BoardSeat, Draw, Drawn, Posted, Round, Task};
 use std::alloc::Global;
 use std::marker::Model;
 use std::process::Abort;
@@ -126,6 +126,14 @@ impl Driver {
         let tasks = tasks_of(&versions);
         let notes = blank(alloc, workers)?;
         let crowd = Arc::new(alloc, crowd)?;
+        let round = Arc::new(
+            alloc,
+            Round {
+                versions: round.versions,
+                asks: round.asks,
+                list: None,
+            },
+        )?;
         let (board, seats) = Board::start(alloc, Arc::try_clone(&crowd)?, round, workers)?;
         Ok(Driver {
             board,
@@ -148,19 +156,24 @@ impl Driver {
     }
 
     /// Posts what the student takes for a task, which the worker holds if it holds any.
-    pub fn post<R: Abort + Wait>(&mut self, rt: &R, worker: usize, task: Task) -> Posted {
-        let Task { version, student } = task;
-        assert!(rt; usize::from(version) < self.versions.len());
-        assert!(rt; usize::from(student.0) < self.crowd.menus.len());
+    pub fn post<R: Abort + Wait>(&mut self, rt: &R, worker: usize, drawn: Drawn) -> Posted {
+        let Task {
+            version,
+            student,
+            raised,
+        } = drawn.task;
+        let students = self.crowd.menus.len();
+        assert!(rt; raised == None);
+        assert!(rt; version < self.versions.len());
+        assert!(rt; version < MAX_VERSIONS);
+        assert!(rt; usize::from(student.0) < students);
+        assert!(rt; drawn.number as usize == version * students + usize::from(student.0));
         assert!(rt; worker < self.seats.len());
         let (since, posts) = self.notes[worker];
-        assert!(rt; since == None || since == Some(Draw::Task(task)));
+        assert!(rt; since == None || since == Some(Draw::Task(drawn)));
         assert!(rt; posts < self.tasks);
-        let prices = &self.versions[usize::from(version)];
-        let bundle = taken(&self.crowd, prices, student);
-        let posted = self
-            .board
-            .post(rt, &mut self.seats[worker], version, student, bundle);
+        let bundle = taken(&self.crowd, &self.versions[version], student);
+        let posted = self.board.post(rt, &mut self.seats[worker], drawn, bundle);
         self.notes[worker] = (None, posts + 1);
         posted
     }

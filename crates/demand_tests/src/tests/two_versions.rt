@@ -3,7 +3,7 @@
 use crate::tests::driver::Driver;
 use crate::tests::workers::at;
 use market_units::{NoMemory, SectionNo, StudentNo};
-use price_board::{Answers, Ask, Draw, Posted, Round, Task};
+use price_board::{Answers, Ask, Draw, Drawn, Posted, Round, Task};
 use std::alloc::Global;
 use std::process::Abort;
 use std::sync::Wait;
@@ -18,14 +18,19 @@ fn round_of_both(alloc: Global) -> Result<Round, NoMemory> {
     Ok(Round {
         versions: vec![in alloc; at(alloc, 102)?, at(alloc, 103)?]?,
         asks: vec![in alloc; any, Ask::Counts]?,
+        list: None,
     })
 }
 
 // The task of this version and student.
-fn task_of(version: u8, student: u16) -> Task {
-    Task {
-        version,
-        student: StudentNo(student),
+fn task_of(version: u8, student: u16) -> Drawn {
+    Drawn {
+        number: u32::from(version) * 4 + u32::from(student),
+        task: Task {
+            version: usize::from(version),
+            student: StudentNo(student),
+            raised: None,
+        },
     }
 }
 

@@ -1,26 +1,25 @@
-use Rattle.std.proofs.Common.{◌≡◌, ◌<◌, ◌+◌, ◌∙◌, [], List, Vec, Global, length, slice_index_or, ap, sym, subst, arith, inl, inr}
+use Rattle.std.proofs.Common.{◌≡◌, ◌<◌, ◌+◌, ◌∙◌, [], List, Vec, Global, length, slice_index_or, sym, subst, arith, inl, inr}
 use Rattle.std.specs.Arc.{arc_value}
 use Rattle.std.proofs.lemmas.Bool.{cases_order, false≢true}
 use Rattle.std.proofs.lemmas.List.{length-map}
 use Rattle.market_units.specs.declared.units.Tokens.{Tokens}
-use Rattle.demand_workers.specs.declared.inquiry.Inquiries.{Inquiries}
 use Rattle.demand_workers.specs.Rounds.{prices_of}
 use Rattle.demand_workers.proofs.Rounds.{versions_same}
 use Rattle.demand_workers.proofs.foreseen.Foreseen.goes_on_with.Goals as goal
 
 pub loop-place-preserved : goal.loop-place-preserved
 loop-place-preserved c =
-    let versions : List (Vec Tokens Global) = (arc_value c.args.self.now.survey.found.inquiries).versions.items in
+    let versions : List (Vec Tokens Global) = (arc_value c.args.self.now.survey.found.inquiries.round).versions.items in
     let begun = c.if-self-versions.false in
     let enough = c.if-versions-self.false in
     let next = c.loop-place-test.true in
-    let inside : c.args.self.now.done + c.loop-place.place < length c.deref-versions.result.now = omega arith in
-    let listed : c.deref-versions.result.now ≡ versions =
-    c.deref-versions.ensures.value ∙ ap (λ (q : Inquiries). q.versions.items) c.deref.ensures in
+    let inside : c.args.self.now.done + c.loop-place.place < length c.versions-versions.result.now = omega arith in
+    let listed : c.versions-versions.result.now ≡ versions =
+    c.versions-versions.ensures in
     let at =
     versions_same versions c.args.batch.now (c.args.self.now.done + c.loop-place.place) c.loop-place.place c.index-versions-self.result
-    c.index-batch-place.result c.deref-in-loop-place.result.now c.deref-in-loop-place-2.result.now (rw (← listed) inside)
-    (rw (← listed) c.index-versions-self.is) c.deref-in-loop-place.ensures.value next c.index-batch-place.is c.deref-in-loop-place-2.ensures.value in
+    c.index-batch-place.result c.deref.result.now c.deref-in-loop-place.result.now (rw (← listed) inside)
+    (rw (← listed) c.index-versions-self.is) c.deref.ensures.value next c.index-batch-place.is c.deref-in-loop-place.ensures.value in
     record {
       same = λ v below. elim (cases_order v c.loop-place.place) [
         | inl here ↦
@@ -33,17 +32,17 @@ loop-place-preserved c =
 
 pub returns-then-not-are_same : goal.returns-then-not-are_same
 returns-then-not-are_same c =
-    let versions : List (Vec Tokens Global) = (arc_value c.args.self.now.survey.found.inquiries).versions.items in
+    let versions : List (Vec Tokens Global) = (arc_value c.args.self.now.survey.found.inquiries.round).versions.items in
     let begun = c.if-self-versions.false in
     let enough = c.if-versions-self.false in
     let next = c.loop-place-test.true in
-    let inside : c.args.self.now.done + c.loop-place.place < length c.deref-versions.result.now = omega arith in
-    let listed : c.deref-versions.result.now ≡ versions =
-    c.deref-versions.ensures.value ∙ ap (λ (q : Inquiries). q.versions.items) c.deref.ensures in
+    let inside : c.args.self.now.done + c.loop-place.place < length c.versions-versions.result.now = omega arith in
+    let listed : c.versions-versions.result.now ≡ versions =
+    c.versions-versions.ensures in
     let at =
     versions_same versions c.args.batch.now (c.args.self.now.done + c.loop-place.place) c.loop-place.place c.index-versions-self.result
-    c.index-batch-place.result c.deref-in-loop-place.result.now c.deref-in-loop-place-2.result.now (rw (← listed) inside)
-    (rw (← listed) c.index-versions-self.is) c.deref-in-loop-place.ensures.value next c.index-batch-place.is c.deref-in-loop-place-2.ensures.value in (
+    c.index-batch-place.result c.deref.result.now c.deref-in-loop-place.result.now (rw (← listed) inside)
+    (rw (← listed) c.index-versions-self.is) c.deref.ensures.value next c.index-batch-place.is c.deref-in-loop-place.ensures.value in (
       λ yes. absurd (false≢true yes),
       λ all.
           let low : c.loop-place.place < length (prices_of c.args.batch.now) =

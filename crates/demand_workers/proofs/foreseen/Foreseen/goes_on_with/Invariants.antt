@@ -7,5 +7,5 @@ use Rattle.demand_workers.proofs.foreseen.Foreseen.goes_on_with.Given as goal
 abbrev pub invariant-loop-place : goal.invariant-loop-place
 invariant-loop-place l = record {
   same : (v : ℕ) → v < l.place
-      → slice_index_or (prices_of (arc_value l.self.survey.found.inquiries).versions.items) (l.self.done + v) [] ≡ slice_index_or (prices_of l.batch) v [];
+      → slice_index_or (prices_of (arc_value l.self.survey.found.inquiries.round).versions.items) (l.self.done + v) [] ≡ slice_index_or (prices_of l.batch) v [];
 }

@@ -1,13 +1,13 @@
 use Rattle.std.proofs.Common.{◌∙◌, sym, subst}
 use Rattle.demand_workers.specs.declared.remembered.Remembered.{Remembered}
-use Rattle.demand_workers.specs.Inquiring.{IsInquiry}
+use Rattle.price_board.specs.Tasks.{IsTask}
 use Rattle.demand_workers.specs.Notes.{AreNoted}
 use Rattle.demand_workers.specs.Views.{crowd_of}
 use Rattle.demand_workers.proofs.notes.Notes.told_at.Goals as goal
 
 pub raised_question-requires : goal.raised_question-requires
 raised_question-requires c =
-    subst (λ (r : Remembered). IsInquiry (crowd_of r) 1 c.args.inquiry) (sym c.deref.ensures) c.requires
+    subst (λ (r : Remembered). IsTask (crowd_of r) 1 c.args.inquiry) (sym c.deref.ensures) c.requires
 
 pub told-requires : goal.told-requires
 told-requires c =

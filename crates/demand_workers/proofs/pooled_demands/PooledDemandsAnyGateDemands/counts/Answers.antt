@@ -12,7 +12,7 @@ use Rattle.demand_workers.proofs.pooled_demands.PooledDemandsAnyGateDemands.coun
 pub loop-version-preserved : goal.loop-version-preserved
 loop-version-preserved g c =
     let version : ℕ = c.loop-version.version in
-    let inquiries = arc_value c.in_ok-survey.field-0.survey.found.inquiries in
+    let inquiries = c.in_ok-survey.field-0.survey.found.inquiries in
     let crowd = data_of (arc_value c.args.self.now.crowd) in
     let batch : List (Vec Tokens Global) = c.args.batch.now in
     let other = (arc_value inquiries.remembered).prices in
@@ -25,7 +25,7 @@ loop-version-preserved g c =
           other c.loop-version.found.items c.push.new.self.items
           c.in_ok-counts.counts low c.loop-version.invariant.done (search rules)
           (c.in_ok-counts.ensures
-          ∙ ap (λ (w : CrowdData). counts w (price_in (slice_index_or (prices_of inquiries.versions.items) (c.in_ok-survey.field-0.done + version) [])))
+          ∙ ap (λ (w : CrowdData). counts w (price_in (slice_index_or (prices_of (arc_value inquiries.round).versions.items) (c.in_ok-survey.field-0.done + version) [])))
           c.in_ok-survey.ensures.crowd
           ∙ ap (λ (p : List Tokens). counts crowd (price_in p)) (c.in_ok-survey.ensures.next.same version (omega (arith, all, low)))
           ∙ ap (λ (p : List Tokens). counts crowd (price_in p))

@@ -1,15 +1,16 @@
 use Rattle.std.proofs.Common.{rules, ◌≡◌, ◌<◌, ◌≤◌, ◌+◌, ◌∙◌, ℕ, List, length, slice_index_or, ap, sym, subst, arith}
 use Rattle.std.specs.Arc.{arc_value}
-use Rattle.std.proofs.lemmas.List.{get_or_default, length-set}
+use Rattle.std.proofs.lemmas.List.{length-set}
 use Rattle.bundle_rules.specs.declared.bundle.Bundle.{Bundle}
 use Rattle.bundle_rules.specs.Bundles.{sections_of}
 use Rattle.bundle_rules.specs.Demand.{price_in}
 use Rattle.demand_api.specs.Crowds.{demand_of}
 use Rattle.demand_api.proofs.Takers.{lent_back}
 use Rattle.demand_workers.specs.declared.inquiry.Inquiries.{Inquiries}
-use Rattle.demand_workers.specs.declared.inquiry.Inquiry.{Inquiry}
+use Rattle.demand_workers.specs.Found.{tasks_of}
+use Rattle.price_board.specs.declared.round.Task.{Task}
 use Rattle.demand_workers.specs.declared.remembered.Remembered.{Remembered}
-use Rattle.demand_workers.specs.Asked.{no_inquiry}
+use Rattle.price_board.specs.Tasks.{no_task}
 use Rattle.demand_workers.specs.Surveyed.{IsPart}
 use Rattle.demand_workers.specs.Views.{crowd_of}
 use Rattle.demand_workers.proofs.Exchanging.{IsExchanged, asked_low, exchange_begins, exchange_done, exchange_more, found_then, found_within, prices_then}
@@ -18,21 +19,21 @@ use Rattle.demand_workers.proofs.survey.Survey.counts_at.Goals.{After-index, Aft
 
 -- the version's part of the list
 stands : (c : After-index)
-    → IsPart (arc_value c.args.self.now.found.inquiries).list.items (length (arc_value c.args.self.now.found.inquiries).list.items) c.args.version
+    → IsPart (tasks_of c.args.self.now.found.inquiries) (length (tasks_of c.args.self.now.found.inquiries)) c.args.version
     c.index.result.now
 stands c =
-    subst (IsPart (arc_value c.args.self.now.found.inquiries).list.items (length (arc_value c.args.self.now.found.inquiries).list.items) c.args.version)
+    subst (IsPart (tasks_of c.args.self.now.found.inquiries) (length (tasks_of c.args.self.now.found.inquiries)) c.args.version)
     (sym c.index.ensures) (c.args.self.now.parted c.args.version c.index.result.now (rw c.args.self.now.each c.requires.version))
 
 pub part-init : goal.part-init
 part-init c =
     let copy : c.in_ok-bundles.bundles.items ≡ c.as_slice.result.now = search rules in
     let base : c.in_ok-counted.counted.items ≡ c.args.base.now = search rules in
-    let copied : c.in_ok-bundles.bundles.items ≡ (arc_value (arc_value c.args.self.now.found.inquiries).remembered).bundles.items =
+    let copied : c.in_ok-bundles.bundles.items ≡ (arc_value c.args.self.now.found.inquiries.remembered).bundles.items =
     copy ∙ c.as_slice.ensures.value
-    ∙ ap (λ (r : Remembered). r.bundles.items) (c.deref.ensures ∙ ap (λ (q : Inquiries). arc_value q.remembered) c.deref-inquiries.ensures) in
+    ∙ ap (λ (r : Remembered). r.bundles.items) c.deref.ensures in
     let begun =
-    exchange_begins (arc_value c.args.self.now.found.inquiries) c.args.version c.args.self.now.surveyed c.in_ok-bundles.bundles.items
+    exchange_begins c.args.self.now.found.inquiries c.args.version c.args.self.now.surveyed c.in_ok-bundles.bundles.items
     c.in_ok-counted.counted.items c.args.base.now c.index.result.now c.requires.version (stands c) copied base c.requires.base in
     record { len = begun.len; written = begun.written; tally = begun.tally }
 
@@ -45,35 +46,35 @@ exchanged_back inquiries v place bundles back counted counts_back same same_coun
 
 -- what is known of the inquiry that is exchanged
 record IsAsked (c : After-index-in-part) : Type 0 where
-  inside : c.part.place < length (arc_value c.args.self.now.found.inquiries).list.items
-  its : (slice_index_or (arc_value c.args.self.now.found.inquiries).list.items c.part.place no_inquiry).student.0 ≡ c.from-student.result
+  inside : c.part.place < length (tasks_of c.args.self.now.found.inquiries)
+  its : (slice_index_or (tasks_of c.args.self.now.found.inquiries) c.part.place no_task).student.0 ≡ c.from-student.result
   low : c.from-student.result < length c.part.bundles.items
   taken : sections_of c.index-in-part.result.now
-      ≡ demand_of (crowd_of (arc_value (arc_value c.args.self.now.found.inquiries).remembered))
-      (price_in (prices_then (arc_value c.args.self.now.found.inquiries) c.args.version)) c.from-student.result
+      ≡ demand_of (crowd_of (arc_value c.args.self.now.found.inquiries.remembered))
+      (price_in (prices_then c.args.self.now.found.inquiries c.args.version)) c.from-student.result
 
 is_asked : (c : After-index-in-part)
-    → IsPart (arc_value c.args.self.now.found.inquiries).list.items (length (arc_value c.args.self.now.found.inquiries).list.items) c.args.version
+    → IsPart (tasks_of c.args.self.now.found.inquiries) (length (tasks_of c.args.self.now.found.inquiries)) c.args.version
     c.index.result.now
     → IsAsked c
 is_asked c part =
-    let inquiries : Inquiries = arc_value c.args.self.now.found.inquiries in
+    let inquiries : Inquiries = c.args.self.now.found.inquiries in
     let before : c.part.place < c.index.result.now.1 = search rules in
     let within = part.within in
-    let inside : c.part.place < length inquiries.list.items = omega (arith, before, within) in
-    let read : c.index-inquiry.result.now ≡ slice_index_or inquiries.list.items c.part.place no_inquiry =
-    c.index-inquiry.ensures ∙ ap (λ (q : Inquiries). slice_index_or q.list.items c.part.place c.index-inquiry.result.now) c.deref-inquiries.ensures
-    ∙ get_or_default inquiries.list.items c.part.place c.index-inquiry.result.now no_inquiry inside in
-    let at : c.index-inquiry.result.now.version ≡ c.args.version = search rules in
-    let its : (slice_index_or inquiries.list.items c.part.place no_inquiry).student.0 ≡ c.from-student.result =
-    ap (λ (q : Inquiry). q.student.0) (sym read) ∙ sym c.from-student.ensures in
+    let inside : c.part.place < length (tasks_of inquiries) = omega (arith, before, within) in
+    let listed : c.list.result.now ≡ tasks_of inquiries = c.list.ensures in
+    let there : (slice_index_or c.list.result.now c.part.place no_task).version ≡ c.args.version = search rules in
+    let at : (slice_index_or (tasks_of inquiries) c.part.place no_task).version ≡ c.args.version =
+    ap (λ (l : List Task). (slice_index_or l c.part.place no_task).version) (sym listed) ∙ there in
+    let its : (slice_index_or (tasks_of inquiries) c.part.place no_task).student.0 ≡ c.from-student.result =
+    ap (λ (l : List Task). (slice_index_or l c.part.place no_task).student.0) (sym listed) ∙ sym c.from-student.ensures in
     record {
       inside = inside;
       its = its;
       low = rw c.part.invariant.len (asked_low inquiries c.args.version c.args.self.now.surveyed c.part.place c.from-student.result inside its);
       taken =
           found_then inquiries c.args.version c.args.self.now.surveyed c.part.place c.from-student.result c.args.self.now.found.bundles.items
-          c.index-in-part.result.now c.args.self.now.found.right inside (ap (λ (q : Inquiry). q.version) (sym read) ∙ at) its c.index-in-part.ensures;
+          c.index-in-part.result.now c.args.self.now.found.right inside at its c.index-in-part.ensures;
     }
 
 pub exchange_bundle-requires-clause-place : goal.exchange_bundle-requires-clause-place
@@ -85,12 +86,12 @@ pub exchange_bundle-requires-clause-within : goal.exchange_bundle-requires-claus
 exchange_bundle-requires-clause-within c s is =
     let at = goal.at.exchange_bundle-requires-clause-within c in
     rw (c.deref_mut.ensures.value, c.part.invariant.tally.counted.len)
-    (found_within (arc_value c.args.self.now.found.inquiries) c.args.version c.args.self.now.surveyed c.from-student.result c.index-in-part.result.now
+    (found_within c.args.self.now.found.inquiries c.args.version c.args.self.now.surveyed c.from-student.result c.index-in-part.result.now
     (is_asked at.After-index-in-part (stands at.After-index)).taken s is)
 
 pub part-preserved : goal.part-preserved
 part-preserved c =
-    let inquiries : Inquiries = arc_value c.args.self.now.found.inquiries in
+    let inquiries : Inquiries = c.args.self.now.found.inquiries in
     let at = goal.at.part-preserved c in
     let known = is_asked at.After-index-in-part (stands at.After-index) in
     let more =
@@ -111,5 +112,5 @@ part-preserved c =
 pub returns : goal.returns
 returns c =
     let past : c.index.result.now.1 ≤ c.part.place = search rules in
-    exchange_done (arc_value c.args.self.now.found.inquiries) c.args.version c.args.self.now.surveyed c.part.place c.part.bundles.items c.part.counted.items
+    exchange_done c.args.self.now.found.inquiries c.args.version c.args.self.now.surveyed c.part.place c.part.bundles.items c.part.counted.items
     c.index.result.now (record { len = c.part.invariant.len; written = c.part.invariant.written; tally = c.part.invariant.tally }) (stands (goal.at.returns c).After-index) past

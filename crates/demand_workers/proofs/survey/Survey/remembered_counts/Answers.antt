@@ -1,4 +1,4 @@
-use Rattle.std.proofs.Common.{◌≡◌, ◌∙◌, ℕ, List, Vec, Global, length, map, ap, sym, subst, arith}
+use Rattle.std.proofs.Common.{◌≡◌, ◌∙◌, ℕ, List, Vec, Global, length, map, refl, ap, sym, subst, arith}
 use Rattle.std.specs.Arc.{arc_value}
 use Rattle.std.specs.Prelude.{IfOk}
 use Rattle.bundle_rules.specs.declared.bundle.Bundle.{Bundle}
@@ -25,33 +25,33 @@ many inquiries own known crowd n same is its all =
 
 pub count_bundles-requires-clause-few : goal.count_bundles-requires-clause-few
 count_bundles-requires-clause-few c =
-    let few = remembered_few (arc_value (arc_value c.args.self.now.found.inquiries).remembered) in
+    let few = remembered_few (arc_value c.args.self.now.found.inquiries.remembered) in
     let all =
     ap length
-    (lent (arc_value c.args.self.now.found.inquiries) c.deref-inquiries.result.now c.deref-remembered.result.now c.deref-2.result.now c.deref-inquiries.ensures
+    (lent c.args.self.now.found.inquiries c.args.self.now.found.inquiries c.deref-remembered.result.now c.deref-2.result.now refl
     c.deref-remembered.ensures c.deref-2.ensures.value) in
     omega (arith, few, all)
 
 pub count_bundles-requires-clause-within : goal.count_bundles-requires-clause-within
 count_bundles-requires-clause-within c =
-    let inquiries = arc_value c.args.self.now.found.inquiries in
+    let inquiries = c.args.self.now.found.inquiries in
     subst (λ n. AreWithin n (map sections_of c.deref-2.result.now))
     (sym
-    (many inquiries c.deref-inquiries.result.now c.deref-remembered.result.now c.deref.result.now c.from.result c.deref-inquiries.ensures
+    (many inquiries c.args.self.now.found.inquiries c.deref-remembered.result.now c.deref.result.now c.from.result refl
     c.deref-remembered.ensures c.deref.ensures c.from.ensures))
     (subst (λ (b : List Bundle). AreWithin (crowd_of (arc_value inquiries.remembered)).sections (map sections_of b))
     (sym
-    (lent inquiries c.deref-inquiries.result.now c.deref-remembered.result.now c.deref-2.result.now c.deref-inquiries.ensures c.deref-remembered.ensures
+    (lent inquiries c.args.self.now.found.inquiries c.deref-remembered.result.now c.deref-2.result.now refl c.deref-remembered.ensures
     c.deref-2.ensures.value))
     (remembered_within (arc_value inquiries.remembered)))
 
 pub returns : goal.returns
 returns c =
-    let inquiries = arc_value c.args.self.now.found.inquiries in
+    let inquiries = c.args.self.now.found.inquiries in
     subst (λ n. IfOk c.count_bundles.result (λ (base : Vec ℕ Global).
     AreCounts n (map sections_of (arc_value inquiries.remembered).bundles.items) base.items))
-    (many inquiries c.deref-inquiries.result.now c.deref-remembered.result.now c.deref.result.now c.from.result c.deref-inquiries.ensures
+    (many inquiries c.args.self.now.found.inquiries c.deref-remembered.result.now c.deref.result.now c.from.result refl
     c.deref-remembered.ensures c.deref.ensures c.from.ensures)
     (subst (λ (b : List Bundle). IfOk c.count_bundles.result (λ (base : Vec ℕ Global). AreCounts c.from.result (map sections_of b) base.items))
-    (lent inquiries c.deref-inquiries.result.now c.deref-remembered.result.now c.deref-2.result.now c.deref-inquiries.ensures c.deref-remembered.ensures
+    (lent inquiries c.args.self.now.found.inquiries c.deref-remembered.result.now c.deref-2.result.now refl c.deref-remembered.ensures
     c.deref-2.ensures.value) c.count_bundles.ensures)

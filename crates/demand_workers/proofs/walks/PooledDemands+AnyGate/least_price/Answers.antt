@@ -19,15 +19,15 @@ use Rattle.demand_workers.specs.Leaving.{AreLeft, Keeps, leaves, takes}
 use Rattle.demand_workers.proofs.Allowing.{spent_besides, spent_both, spent_within}
 use Rattle.demand_workers.proofs.HoldersLeave.{raised_prices, first_keeps, first_student, many_below, has_left, has_stayed, less_left, less_stayed}
 use Rattle.demand_workers.proofs.HoldersLeave.{least_found, left_moved, asked_there, keeps_asked, leaves_later}
-use Rattle.demand_workers.specs.Inquiring.{IsInquiry, taken_at}
-use Rattle.demand_workers.specs.declared.inquiry.Inquiry.{Inquiry}
+use Rattle.price_board.specs.Tasks.{IsTask, taken_at}
+use Rattle.price_board.specs.declared.round.Task.{Task}
 use Rattle.demand_workers.proofs.Listing.{first_listed, listed_inquiry, listed_left}
 use Rattle.demand_workers.proofs.walks.PooledDemands+AnyGate.least_price.Given.{Over}
 use Rattle.demand_workers.proofs.walks.PooledDemands+AnyGate.least_price.Goals as goal
 use Rattle.demand_workers.proofs.walks.PooledDemands+AnyGate.least_price.Goals.{In-Some}
 
 -- what is told of an inquiry, where the same is remembered
-told_there : (known remembered : Remembered) (asked : Inquiry) (told : Option Bundle) (bundle : Bundle) → told ≡ Some bundle → known ≡ remembered
+told_there : (known remembered : Remembered) (asked : Task) (told : Option Bundle) (bundle : Bundle) → told ≡ Some bundle → known ≡ remembered
     → IfSome told (λ b. sections_of b ≡ taken_at (crowd_of known) (known.prices.items ∷ []) asked)
     → sections_of bundle ≡ taken_at (crowd_of remembered) (remembered.prices.items ∷ []) asked
 told_there known remembered asked told bundle is same taken =
@@ -96,9 +96,9 @@ raised known remembered prices trial s least same copied is =
 
 pub told_or_asked-requires-clause-inquiry : goal.told_or_asked-requires-clause-inquiry
 told_or_asked-requires-clause-inquiry g c κs within =
-    let asked : Inquiry =
+    let asked : Task =
     record { student = record { 0 = c.in-Some.first.1 }; version = 0; raised = Some (c.args.pair.0, record { 0 = leaves c.in-Some.first }) } in
-    subst (λ r. IsInquiry (crowd_of (arc_value r)) 1 asked) (sym c.loop-least.invariant.same)
+    subst (λ r. IsTask (crowd_of (arc_value r)) 1 asked) (sym c.loop-least.invariant.same)
     (listed_inquiry _ c.args.pair.0 c.in-Some.first c.requires.section
     (first_listed _ _ _ c.in-Some.first c.in-Some.ensures.permutation (listed_left _ _ _ _ _ c.loop-least.invariant.left)))
 
@@ -128,7 +128,7 @@ loop-least-preserved-then-not-has g c =
     let at = (goal.at.loop-least-preserved-then-not-has g c).In-Some in
     let crowd = crowd_of (arc_value c.args.notes.now.remembered) in
     let prices = (arc_value c.args.notes.now.remembered).prices.items in
-    let asked : Inquiry =
+    let asked : Task =
     record { student = record { 0 = c.in-Some.first.1 }; version = 0; raised = Some (c.args.pair.0, record { 0 = leaves c.in-Some.first }) } in
     let told : sections_of c.in-Some-told.bundle
     ≡ demand_of crowd (price_in (slice_set prices c.args.pair.0.0 (record { 0 = leaves c.in-Some.first }))) c.in-Some.first.1 =

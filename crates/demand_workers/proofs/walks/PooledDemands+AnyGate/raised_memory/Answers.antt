@@ -10,8 +10,8 @@ use Rattle.demand_api.specs.declared.crowd.Crowd.{Crowd}
 use Rattle.demand_api.specs.Views.{data_of}
 use Rattle.demand_api.proofs.Parts.{students_length}
 use Rattle.demand_api.proofs.Takers.{lent_back}
-use Rattle.demand_workers.specs.declared.inquiry.Inquiry.{Inquiry}
-use Rattle.demand_workers.specs.Inquiring.{IsInquiry}
+use Rattle.price_board.specs.declared.round.Task.{Task}
+use Rattle.price_board.specs.Tasks.{IsTask}
 use Rattle.demand_api.specs.Asking.{ArePricesFor, RoseAtMost}
 use Rattle.demand_workers.specs.declared.remembered.Remembered.{Remembered}
 use Rattle.demand_workers.specs.Remembered.{AreTaken}
@@ -66,12 +66,12 @@ loop-place-preserved-in_default g c =
       len = c.loop-place.invariant.len;
       few = let longer = pushed_one c.loop-place.list.items _ _ c.in_ok-push.ensures.items in omega (arith, longer, c.loop-place.invariant.few);
       raised =
-          subst (All (λ (q : Inquiry). q.raised ≡ Some (c.args.walk.now.section, c.args.walk.now.least)))
-          (sym {A = List Inquiry} c.in_ok-push.ensures.items)
-          (All-push (λ (q : Inquiry). q.raised ≡ Some (c.args.walk.now.section, c.args.walk.now.least)) c.loop-place.list.items _
+          subst (All (λ (q : Task). q.raised ≡ Some (c.args.walk.now.section, c.args.walk.now.least)))
+          (sym {A = List Task} c.in_ok-push.ensures.items)
+          (All-push (λ (q : Task). q.raised ≡ Some (c.args.walk.now.section, c.args.walk.now.least)) c.loop-place.list.items _
           c.loop-place.invariant.raised refl);
-      asked = subst (All (IsInquiry (data_of crowd) 1)) (sym {A = List Inquiry} c.in_ok-push.ensures.items)
-          (All-push (IsInquiry (data_of crowd) 1) c.loop-place.list.items _ c.loop-place.invariant.asked
+      asked = subst (All (IsTask (data_of crowd) 1)) (sym {A = List Task} c.in_ok-push.ensures.items)
+          (All-push (IsTask (data_of crowd) 1) c.loop-place.list.items _ c.loop-place.invariant.asked
           (record {
             student = subst (λ n. (slice_index_or c.args.holders.now c.loop-place.place (0, 0)).1 < n) (sym (students_length crowd)) low;
             its_version = (let goal : 0 < 1 = omega arith in goal);
@@ -152,7 +152,7 @@ pub returns-clause-crowd : goal.returns-clause-crowd
 returns-clause-crowd g c = ap data_of c.in_ok-try_clone.ensures ∙ ap crowd_of c.deref-remembered.ensures
 
 -- at most one inquiry for each student
-few_asked : (remembered : Remembered) (s : ℕ) (hs : List (ℕ × ℕ)) (list : List Inquiry) (place before now : ℕ)
+few_asked : (remembered : Remembered) (s : ℕ) (hs : List (ℕ × ℕ)) (list : List Task) (place before now : ℕ)
     → AreLeft (crowd_of remembered) (price_before remembered) s (price_before remembered s) hs → length list ≤ place → place ≤ length hs
     → RoseAtMost (length list) before now → RoseAtMost (length (crowd_of remembered).students) before now
 few_asked remembered s hs list place before now left asked within rose =

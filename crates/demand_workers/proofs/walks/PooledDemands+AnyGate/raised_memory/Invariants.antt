@@ -1,7 +1,7 @@
 use Rattle.std.proofs.Common.{◌≡◌, ◌≤◌, Some, All, length}
 use Rattle.std.specs.Arc.{arc_value}
-use Rattle.demand_workers.specs.declared.inquiry.Inquiry.{Inquiry}
-use Rattle.demand_workers.specs.Inquiring.{IsInquiry}
+use Rattle.price_board.specs.declared.round.Task.{Task}
+use Rattle.price_board.specs.Tasks.{IsTask}
 use Rattle.demand_workers.specs.Views.{crowd_of}
 use Rattle.demand_workers.proofs.Raising.{AreRestKept}
 use Rattle.demand_workers.proofs.walks.PooledDemands+AnyGate.raised_memory.Given as goal
@@ -11,7 +11,7 @@ abbrev pub invariant-loop-place : goal.invariant-loop-place
 invariant-loop-place g l = record {
   len : length l.bundles.items ≡ length (arc_value l.walk.remembered).bundles.items;
   few : length l.list.items ≤ l.place;
-  raised : All (λ (q : Inquiry). q.raised ≡ Some (l.walk.section, l.walk.least)) l.list.items;
-  asked : All (IsInquiry (crowd_of (arc_value l.walk.remembered)) 1) l.list.items;
+  raised : All (λ (q : Task). q.raised ≡ Some (l.walk.section, l.walk.least)) l.list.items;
+  asked : All (IsTask (crowd_of (arc_value l.walk.remembered)) 1) l.list.items;
   kept : AreRestKept (crowd_of (arc_value l.walk.remembered)) l.bundles.items l.prices.items l.place l.holders l.list.items;
 }

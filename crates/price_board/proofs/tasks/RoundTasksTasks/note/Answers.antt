@@ -1,30 +1,28 @@
-use Rattle.std.proofs.Common.{◌<◌, arith, subst}
+use Rattle.std.proofs.Common.{◌∙◌, ◌<◌, arith, length, subst, sym}
 use Rattle.std.specs.Arc.{arc_value}
+use Rattle.std.specs.Prelude.{IfSome}
 use Rattle.task_board.specs.Marks.{answers_in}
-use Rattle.price_board.specs.Openings.{terms_of}
-use Rattle.price_board.proofs.Tallying.{may_note, noted_there, tally_small, unanswered_there}
+use Rattle.price_board.specs.Openings.{list_of, terms_of}
+use Rattle.price_board.proofs.Tallying.{may_note, noted_there, unanswered_there}
 use Rattle.price_board.proofs.tasks.RoundTasksTasks.note.Goals as goal
 
 pub with_bundle-requires : goal.with_bundle-requires
 with_bundle-requires c =
     let tasks = c.args.self.now in
-    let terms = terms_of (arc_value tasks.crowd) tasks.round in
-    let small =
-    tally_small terms tasks.tallies.items (answers_in c.args._marks.now) c.requires.noted c.version_of-version.result c.index-tally.result.now
-    (subst (λ n. c.version_of-version.result < n) tasks.tallied c.version_of-version.ensures.below) c.index-tally.ensures in (
-      may_note terms tasks.tallies.items (answers_in c.args._marks.now) c.requires.noted tasks.asked c.args.task c.version_of-version.result
-          c.index-tally.result.now c.index.result.now c.version_of-version.ensures.version c.version_of-version.ensures.below c.index-tally.ensures
-          c.index.ensures c.args.bundle c.requires.task
-          (unanswered_there terms c.args._marks.now c.args.task c.args.bundle c.requires.each c.requires.task c.requires.unanswered),
-      omega (arith, small.1, tasks.students_are, tasks.few_students),
-    )
+    let terms = terms_of (arc_value tasks.crowd) (arc_value tasks.round) in
+    let may =
+    may_note terms tasks.tallies.items (answers_in c.args._marks.now) c.args.task c.in-Some.version c.index-tally.result.now c.in-Some.ask
+    (subst (λ o. IfSome o (λ a. a.0 < length tasks.tallies.items)) c.in-Some.is c.asked_of.ensures.below) c.index-tally.ensures c.args.bundle
+    (unanswered_there terms c.args._marks.now c.args.task c.args.bundle c.requires.each c.requires.task c.requires.unanswered)
+    (list_of (arc_value tasks.round).list) c.requires.noted c.requires.task (sym c.in-Some.is ∙ c.asked_of.ensures.asked) in
+    (may.0, omega (arith, may.1, tasks.students_are, tasks.few_students))
 
-pub returns-clause-noted : goal.returns-clause-noted
-returns-clause-noted c =
+pub returns-in-Some-clause-noted : goal.returns-in-Some-clause-noted
+returns-in-Some-clause-noted c =
     let tasks = c.args.self.now in
-    let terms = terms_of (arc_value tasks.crowd) tasks.round in
-    noted_there terms tasks.tallies.items (answers_in c.args._marks.now) c.requires.noted tasks.asked c.args.task c.version_of-version.result
-    c.index-tally.result.now c.index.result.now c.version_of-version.ensures.version c.version_of-version.ensures.below c.index-tally.ensures
-    c.index.ensures c.args.bundle c.requires.task
-    (unanswered_there terms c.args._marks.now c.args.task c.args.bundle c.requires.each c.requires.task c.requires.unanswered) c.with_bundle.result
+    let terms = terms_of (arc_value tasks.crowd) (arc_value tasks.round) in
+    noted_there terms tasks.tallies.items (answers_in c.args._marks.now) c.args.task c.in-Some.version c.index-tally.result.now c.in-Some.ask
+    (subst (λ o. IfSome o (λ a. a.0 < length tasks.tallies.items)) c.in-Some.is c.asked_of.ensures.below) c.index-tally.ensures c.args.bundle
+    (unanswered_there terms c.args._marks.now c.args.task c.args.bundle c.requires.each c.requires.task c.requires.unanswered)
+    (list_of (arc_value tasks.round).list) c.with_bundle.result c.requires.noted c.requires.task (sym c.in-Some.is ∙ c.asked_of.ensures.asked)
     c.with_bundle.ensures

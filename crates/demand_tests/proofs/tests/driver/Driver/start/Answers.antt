@@ -4,6 +4,7 @@ use Rattle.std.specs.List.{All}
 use Rattle.demand_api.specs.declared.crowd.Crowd.{Crowd}
 use Rattle.demand_api.specs.Views.{data_of}
 use Rattle.demand_workers.specs.Rounds.{prices_of, AreVersionsFor}
+use Rattle.price_board.specs.declared.round.Round.{Round}
 use Rattle.price_board.specs.declared.terms.Terms.{Terms}
 use Rattle.price_board.specs.Openings.{IsAskOf, IsRound, terms_of}
 use Rattle.price_board.specs.Terms.{task_count}
@@ -24,9 +25,11 @@ start-requires-clause-round g c =
     let one : crowd.sections ≡ 1 = search rules in
     let same : arc_value c.in_ok-try_clone.field-0 ≡ crowd = search rules in
     let copied : prices_of c.args.round.versions.items ≡ prices_of versions = search rules in
-    subst (λ (x : Crowd). IsRound (terms_of x c.args.round)) (sym same)
+    let there : arc_value c.in_ok-round.round ≡ record { versions = c.args.round.versions; asks = c.args.round.asks; list = None } = search rules in
+    subst (λ (x : Round). IsRound (terms_of (arc_value c.in_ok-try_clone.field-0) x)) (sym there)
+    (subst (λ (x : Crowd). IsRound (terms_of x (record { versions = c.args.round.versions; asks = c.args.round.asks; list = None }))) (sym same)
     (versions_are_round crowd versions c.args.round.versions.items asks are some few many
-    (subst (λ (n : ℕ). All (IsAskOf n) asks) (sym one) among) copied)
+    (subst (λ (n : ℕ). All (IsAskOf n) asks) (sym one) among) copied))
 
 pub invariant_of-result : goal.invariant_of-result
 invariant_of-result g c =
@@ -39,15 +42,17 @@ invariant_of-result g c =
     let are : AreVersionsFor (data_of c.rivals-crowd.result) versions = search rules in
     let four : length c.rivals-crowd.result.menus.items ≡ 4 = search rules in
     let count : length seats ≡ c.args.workers = c.in_ok-board.ensures.begun.count in
-    let terms = c.in_ok-board.ensures.terms in
+    let there : arc_value c.in_ok-round.round ≡ record { versions = c.args.round.versions; asks = c.args.round.asks; list = None } = search rules in
+    let terms = c.in_ok-board.ensures.terms ∙ ap (terms_of (arc_value c.in_ok-try_clone.field-0)) there in
+    let each : board.base.list ≡ None = ap (λ (t : Terms). t.list) terms in
     let copied : prices_of c.args.round.versions.items ≡ prices_of versions = search rules in
     let its_crowd : board.base.crowd ≡ data_of crowd = ap (λ (t : Terms). t.crowd) terms ∙ ap data_of same in
     let its_versions : board.base.versions ≡ prices_of versions = ap (λ (t : Terms). t.versions) terms ∙ copied in
     let told : c.tasks_of-tasks.result ≡ length versions * 4 = search rules in
     let enough : c.tasks_of-tasks.result ≤ task_count board.base =
     subst (λ (n : ℕ). n ≤ task_count board.base) (sym told)
-    (tasks_of_four board crowd versions its_crowd its_versions (ap (λ (x : Crowd). length x.menus.items) kept ∙ four)) in
-    started board crowd versions c.tasks_of-tasks.result seats c.in_ok-notes.notes.items its_crowd its_versions
+    (tasks_of_four board crowd versions its_crowd its_versions each (ap (λ (x : Crowd). length x.menus.items) kept ∙ four)) in
+    started board crowd versions c.tasks_of-tasks.result seats c.in_ok-notes.notes.items its_crowd its_versions each
     (subst (λ (x : Crowd). AreVersionsFor (data_of x) versions) (sym kept) are) enough
     (c.in_ok-board.ensures.begun.allotments ∙ sym count)
     (λ n d low. c.in_ok-board.ensures.begun.numbers n d (subst (λ (k : ℕ). n < k) count low))
