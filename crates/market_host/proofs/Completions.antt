@@ -17,7 +17,7 @@ use Rattle.market_host.specs.declared.trouble.Trouble.{Trouble}
 use Rattle.market_host.specs.declared.trouble.Trouble.TheVariants as trouble
 use Rattle.market_host.specs.Completeness.{CanBeDone, EndsWork}
 use Rattle.market_host.specs.Inputs.{AreInOrder, AreTold, BeginWithCatalog, HasFault, IsInOrder, IsOfGrammar}
-use Rattle.market_host.specs.Kinds.{Kind, Catalog, Roll, Settings, Prices, Published, Session, kind_of, limit_of}
+use Rattle.market_words.specs.Kinds.{Kind, Catalog, Roll, Settings, Prices, Published, Session, kind_of, limit_of}
 use Rattle.market_host.specs.Outcomes.{IsOutcome, IsStopped}
 use Rattle.market_host.specs.Sights.{Sight}
 use Rattle.market_host.specs.Statuses.{status_of}

@@ -22,7 +22,7 @@ use Rattle.market_host.specs.declared.trouble.Trouble.{Trouble}
 use Rattle.market_host.specs.declared.trouble.Trouble.TheVariants as stops
 use Rattle.market_host.specs.Confirmations.{Confirms, RunIsConfirmed}
 use Rattle.market_host.specs.Inputs.{AreInOrder, AreRead, AreTold, HasFault}
-use Rattle.market_host.specs.Kinds.{kind_of}
+use Rattle.market_words.specs.Kinds.{kind_of}
 use Rattle.market_host.specs.Outcomes.{IsOutcome, IsStopped, Prints, TellsFinding, TellsNoName, TellsNoPrices}
 use Rattle.market_host.specs.Markets.{IsMarketOf}
 use Rattle.market_host.specs.Sessions.{AreStreams, session_text}

@@ -1,13 +1,20 @@
 -- The prices of `demand`, and what it prints.
-use Rattle.std.proofs.Common.{ℕ, ◌≡◌, List, [], ◌∷◌, ◌++◌, length, map, arith, ap, sym, subst, ◌∙◌, refl}
-use Rattle.std.specs.Prelude.{Result, Ok, Err}
+use Rattle.std.proofs.Common.{ℕ, ◌≡◌, List, [], ◌∷◌, length, map, arith, ap, refl, sym, subst, ◌∙◌, Global}
+use Rattle.std.specs.Prelude.{Result, Ok, Err, Vec}
 use Rattle.std.proofs.lemmas.List.{length-map}
 use Rattle.course_catalog.specs.Catalog.{CatalogData}
 use Rattle.course_catalog.specs.Sections.{Section, section_names}
 use Rattle.demand_api.specs.Crowds.{CrowdData}
+use Rattle.market_edge.specs.declared.shelf.Shelf as Shelf
+use Rattle.market_words.specs.Kinds.{Prices}
+use Rattle.market_host.specs.declared.inputs.Inputs.{Inputs}
+use Rattle.market_host.specs.declared.said.Market.{Market as Said}
+use Rattle.market_host.specs.Inputs.{BeginWithCatalog}
+use Rattle.market_host.specs.Markets.{SayMarket}
+use Rattle.market_host.specs.Said.{market_said}
+use Rattle.market_host.specs.Taking.{AreTaken, HasRead, TakesMarket, TakesNext, TakesRest}
 use Rattle.demand_text.specs.Taken.{TakenData, taken_at}
 use Rattle.demand_text.specs.Texts.{demand_text}
-use Rattle.market_edge.specs.declared.shelf.Shelf as Shelf
 use Rattle.market_crowd.specs.Crowds.{IsCrowdOf}
 use Rattle.market_settings.specs.declared.reader.Settings.{Settings as SettingsData}
 use Rattle.market_units.specs.declared.units.Tokens.{Tokens}
@@ -27,13 +34,7 @@ use Rattle.published_parts.specs.Markets.{Market, market_of}
 use Rattle.student_roll.specs.Students.{RollData}
 use Rattle.utility_language.specs.declared.commands.Command.{Command}
 use Rattle.market_host.specs.declared.status.Status.TheVariants.{Done}
-use Rattle.market_host.specs.declared.trouble.Trouble.{Trouble}
-use Rattle.market_host.specs.Inputs.{BeginWithCatalog}
-use Rattle.market_host.specs.Kinds.{Prices}
-use Rattle.market_host.specs.Markets.{AreMarket}
-use Rattle.market_host.specs.Taking.{AreTaken, IsTaken, OneStops, Stops}
-use Rattle.market_host.specs.Works.{Ends, EndsFor}
-use Rattle.market_host.proofs.Taking.{one_stops, one_taken}
+use Rattle.market_host.specs.Works.{EndsFor}
 
 as_many : (sections : List Section) (prices : List Tokens) (read : Result (TableData Priced) PriceRefusal)
     → (read >>= (λ rows. Ok (map (price_listed rows.rows) (section_names sections)))) ≡ Ok (map (λ price. price.0) prices)
@@ -49,36 +50,29 @@ pub prices_length : (sections : List Section) (text : List ℕ) (prices : List T
     → length prices ≡ length sections
 prices_length sections text prices is = as_many sections prices (reading (price_rules (section_names sections)) (records_of text)) is
 
--- the prices are taken behind the market, or they stop the call
-module _ {H : Type 0} (shelf : Shelf.Ghosts H) (workers : ℕ) (s0 s1 s2 : H) (a b c d : List ℕ) (market : Market)
-    (said : (texts : List (List ℕ)) × AreTaken shelf (Demand workers) (a ∷ b ∷ c ∷ []) texts s0 s1 × AreMarket texts market []) where
-  begins : BeginWithCatalog said.0 market.catalog
-  begins = subst (λ (all : List (List ℕ)). BeginWithCatalog all market.catalog) (sym said.2.are) said.2.catalog_says
-
-  pub prices_stop : (later : List (List ℕ)) (stop : Trouble) → Stops shelf Prices d 4 (λ texts. BeginWithCatalog texts market.catalog) s1 s2 stop
-      → OneStops shelf (Demand workers) (a ∷ b ∷ c ∷ d ∷ later) s0 s2 stop
-  prices_stop later stop stops =
-      one_stops shelf (Demand workers) s0 s1 s2 (a ∷ b ∷ c ∷ []) said.0 said.1 Prices d 4 (λ texts. BeginWithCatalog texts market.catalog) later stop refl
-      refl begins stops
-
-  pub prices_taken : (listed : List Tokens)
-      → (one : IsTaken shelf Prices d (λ text. prices_of market.catalog.sections text ≡ Ok (map (λ price. price.0) listed)) s1 s2)
-      → (texts : List (List ℕ)) × AreTaken shelf (Demand workers) (a ∷ b ∷ c ∷ d ∷ []) texts s0 s2 × AreMarket texts market (one.text ∷ [])
-  prices_taken listed one = (
-    said.0 ++ one.text ∷ [],
-    one_taken shelf (Demand workers) s0 s1 s2 (a ∷ b ∷ c ∷ []) said.0 said.1 Prices d
-        (λ text. prices_of market.catalog.sections text ≡ Ok (map (λ price. price.0) listed)) refl (omega arith) one
-        (market.catalog, map (λ price. price.0) listed, begins, one.says),
-    record {
-      catalog = said.2.catalog;
-      roll = said.2.roll;
-      settings = said.2.settings;
-      are = ap (λ (all : List (List ℕ)). all ++ one.text ∷ []) said.2.are;
-      catalog_says = said.2.catalog_says;
-      roll_says = said.2.roll_says;
-      settings_say = said.2.settings_say;
-    },
-  )
+-- the market, the prices and the sessions are taken
+pub demand_read : {H A : Type 0} (shelf : Shelf.Ghosts H) (workers : ℕ) (names : List (List ℕ)) (s0 s1 s2 s3 : H) (i0 i1 i2 : Inputs) (market : Said)
+    (prices : Vec Tokens Global) (streams : A) (P : List (List ℕ) → A → Type 0) → HasRead shelf (Demand workers) names i0 [] s0 s0
+    → TakesMarket shelf i0 i1 s0 s1 (Ok market)
+    → TakesNext shelf Prices (λ texts. BeginWithCatalog texts market.catalog)
+    (λ text listed. prices_of market.catalog.sections text ≡ Ok (map (λ (price : Tokens). price.0) listed.items)) i1 i2 s1 s2 (Ok prices)
+    → TakesRest shelf P i2 s2 s3 (Ok streams)
+    → (catalog : List ℕ) × (roll : List ℕ) × (settings : List ℕ) × (listed : List ℕ) × (sessions : List (List ℕ))
+    × AreTaken shelf (Demand workers) names (catalog ∷ roll ∷ settings ∷ listed ∷ sessions) s0 s3
+    × SayMarket catalog roll settings (market_said market)
+    × (prices_of market.catalog.sections listed ≡ Ok (map (λ (price : Tokens). price.0) prices.items)) × P sessions streams
+demand_read shelf workers names s0 s1 s2 s3 i0 i1 i2 market prices streams P begun first next rest =
+    demand_rest (first (Demand workers) names s0 (Prices ∷ [], refl) begun) where
+      demand_rest : ((catalog : List ℕ) × (roll : List ℕ) × (settings : List ℕ)
+          × HasRead shelf (Demand workers) names i1 (catalog ∷ roll ∷ settings ∷ []) s0 s1 × SayMarket catalog roll settings (market_said market))
+          → (catalog : List ℕ) × (roll : List ℕ) × (settings : List ℕ) × (listed : List ℕ) × (sessions : List (List ℕ))
+          × AreTaken shelf (Demand workers) names (catalog ∷ roll ∷ settings ∷ listed ∷ sessions) s0 s3
+          × SayMarket catalog roll settings (market_said market)
+          × (prices_of market.catalog.sections listed ≡ Ok (map (λ (price : Tokens). price.0) prices.items)) × P sessions streams
+      demand_rest (catalog, roll, settings, has, say) =
+          let listed = next (Demand workers) names (catalog ∷ roll ∷ settings ∷ []) s0 refl (omega arith) say.catalog_says has in
+          let all = rest (Demand workers) names (catalog ∷ roll ∷ settings ∷ listed.0 ∷ []) s0 refl listed.1 in
+          (catalog, roll, settings, listed.0, all.0, all.1, say, listed.2, all.2)
 
 -- the order and what the crowd takes at what the inputs say are printed
 pub demand_done : (workers : ℕ) (market : Market) (streams : List (List Command)) (prices : List ℕ) (listed : List Tokens) (text : List ℕ)
@@ -87,25 +81,24 @@ pub demand_done : (workers : ℕ) (market : Market) (streams : List (List Comman
     × (crowd : CrowdData) × IsCrowdIn market journal crowd
     × (text ≡ demand_text market.catalog.sections market.roll.students journal (taken_at crowd (map (λ (section : Section). section.seats) market.catalog.sections) listed)))
     → EndsFor (Demand workers) market (prices ∷ []) streams Done text
-demand_done workers market streams prices listed text priced (journal, legal, merges, crowd, closing, told) texts said =
-    subst (λ (all : List (List ℕ)). Ends (Demand workers) all Done text) (sym said.are) (record {
-      offered = market.catalog;
-      enrolled = market.roll;
-      journal = journal;
-      held = record {
-        catalog_says = said.say.catalog_says;
-        roll_says = said.say.roll_says;
-        legal = legal;
-        merged = (streams, said.say.sessions_say, merges);
-      };
-      rules = market.settings;
-      settings_say = said.say.settings_say;
-      listed = listed;
-      prices_say = priced;
-      crowd = crowd;
-      closing = closing;
-      told = told;
-    })
+demand_done workers market streams prices listed text priced (journal, legal, merges, crowd, closing, told) catalog roll settings sessions say = record {
+  offered = market.catalog;
+  enrolled = market.roll;
+  journal = journal;
+  held = record {
+    catalog_says = say.catalog_says;
+    roll_says = say.roll_says;
+    legal = legal;
+    merged = (streams, say.sessions_say, merges);
+  };
+  rules = market.settings;
+  settings_say = say.settings_say;
+  listed = listed;
+  prices_say = priced;
+  crowd = crowd;
+  closing = closing;
+  told = told;
+}
 
 -- what is told of a desk's journal and of what its crowd takes is told of the one journal that was held
 pub told_whole : (offered : CatalogData) (enrolled : RollData) (rules : SettingsData) (names : DeskNames) (wanted : List StudentPreferences)

@@ -29,7 +29,7 @@ use Rattle.market_host.specs.declared.status.Status.{Status}
 use Rattle.market_host.specs.declared.status.Status.TheVariants.{Done, Usage, ShelfFault, Refused, TooLong, NoPrices, Found, Unknown, SinkFault, OutOfMemory}
 use Rattle.market_host.specs.Explains.{IsAmong, IsFirstUnknown, IsNameAt, IsReasonEnd, IsReasonOf}
 use Rattle.market_host.specs.Lines.{unknown_line}
-use Rattle.market_host.specs.Works.{Ends, EndsFor}
+use Rattle.market_host.specs.Works.{EndsFor}
 
 -- a reason that leaves a bundle is not that the section is held
 not_held : (reason : Reason) → tells_best reason ≡ true → stage Held < stage reason
@@ -112,16 +112,13 @@ unknown_end market streams published student section word status line is told fi
 pub explain_ended : (market : Market) (streams : List (List Command)) (published : List ℕ) (student section : Name) (status : Status) (line : List ℕ)
     → IsReasonEnd market streams published (name_bytes student) (name_bytes section) status line
     → EndsFor (Explain student section) market (published ∷ []) streams status line
-explain_ended market streams published student section Done line is texts said =
-    subst (λ (all : List (List ℕ)). Ends (Explain student section) all Done line) (sym said.are) (market, streams, said.say, is)
-explain_ended market streams published student section (Found finding) line is texts said =
-    subst (λ (all : List (List ℕ)). Ends (Explain student section) all (Found finding) line) (sym said.are) (market, streams, said.say, is)
-explain_ended market streams published student section (Unknown word) line is texts said =
-    subst (λ (all : List (List ℕ)). Ends (Explain student section) all (Unknown word) line) (sym said.are) (market, streams, said.say, is)
-explain_ended market streams published student section Usage line is texts said = absurd is
-explain_ended market streams published student section (ShelfFault n) line is texts said = absurd is
-explain_ended market streams published student section (Refused n row cause) line is texts said = absurd is
-explain_ended market streams published student section (TooLong n) line is texts said = absurd is
-explain_ended market streams published student section (NoPrices least) line is texts said = absurd is
-explain_ended market streams published student section SinkFault line is texts said = absurd is
-explain_ended market streams published student section OutOfMemory line is texts said = absurd is
+explain_ended market streams published student section Done line is catalog roll settings sessions say = (market, streams, say, is)
+explain_ended market streams published student section (Found finding) line is catalog roll settings sessions say = (market, streams, say, is)
+explain_ended market streams published student section (Unknown word) line is catalog roll settings sessions say = (market, streams, say, is)
+explain_ended market streams published student section Usage line is catalog roll settings sessions say = absurd is
+explain_ended market streams published student section (ShelfFault n) line is catalog roll settings sessions say = absurd is
+explain_ended market streams published student section (Refused n row cause) line is catalog roll settings sessions say = absurd is
+explain_ended market streams published student section (TooLong n) line is catalog roll settings sessions say = absurd is
+explain_ended market streams published student section (NoPrices least) line is catalog roll settings sessions say = absurd is
+explain_ended market streams published student section SinkFault line is catalog roll settings sessions say = absurd is
+explain_ended market streams published student section OutOfMemory line is catalog roll settings sessions say = absurd is

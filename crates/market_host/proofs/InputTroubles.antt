@@ -8,14 +8,13 @@ use Rattle.std.proofs.lemmas.Slice.Zip.{AllZip-long}
 use Rattle.std.proofs.lemmas.List.Elements.{AllZip-push}
 use Rattle.market_edge.specs.Holdings.{Holding, IsTextOf, TakesExactly}
 use Rattle.market_words.specs.declared.words.Form.{Form}
-use Rattle.market_host.specs.declared.cause.Cause.{Cause}
 use Rattle.market_host.specs.declared.trouble.Trouble.{Trouble}
 use Rattle.market_host.specs.declared.trouble.Trouble.TheVariants.{ShelfFault, Refused, TooLong, OutOfMemory}
-use Rattle.market_host.specs.Inputs.{AreInOrder, AreRead, HasFault, IsInOrder, IsOfGrammar, commands_among, commands_in}
-use Rattle.market_host.specs.Kinds.{Kind, front_of, kind_of, limit_of, streams_of}
-use Rattle.market_host.specs.Reading.{IsRefusal, IsUnread}
+use Rattle.market_host.specs.Inputs.{AreInOrder, AreRead, IsInOrder, IsOfGrammar, commands_among, commands_in}
+use Rattle.market_words.specs.Kinds.{Kind, front_of, kind_of, limit_of, streams_of}
+use Rattle.market_host.specs.Reading.{IsUnread}
 use Rattle.market_host.specs.Sights.{Sight}
-use Rattle.market_host.specs.Troubles.{AtInput, HasSurplus, HasTrouble, IsAtEnd, IsFailed, IsFaulty, IsPastLimit}
+use Rattle.market_host.specs.Troubles.{AtInput, HasSurplus, HasTrouble, IsFailed, IsPastLimit}
 use Rattle.market_host.proofs.Shelves.{seen_from}
 
 -- texts in order, and one more behind them
@@ -44,21 +43,14 @@ pub kind_at : (form : Form) (held : Option Holding) (names texts : List (List �
     → kind_of form (length names) ≡ kind → kind_of form (length texts) ≡ kind
 kind_at form held names texts kind read is = ap (kind_of form) (texts_long form held names texts read) ∙ is
 
--- an input in front of the streams was read: it is within its limit of bytes and of its grammar
-pub front_read : (form : Form) (held : Option Holding) (names texts : List (List ℕ)) (name text : List ℕ) (kind : Kind) → AreRead form held names texts
-    → kind_of form (length names) ≡ kind
-    → length names < length (front_of form) → IsTextOf held name text → length text ≤ limit_of kind → IsOfGrammar kind texts text
-    → AreRead form held (names ++ name ∷ []) (texts ++ text ∷ [])
-front_read form held names texts name text kind read is front whole within grammar =
-    let of = sym (kind_at form held names texts kind read is) in
+-- an input in front of the streams that is within its limit of bytes and of its grammar is in order
+pub front_in_order : (form : Form) (kind : Kind) (texts : List (List ℕ)) (text : List ℕ) → kind_of form (length texts) ≡ kind
+    → length texts < length (front_of form) → length text ≤ limit_of (kind_of form (length texts)) → IsOfGrammar kind texts text → IsInOrder form texts text
+front_in_order form kind texts text is front within grammar =
     let none : drop (length (front_of form)) (texts ++ text ∷ []) ≡ [] =
-    drop_of_length-le (texts ++ text ∷ []) (omega (arith, length-append texts (text ∷ []), texts_long form held names texts read)) in
+    drop_of_length-le (texts ++ text ∷ []) (omega (arith, front, length-append texts (text ∷ []))) in
     let free : commands_among form (texts ++ text ∷ []) ≡ 0 = ap (total (commands_in (streams_of form))) none in
-    read_more form held names texts name text read whole (record {
-      within = subst (λ k. length text ≤ limit_of k) of within;
-      room = omega (arith, free);
-      grammar = subst (λ k. IsOfGrammar k texts text) of grammar;
-    })
+    record { within = within; room = omega (arith, free); grammar = subst (λ k. IsOfGrammar k texts text) (sym is) grammar }
 
 -- no input was read yet
 pub none_read : (form : Form) (held : Option Holding) → AreRead form held [] []
@@ -81,20 +73,6 @@ module _ (form : Form) (seen : Sight) (earlier texts later : List (List ℕ)) (n
       (inl (subst (λ k. TakesExactly (limit_of k + 1) seen.held name seen.left) (sym (kind_at form seen.held earlier texts kind read of)) unread.1))
   trouble_of_unread kind OutOfMemory of unread = tt
   trouble_of_unread kind (Refused n row cause) of unread = absurd unread
-
-  -- an input of this kind that was read to its end and is refused
-  pub trouble_of_refusal : (kind : Kind) (IsSo : ℕ → Cause → Type 0) (text : List ℕ) (trouble : Trouble) → kind_of form (length earlier) ≡ kind
-      → IsAtEnd seen name → IsTextOf seen.held name text
-      → length text ≤ limit_of kind → ((row : ℕ) (cause : Cause) → IsSo row cause → HasFault kind texts row cause text) → IsRefusal IsSo number trouble
-      → HasTrouble form seen (earlier ++ name ∷ later) trouble
-  trouble_of_refusal kind IsSo text (Refused n row cause) of ended whole within fault refusal =
-      let faulty =
-      subst (λ k. (length text ≤ limit_of k) × HasFault k texts row cause text) (sym (kind_at form seen.held earlier texts kind read of))
-      (within, fault row cause refusal.1) in
-      at_input n (IsFaulty form seen row cause) refusal.0 (ended, text, whole, faulty.0, faulty.1)
-  trouble_of_refusal kind IsSo text OutOfMemory of ended whole within fault refusal = tt
-  trouble_of_refusal kind IsSo text (ShelfFault n) of ended whole within fault refusal = absurd refusal
-  trouble_of_refusal kind IsSo text (TooLong n) of ended whole within fault refusal = absurd refusal
 
 failed_before : (limit : ℕ) (seen : Sight) (before : List ℕ → ℕ) (name : List ℕ) → ((other : List ℕ) → before other ≤ seen.before other)
     → IsFailed limit seen name → IsFailed limit (seen_from seen.held before seen) name

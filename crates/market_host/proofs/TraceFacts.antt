@@ -8,7 +8,6 @@ use Rattle.market_host.specs.declared.cause.Cause.{Cause}
 use Rattle.market_host.specs.declared.trouble.Trouble.{Trouble}
 use Rattle.market_host.specs.declared.trouble.Trouble.TheVariants.{ShelfFault, Refused, TooLong, OutOfMemory}
 use Rattle.market_host.specs.Statuses.{status_of}
-use Rattle.market_host.specs.Reading.{IsRefusal, IsSurplus}
 use Rattle.market_host.specs.Traces.{AreReadOut, AreReadTo, AreReadUntil, AreUsed, CountsStand, IsLastBegun, Trace, only_begun, trace, with_begun_too}
 
 changes_by : (old new : Option (List Opening)) (change other : List Opening → List Opening) → ((openings : List Opening) → change openings ≡ other openings)
@@ -141,22 +140,16 @@ module _ {H : Type 0} (shelf : Shelf.Ghosts H) where
   until_no_room a b name number false same begins = until_begun a b name number false OutOfMemory same (omega arith) begins
 
   -- an input is read to its end, and refused
-  pub until_refused : (a b : H) (name : List ℕ) (number : ℕ) (IsSo : ℕ → Cause → Type 0) (stop : Trouble) → AreReadOut (trace shelf a b) (name ∷ [])
-      → IsRefusal IsSo number stop → AreReadUntil (trace shelf a b) (name ∷ []) number stop
-  until_refused a b name number IsSo (Refused n row cause) p refusal =
-      (p.0, name ∷ [], [], [], refl, (omega (arith, refusal.0), refl), changes_by (shelf.shows a).openings (shelf.shows b).openings _ _ (begun_none (name ∷ [])) p.1)
-  until_refused a b name number IsSo OutOfMemory p refusal = until_memory a b (name ∷ []) number p
-  until_refused a b name number IsSo (ShelfFault n) p refusal = absurd refusal
-  until_refused a b name number IsSo (TooLong n) p refusal = absurd refusal
+  pub until_refused : (a b : H) (name : List ℕ) (number row : ℕ) (cause : Cause) → AreReadOut (trace shelf a b) (name ∷ [])
+      → AreReadUntil (trace shelf a b) (name ∷ []) number (Refused number row cause)
+  until_refused a b name number row cause p =
+      (p.0, name ∷ [], [], [], refl, (omega arith, refl), changes_by (shelf.shows a).openings (shelf.shows b).openings _ _ (begun_none (name ∷ [])) p.1)
 
   -- a session is read to its end, and has too many commands
-  pub until_surplus : (a b : H) (name text : List ℕ) (room number : ℕ) (stop : Trouble) → AreReadOut (trace shelf a b) (name ∷ [])
-      → IsSurplus text room number stop → AreReadUntil (trace shelf a b) (name ∷ []) number stop
-  until_surplus a b name text room number (TooLong n) p surplus =
-      (p.0, name ∷ [], [], [], refl, (omega (arith, surplus.0), omega arith), changes_by (shelf.shows a).openings (shelf.shows b).openings _ _ (begun_none (name ∷ [])) p.1)
-  until_surplus a b name text room number OutOfMemory p surplus = until_memory a b (name ∷ []) number p
-  until_surplus a b name text room number (ShelfFault n) p surplus = absurd surplus
-  until_surplus a b name text room number (Refused n row cause) p surplus = absurd surplus
+  pub until_surplus : (a b : H) (name : List ℕ) (number : ℕ) → AreReadOut (trace shelf a b) (name ∷ [])
+      → AreReadUntil (trace shelf a b) (name ∷ []) number (TooLong number)
+  until_surplus a b name number p =
+      (p.0, name ∷ [], [], [], refl, (omega arith, omega arith), changes_by (shelf.shows a).openings (shelf.shows b).openings _ _ (begun_none (name ∷ [])) p.1)
 
 -- what stops a call, by its status
 pub stopped_used : (words : List (List ℕ)) (seen : Trace) (stop : Trouble) → AreReadTo words seen stop → AreUsed words seen (status_of stop)

@@ -14,7 +14,7 @@ use Rattle.market_units.specs.Totals.{total}
 use Rattle.market_words.specs.declared.words.Form.{Form}
 use Rattle.market_host.specs.declared.cause.Cause.{Cause}
 use Rattle.market_host.specs.Marks.{without_mark}
-use Rattle.market_host.specs.Kinds.{Kind, Catalog, Roll, Settings, Prices, Published, Session, front_of, kind_of, limit_of, streams_of}
+use Rattle.market_words.specs.Kinds.{Kind, Catalog, Roll, Settings, Prices, Published, Session, front_of, kind_of, limit_of, streams_of}
 use Rattle.market_host.specs.Refusals.{AreNoPrices, AreNoSettings, IsNoCatalog, IsNoRoll}
 use Rattle.market_host.specs.Sessions.{command_count}
 

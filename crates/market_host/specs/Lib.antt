@@ -9,7 +9,6 @@ pub mod Ends
 pub mod Explains
 pub mod Halls
 pub mod Inputs
-pub mod Kinds
 pub mod Lines
 pub mod Makes
 pub mod Markets

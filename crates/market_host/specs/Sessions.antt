@@ -1,5 +1,6 @@
 -- What a session says.
-use Rattle.std.specs.Prelude.{ℕ, List, length}
+use Rattle.std.specs.Prelude.{ℕ, List, Vec, length, map}
+use Rattle.std.proofs.Common.{Global}
 use Rattle.std.specs.List.{AllZip}
 use Rattle.utility_language.specs.declared.commands.Command.{Command}
 use Rattle.utility_language.specs.Commands.{AreCommands, command_lines}
@@ -24,3 +25,9 @@ AreItems IsItemOf sessions streams =
 abbrev pub AreStreams : List (List ℕ) → List (List Command) → Type 0
 AreStreams sessions streams =
     AllZip (λ session commands. AreCommands (session_text session) commands) sessions streams
+
+-- the same of streams that are kept as vectors
+abbrev pub AreItemsOf : {A : Type 0} → (List (List ℕ) → A → Type 0) → List (List ℕ)
+    → List (Vec A Global) → Type 0
+AreItemsOf IsItemOf sessions streams =
+    AreItems IsItemOf sessions (map (λ (stream : Vec _ Global). stream.items) streams)

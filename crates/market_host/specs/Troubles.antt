@@ -8,7 +8,7 @@ use Rattle.market_host.specs.declared.cause.Cause.{Cause}
 use Rattle.market_host.specs.declared.trouble.Trouble.{Trouble}
 use Rattle.market_host.specs.declared.trouble.Trouble.TheVariants.{ShelfFault, Refused, TooLong, OutOfMemory}
 use Rattle.market_host.specs.Inputs.{AreRead, HasFault, commands_among}
-use Rattle.market_host.specs.Kinds.{kind_of, limit_of}
+use Rattle.market_words.specs.Kinds.{kind_of, limit_of}
 use Rattle.market_host.specs.Sights.{Sight}
 
 -- the shelf serves this name, as it does from the begin of its text on, and nothing of the begun

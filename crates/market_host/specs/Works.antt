@@ -1,20 +1,15 @@
 -- What a form answers, once it has the names of its inputs.
-use Rattle.std.specs.Prelude.{ℕ, ◌≡◌, ◌≤◌, List, ◌∷◌, ◌++◌, length, map, Ok, Result, String, ⊤}
-use Rattle.std.proofs.Common.{Global}
-use Rattle.std.specs.String.{string_bytes}
-use Rattle.market_units.specs.declared.limits.TheConstants.{MAX_SESSIONS}
+use Rattle.std.specs.Prelude.{ℕ, ◌≡◌, List, ◌∷◌, ◌++◌, Ok, Result}
 use Rattle.market_edge.specs.declared.shelf.Shelf as Shelf
 use Rattle.market_words.specs.declared.words.Form.{Form}
-use Rattle.market_words.specs.declared.words.Form.TheVariants.{Hall, Make}
-use Rattle.market_words.specs.Forms.{HasForm, inputs_of}
+use Rattle.market_words.specs.declared.words.Form.TheVariants.{Hall}
 use Rattle.market_host.specs.declared.ended.Ended.{Ended}
 use Rattle.market_host.specs.declared.status.Status.{Status}
 use Rattle.market_host.specs.declared.status.Status.TheVariants.{Done, NoPrices, Found, Unknown}
 use Rattle.market_host.specs.declared.trouble.Trouble.{Trouble}
 use Rattle.market_host.specs.Endings.{bytes_of}
-use Rattle.market_host.specs.Kinds.{front_of}
 use Rattle.market_host.specs.Outcomes.{Prints, TellsFinding, TellsNoName, TellsNoPrices}
-use Rattle.market_host.specs.Markets.{AreInputs}
+use Rattle.market_host.specs.Markets.{IsMarketOf}
 use Rattle.market_host.specs.Requests.{AreRequestStreams}
 use Rattle.market_host.specs.Taking.{TakesAll}
 use Rattle.course_catalog.specs.Catalog.{CatalogData}
@@ -24,25 +19,6 @@ use Rattle.student_roll.specs.Rolls.{roll_of}
 use Rattle.student_roll.specs.Students.{RollData}
 use Rattle.published_parts.specs.Markets.{Market}
 use Rattle.utility_language.specs.declared.commands.Command.{Command}
-
--- the names in front of streams, and behind them those of the streams
-abbrev pub names_in : List (String Global) → List (String Global) → List (List ℕ)
-names_in front streams = map string_bytes front ++ map string_bytes streams
-
--- a form has inputs: all but `make` have
-abbrev pub HasInputs : Form → Type 0
-HasInputs (Make workers seed students sections accept) = ⊥
-HasInputs form = ⊤
-
--- The words ask for this form, and these are the words among them that name its inputs: those in
--- front of its streams, and those of its streams.
-pub record AreNamesOf (words : List (List ℕ)) (form : Form) (front streams : List (String Global))
-    : Type 0 where
-  pub has : HasForm words form
-  pub named : inputs_of form words ≡ names_in front streams
-  pub front_long : length front ≡ length (front_of form)
-  pub some : 1 ≤ length streams
-  pub few : length streams ≤ MAX_SESSIONS
 
 -- what is written at a status with which the work of a form ends whose inputs have these texts
 abbrev pub Ends : Form → List (List ℕ) → Status → List ℕ → Type 0
@@ -60,11 +36,13 @@ IsAnswer shelf form names old new result =
     TakesAll shelf form names (λ texts ended. Ends form texts ended.status (bytes_of ended.output))
     old new result
 
--- The work of a form is ended so, whatever texts say this market, these more behind it, and these
--- streams.
+-- The work of a form is ended so, whatever texts say this market and these streams, and with these
+-- texts between them.
 abbrev pub EndsFor : Form → Market → List (List ℕ) → List (List Command) → Status → List ℕ → Type 0
 EndsFor form market more streams status text =
-    (texts : List (List ℕ)) → AreInputs texts market more streams → Ends form texts status text
+    (catalog roll settings : List ℕ) (sessions : List (List ℕ))
+    → IsMarketOf catalog roll settings sessions market streams
+    → Ends form (catalog ∷ roll ∷ settings ∷ (more ++ sessions)) status text
 
 -- The work of `hall` is ended so, whatever texts say this catalogue, this roll, this published text
 -- and these streams of requests.

@@ -2,17 +2,18 @@
 ghost use Rattle.std.specs.Prelude.{List, ℕ, [], ◌∷◌, IfOk};
 ghost use Rattle.session_hall.specs.Streams.{command_lists};
 ghost use Rattle.market_host.specs.{Endings.bytes_of, Said.market_said};
-ghost use Rattle.market_host.specs.Works.{AreNamesOf, EndsFor, IsAnswer, names_in};
+ghost use Rattle.market_host.specs.Works.{EndsFor, IsAnswer};
+ghost use Rattle.market_words.specs.Inputs.{IsCall, names_in};
 
 use crate::ended::{Ended, told_end};
-use crate::names::InputNames;
-use crate::published::{Published, take_published};
+use crate::inputs::Inputs;
+use crate::said::Published;
 use crate::trouble::Trouble;
 use crate::workers::Workers;
 use fairness_audit::published_audit;
 use market_edge::{Gate, Passed, Shelf};
 use market_units::NoMemory;
-use market_words::Form;
+use market_words::{Call, Form};
 use std::alloc::Global;
 use std::sync::Wait;
 use std::thread::Threads;
@@ -22,17 +23,18 @@ use std::thread::Threads;
 pub fn audit<R: Threads + Wait + Sync, H: Shelf>(
     rt: &R,
     alloc: Global,
-    names: InputNames,
+    call: Call,
     workers: u16,
     shelf: &mut H,
     gate: &(dyn Gate + Sync),
 ) -> Result<Ended, Trouble>
     requires named { (words : List (List ℕ))
-        × AreNamesOf words (Form.Audit workers) names.front.now names.streams.now }
-    ensures { IsAnswer H.Shelf (Form.Audit workers)
-        (names_in names.entry.front.now names.entry.streams.now) shelf.old shelf.new result }
+        × IsCall words (Form.Audit workers) call }
+    ensures { IsAnswer H.Shelf (Form.Audit workers) (names_in call.entry) shelf.old shelf.new
+        result }
 {
-    let published = take_published(alloc, names, shelf)?;
+    let mut inputs = Inputs::of(call);
+    let published = inputs.published(alloc, shelf)?;
     let workers = Workers { number: workers };
     let ended = audited(rt, alloc, workers, published, gate)?;
     Ok(ended)

@@ -1,7 +1,7 @@
 // The catalogue of a call.
 ghost use Rattle.std.specs.Prelude.{◌≡◌, Ok, refl, ⊤};
 ghost use Rattle.course_catalog.specs.{Reading.catalog_of, Refusal.TellsRefusal};
-ghost use Rattle.market_host.specs.Kinds as kinds;
+ghost use Rattle.market_words.specs.Kinds as kinds;
 ghost use Rattle.market_host.specs.{Reading.IsRefusal, Refusals.IsNoCatalog};
 
 use crate::Cause;
@@ -33,6 +33,8 @@ impl Input for Catalog {
     }
 
     ghost within = { refl };
+
+    ghost grammar = { λ earlier text said is. (said, is) };
 
     ghost faults = { λ earlier text row cause is. is };
 }

@@ -2,29 +2,30 @@
 ghost use Rattle.std.specs.Prelude.{List, ℕ, [], ◌∷◌, IfOk};
 ghost use Rattle.session_hall.specs.Streams.{command_lists};
 ghost use Rattle.market_host.specs.{Endings.bytes_of, Said.market_said};
-ghost use Rattle.market_host.specs.Works.{AreNamesOf, EndsFor, IsAnswer, names_in};
+ghost use Rattle.market_host.specs.Works.{EndsFor, IsAnswer};
+ghost use Rattle.market_words.specs.Inputs.{IsCall, names_in};
 
 use crate::Status;
 use crate::ended::{Ended, Output};
+use crate::inputs::Inputs;
 use crate::line::accepted;
-use crate::names::InputNames;
-use crate::published::{Published, take_published};
+use crate::said::Published;
 use crate::trouble::Trouble;
 use certificate_checker::{CheckEnd, check_owned, finding_line};
 use market_edge::Shelf;
 use market_units::NoMemory;
-use market_words::Form;
+use market_words::{Call, Form};
 use std::alloc::Global;
 
 /// That the text which `check` names is accepted for the market and the sessions that it names, or
 /// the first finding on it, or why there is neither.
-pub fn check<H: Shelf>(alloc: Global, names: InputNames, shelf: &mut H) -> Result<Ended, Trouble>
+pub fn check<H: Shelf>(alloc: Global, call: Call, shelf: &mut H) -> Result<Ended, Trouble>
     requires named { (words : List (List ℕ))
-        × AreNamesOf words Form.Check names.front.now names.streams.now }
-    ensures { IsAnswer H.Shelf Form.Check
-        (names_in names.entry.front.now names.entry.streams.now) shelf.old shelf.new result }
+        × IsCall words Form.Check call }
+    ensures { IsAnswer H.Shelf Form.Check (names_in call.entry) shelf.old shelf.new result }
 {
-    let published = take_published(alloc, names, shelf)?;
+    let mut inputs = Inputs::of(call);
+    let published = inputs.published(alloc, shelf)?;
     let ended = checked(alloc, published)?;
     Ok(ended)
 }

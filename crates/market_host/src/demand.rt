@@ -3,16 +3,14 @@ ghost use Rattle.std.specs.Prelude.{◌≡◌, List, ℕ, length, IfOk};
 ghost use Rattle.demand_api.specs.Views.{data_of};
 ghost use Rattle.demand_text.specs.Taken.{IsTakenBy, taken_at};
 ghost use Rattle.market_host.specs.{Demands.TellsDemand, Said.market_said};
-ghost use Rattle.market_host.specs.Works.{AreNamesOf, IsAnswer, names_in};
+ghost use Rattle.market_host.specs.Works.{IsAnswer};
+ghost use Rattle.market_words.specs.Inputs.{IsCall, names_in};
 ghost use Rattle.session_hall.specs.Streams.{command_lists};
 
 use crate::Status;
 use crate::ended::{Ended, Output};
-use crate::market::{Market, take_market};
-use crate::names::InputNames;
-use crate::prices::take_prices;
-use crate::sessions::take_sessions;
-use crate::streams::Streams;
+use crate::inputs::Inputs;
+use crate::said::{Market, Streams};
 use crate::trouble::Trouble;
 use crate::workers::Workers;
 use demand_api::Crowd;
@@ -21,7 +19,7 @@ use demand_workers::{Pool, PooledDemands};
 use market_crowd::make_crowd;
 use market_edge::{Gate, Passed, Shelf};
 use market_units::{NoMemory, Tokens};
-use market_words::Form;
+use market_words::{Call, Form};
 use session_hall::hold;
 use std::alloc::Global;
 use std::sync::{Arc, Wait};
@@ -32,28 +30,20 @@ use utility_language::Command;
 pub fn demand<R: Threads + Wait + Sync, H: Shelf>(
     rt: &R,
     alloc: Global,
-    names: InputNames,
+    call: Call,
     workers: u16,
     shelf: &mut H,
     gate: &(dyn Gate + Sync),
 ) -> Result<Ended, Trouble>
     requires named { (words : List (List ℕ))
-        × AreNamesOf words (Form.Demand workers) names.front.now names.streams.now }
-    ensures { IsAnswer H.Shelf (Form.Demand workers)
-        (names_in names.entry.front.now names.entry.streams.now) shelf.old shelf.new result }
+        × IsCall words (Form.Demand workers) call }
+    ensures { IsAnswer H.Shelf (Form.Demand workers) (names_in call.entry) shelf.old shelf.new
+        result }
 {
-    let [catalog, roll, settings, prices] = names.front else {
-        unreachable!();
-    };
-    let market = take_market(
-        alloc,
-        shelf,
-        catalog.as_str(),
-        roll.as_str(),
-        settings.as_str(),
-    )?;
-    let prices = take_prices(alloc, shelf, prices.as_str(), 4, &market.catalog)?;
-    let streams = take_sessions(alloc, shelf, names.streams, 5)?;
+    let mut inputs = Inputs::of(call);
+    let market = inputs.market(alloc, shelf)?;
+    let prices = inputs.prices(alloc, shelf, &market.catalog)?;
+    let streams = inputs.rest(alloc, shelf)?;
     let workers = Workers { number: workers };
     let text = text_of(rt, alloc, workers, &market, &prices, &streams, gate)?;
     Ok(Ended {

@@ -4,18 +4,19 @@ ghost use Rattle.market_units.specs.Name.{name_bytes};
 ghost use Rattle.session_hall.specs.Streams.{command_lists};
 ghost use Rattle.market_host.specs.{Endings.bytes_of, Explains.IsReasonEnd, Lines.unknown_line};
 ghost use Rattle.market_host.specs.Said.{market_said};
-ghost use Rattle.market_host.specs.Works.{AreNamesOf, IsAnswer, names_in};
+ghost use Rattle.market_host.specs.Works.{IsAnswer};
+ghost use Rattle.market_words.specs.Inputs.{IsCall, names_in};
 
 use crate::Status;
 use crate::ended::{Ended, Output, told_end};
+use crate::inputs::Inputs;
 use crate::line::unknown_name;
-use crate::names::InputNames;
-use crate::published::{Published, take_published};
+use crate::said::Published;
 use crate::trouble::Trouble;
 use explain_desk::published_reason;
 use market_edge::Shelf;
 use market_units::{Name, NoMemory};
-use market_words::Form;
+use market_words::{Call, Form};
 use std::alloc::Global;
 
 // The words of `explain` that name the student and the section, where its own word is the first.
@@ -28,17 +29,18 @@ const SECTION_WORD: u16 = 7;
 /// none of these.
 pub fn explain<H: Shelf>(
     alloc: Global,
-    names: InputNames,
+    call: Call,
     shelf: &mut H,
     student: Name,
     section: Name,
 ) -> Result<Ended, Trouble>
     requires named { (words : List (List ℕ))
-        × AreNamesOf words (Form.Explain student section) names.front.now names.streams.now }
-    ensures { IsAnswer H.Shelf (Form.Explain student section)
-        (names_in names.entry.front.now names.entry.streams.now) shelf.old shelf.new result }
+        × IsCall words (Form.Explain student section) call }
+    ensures { IsAnswer H.Shelf (Form.Explain student section) (names_in call.entry) shelf.old
+        shelf.new result }
 {
-    let published = take_published(alloc, names, shelf)?;
+    let mut inputs = Inputs::of(call);
+    let published = inputs.published(alloc, shelf)?;
     let ended = reason_for(alloc, published, &student, &section)?;
     Ok(ended)
 }

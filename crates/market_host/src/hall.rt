@@ -2,20 +2,18 @@
 ghost use Rattle.std.specs.Prelude.{◌≤◌, List, ℕ, IfOk, length};
 ghost use Rattle.dropadd_hall.specs.Streams.{request_lists};
 ghost use Rattle.market_host.specs.Endings.{bytes_of};
-ghost use Rattle.market_host.specs.Works.{AreNamesOf, HallEndsFor, IsAnswer, names_in};
+ghost use Rattle.market_host.specs.Works.{HallEndsFor, IsAnswer};
+ghost use Rattle.market_words.specs.Inputs.{IsCall, names_in};
 
 use crate::ended::{Ended, told_end};
-use crate::names::InputNames;
-use crate::published::take_text;
-use crate::sessions::take_sessions;
-use crate::streams::Streams;
-use crate::tables::{Tables, take_tables};
+use crate::inputs::Inputs;
+use crate::said::{Streams, Tables};
 use crate::trouble::Trouble;
 use dropadd_desk::HallCommand;
 use dropadd_hall::published_hall;
 use market_edge::{Gate, Passed, Shelf};
 use market_units::{MAX_TEXT_BYTES, NoMemory};
-use market_words::Form;
+use market_words::{Call, Form};
 use std::alloc::Global;
 use std::sync::Wait;
 use std::thread::Threads;
@@ -25,21 +23,18 @@ use std::thread::Threads;
 pub fn hall<R: Threads + Wait + Sync, H: Shelf>(
     rt: &R,
     alloc: Global,
-    names: InputNames,
+    call: Call,
     shelf: &mut H,
     gate: &(dyn Gate + Sync),
 ) -> Result<Ended, Trouble>
     requires named { (words : List (List ℕ))
-        × AreNamesOf words Form.Hall names.front.now names.streams.now }
-    ensures { IsAnswer H.Shelf Form.Hall (names_in names.entry.front.now names.entry.streams.now)
-        shelf.old shelf.new result }
+        × IsCall words Form.Hall call }
+    ensures { IsAnswer H.Shelf Form.Hall (names_in call.entry) shelf.old shelf.new result }
 {
-    let [catalog, roll, text] = names.front else {
-        unreachable!();
-    };
-    let tables = take_tables(alloc, shelf, catalog.as_str(), roll.as_str())?;
-    let text = take_text(alloc, shelf, text.as_str(), 3)?;
-    let streams = take_sessions(alloc, shelf, names.streams, 4)?;
+    let mut inputs = Inputs::of(call);
+    let tables = inputs.tables(alloc, shelf)?;
+    let text = inputs.text(alloc, shelf)?;
+    let streams = inputs.rest(alloc, shelf)?;
     let ended = opened(rt, alloc, &tables, &text, &streams, gate)?;
     Ok(ended)
 }

@@ -2,7 +2,7 @@
 ghost use Rattle.std.specs.Prelude.{◌≡◌, ◌≢◌, ◌≤◌, List, ℕ, map};
 ghost use Rattle.std.specs.String.{string_bytes};
 ghost use Rattle.market_edge.specs.{Faults.Rose, Sinks.Takes, Sinks.TakesFront};
-ghost use Rattle.market_words.specs.Forms.{HasForm, inputs_of};
+ghost use Rattle.market_words.specs.Inputs.{IsCall, names_in};
 ghost use Rattle.market_host.specs.Answers.{IsAnswered, IsWordless};
 ghost use Rattle.market_host.specs.{Sights.sight, Sights.writing, Traces.trace, Works.IsAnswer};
 
@@ -15,13 +15,12 @@ use crate::explain::explain;
 use crate::hall::hall;
 use crate::line::{line_for, usage};
 use crate::make::{MakeNumbers, make};
-use crate::names::names_of;
 use crate::prefer::prefer;
 use crate::quote::quote;
 use crate::run::run;
 use crate::trouble::Trouble;
 use market_edge::{Gate, Shelf, Sink, SinkFault, write_whole};
-use market_words::{Form, read_words};
+use market_words::{Call, Form, read_words};
 use std::alloc::Global;
 use std::sync::Wait;
 use std::thread::Threads;
@@ -48,10 +47,10 @@ pub fn course_match<R: Threads + Wait + Sync, H: Shelf, K: Sink>(
         → (H.shows shelf.old).faults other ≤ (H.shows shelf.new).faults other }
     ensures sink_later { (K.shows sink.old).faults ≤ (K.shows sink.new).faults }
 {
-    let Some(form) = read_words(words) else {
+    let Some(call) = read_words(words) else {
         return finish(sink, usage().as_bytes(), Status::Usage);
     };
-    match answer(rt, alloc, words, form, shelf, gate) {
+    match answer(rt, alloc, call, shelf, gate) {
         Ok(ended) => finish(sink, ended.output.as_bytes(), ended.status),
         Err(trouble) => finish(sink, line_for(trouble).as_bytes(), trouble.status()),
     }
@@ -93,29 +92,26 @@ fn finish<K: Sink>(sink: &mut K, text: &[u8], status: Status) -> Status
 fn answer<R: Threads + Wait + Sync, H: Shelf>(
     rt: &R,
     alloc: Global,
-    words: &[String],
-    form: Form,
+    call: Call,
     shelf: &mut H,
     gate: &(dyn Gate + Sync),
 ) -> Result<Ended, Trouble>
-    requires { HasForm (map string_bytes words.now) form }
-    ensures { IsAnswer H.Shelf form (inputs_of form (map string_bytes words.now)) shelf.old
-        shelf.new result }
+    requires { (words : List (List ℕ)) × IsCall words call.form call }
+    ensures { IsAnswer H.Shelf call.entry.form (names_in call.entry) shelf.old shelf.new result }
 {
-    let names = names_of(form, words);
-    match form {
+    match call.form {
         Form::Quote {
             name,
             credits,
             courses,
-        } => quote(alloc, names, shelf, name, credits, courses),
-        Form::Check => check(alloc, names, shelf),
-        Form::Explain { student, section } => explain(alloc, names, shelf, student, section),
-        Form::Hall => hall(rt, alloc, names, shelf, gate),
-        Form::Audit { workers } => audit(rt, alloc, names, workers, shelf, gate),
-        Form::Prefer => prefer(rt, alloc, names, shelf, gate),
-        Form::Demand { workers } => demand(rt, alloc, names, workers, shelf, gate),
-        Form::Run { workers } => run(rt, alloc, names, workers, shelf, gate),
+        } => quote(alloc, call, shelf, name, credits, courses),
+        Form::Check => check(alloc, call, shelf),
+        Form::Explain { student, section } => explain(alloc, call, shelf, student, section),
+        Form::Hall => hall(rt, alloc, call, shelf, gate),
+        Form::Audit { workers } => audit(rt, alloc, call, workers, shelf, gate),
+        Form::Prefer => prefer(rt, alloc, call, shelf, gate),
+        Form::Demand { workers } => demand(rt, alloc, call, workers, shelf, gate),
+        Form::Run { workers } => run(rt, alloc, call, workers, shelf, gate),
         Form::Make {
             workers,
             seed,

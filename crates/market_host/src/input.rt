@@ -1,13 +1,11 @@
 // One input of a call that is read by itself.
-ghost use Rattle.std.specs.Prelude.{◌≡◌, ◌<◌, ◌-◌, ◌^◌, List, ℕ, length, IfOk, IfErr, ⊤};
+ghost use Rattle.std.specs.Prelude.{◌≡◌, ◌<◌, ◌-◌, ◌^◌, List, ℕ, length, IfOk, IfErr};
 ghost use Rattle.market_units.specs.declared.limits.TheConstants.{MAX_INPUT_BYTES};
-ghost use Rattle.market_host.specs.{Inputs.HasFault, Kinds.Kind, Kinds.limit_of, Reading.IsRefusal};
-ghost use Rattle.market_host.specs.{Taking.Takes, declared.cause.Cause.Cause};
+ghost use Rattle.market_words.specs.{Kinds.Kind, Kinds.limit_of};
+ghost use Rattle.market_host.specs.{Inputs.HasFault, Inputs.IsOfGrammar, Marks.without_mark};
+ghost use Rattle.market_host.specs.{Reading.IsRefusal, declared.cause.Cause.Cause};
 
-use crate::inputs::read_input;
 use crate::trouble::Trouble;
-use market_edge::Shelf;
-use market_units::MAX_INPUT_BYTES;
 use std::alloc::Global;
 
 /// What one input of a call says, whatever the others say: a catalogue, a roll or settings.
@@ -34,22 +32,21 @@ pub trait Input: Drop {
     /// The limit of the kind is that of a table.
     ghost within: { limit_of kind ≡ MAX_INPUT_BYTES };
 
+    /// A text that stands for something is of the kind's grammar, whatever inputs stand before.
+    ghost grammar: { (earlier : List (List ℕ)) (text : List ℕ) (said : Self)
+        → is_said_by text said → IsOfGrammar kind earlier text };
+
     /// A fault is one of the kind, whatever inputs stand before.
     ghost faults: { (earlier : List (List ℕ)) (text : List ℕ) (row : ℕ) (cause : Cause)
         → is_faulty text row cause → HasFault kind earlier row cause text };
 }
 
-/// What the input of this name and number says, or why there is nothing.
-pub fn take_input<H: Shelf, I: Input>(
-    alloc: Global,
-    shelf: &mut H,
-    name: &str,
-    input: u16,
-) -> Result<I, Trouble>
-    ensures taken { Takes H.Shelf I.kind name.now input (λ _. ⊤) I.is_said_by shelf.old shelf.new
-        result }
-    ensures sound { IfOk result I.is_sound }
+/// The bytes behind one leading byte order mark.
+pub fn without_mark(bytes: &[u8]) -> &[u8]
+    ensures { result.now ≡ without_mark bytes.now }
 {
-    let bytes = read_input(alloc, shelf, name, input, MAX_INPUT_BYTES)?;
-    I::read_from(alloc, &bytes, input)
+    match bytes.strip_prefix(b"\xef\xbb\xbf") {
+        Some(text) => text,
+        None => bytes,
+    }
 }

@@ -1,20 +1,19 @@
 // The journal of the sessions, and the preferences that it closes with.
 ghost use Rattle.std.specs.Prelude.{List, ℕ, IfOk};
 ghost use Rattle.market_host.specs.{Preferences.TellsPreferences, Sessions.AreStreams};
-ghost use Rattle.market_host.specs.Works.{AreNamesOf, IsAnswer, names_in};
+ghost use Rattle.market_host.specs.Works.{IsAnswer};
+ghost use Rattle.market_words.specs.Inputs.{IsCall, names_in};
 ghost use Rattle.session_hall.specs.Streams.{command_lists};
 
 use crate::Status;
 use crate::ended::{Ended, Output};
-use crate::names::InputNames;
-use crate::sessions::take_sessions;
-use crate::streams::Streams;
-use crate::tables::take_tables;
+use crate::inputs::Inputs;
+use crate::said::Streams;
 use crate::trouble::Trouble;
 use course_catalog::Catalog;
 use market_edge::{Gate, Passed, Shelf};
 use market_units::NoMemory;
-use market_words::Form;
+use market_words::{Call, Form};
 use preference_text::preferences_text;
 use session_hall::hold;
 use std::alloc::Global;
@@ -27,20 +26,17 @@ use utility_language::Command;
 pub fn prefer<R: Threads + Wait + Sync, H: Shelf>(
     rt: &R,
     alloc: Global,
-    names: InputNames,
+    call: Call,
     shelf: &mut H,
     gate: &(dyn Gate + Sync),
 ) -> Result<Ended, Trouble>
     requires named { (words : List (List ℕ))
-        × AreNamesOf words Form.Prefer names.front.now names.streams.now }
-    ensures { IsAnswer H.Shelf Form.Prefer
-        (names_in names.entry.front.now names.entry.streams.now) shelf.old shelf.new result }
+        × IsCall words Form.Prefer call }
+    ensures { IsAnswer H.Shelf Form.Prefer (names_in call.entry) shelf.old shelf.new result }
 {
-    let [catalog, roll] = names.front else {
-        unreachable!();
-    };
-    let tables = take_tables(alloc, shelf, catalog.as_str(), roll.as_str())?;
-    let streams = take_sessions(alloc, shelf, names.streams, 3)?;
+    let mut inputs = Inputs::of(call);
+    let tables = inputs.tables(alloc, shelf)?;
+    let streams = inputs.rest(alloc, shelf)?;
     let text = text_of(rt, alloc, &tables.catalog, &tables.roll, &streams, gate)?;
     Ok(Ended {
         status: Status::Done,
@@ -57,7 +53,7 @@ fn text_of<R: Threads + Wait + Sync>(
     streams: &Streams<Command>,
     gate: &(dyn Gate + Sync),
 ) -> Result<Vec<u8>, NoMemory>
-    requires { (sessions : List (List ℕ))
+    requires said { (sessions : List (List ℕ))
         × AreStreams sessions (command_lists streams.now.lists.items) }
     ensures { IfOk result
         (λ text. TellsPreferences catalog.now roll.now (command_lists streams.now.lists.items)

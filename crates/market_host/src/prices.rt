@@ -1,42 +1,21 @@
 // The prices of a call.
 ghost use Rattle.std.specs.Prelude.{◌≡◌, ◌≢◌, ◌<◌, ◌-◌, ◌^◌, Ok, Err, IfOk, IfErr, length, map};
 ghost use Rattle.price_sheet.specs.Sheets.{prices_of};
-ghost use Rattle.market_host.specs.Kinds as kind;
-ghost use Rattle.market_host.specs.{Inputs.BeginWithCatalog, Reading.IsRefusal};
-ghost use Rattle.market_host.specs.{Refusals.AreNoPrices, Taking.Takes};
+ghost use Rattle.market_host.specs.{Reading.IsRefusal, Refusals.AreNoPrices};
 
 use crate::Cause;
-use crate::inputs::read_input;
 use crate::trouble::Trouble;
 use course_catalog::Catalog;
-use market_edge::Shelf;
-use market_units::{MAX_INPUT_BYTES, Tokens};
+use market_units::Tokens;
 use price_sheet::{PriceRefusal, read_prices};
 use std::alloc::Global;
 
 // The header is row 1.
 const HEADER_ROW: u32 = 1;
 
-/// The prices of this catalogue's sections that the input of this name and number is, or why there
-/// are none.
-pub fn take_prices<H: Shelf>(
-    alloc: Global,
-    shelf: &mut H,
-    name: &str,
-    input: u16,
-    catalog: &Catalog,
-) -> Result<Vec<Tokens>, Trouble>
-    ensures { Takes H.Shelf kind.Prices name.now input
-        (λ texts. BeginWithCatalog texts catalog.now)
-        (λ text prices. prices_of catalog.now.sections text
-        ≡ Ok (map (λ price. price.0) prices.items)) shelf.old shelf.new result }
-{
-    let bytes = read_input(alloc, shelf, name, input, MAX_INPUT_BYTES)?;
-    prices_in(alloc, catalog, &bytes, input)
-}
-
-// The prices that the text of this input stands for, or its first fault.
-fn prices_in(
+/// The prices of this catalogue's sections that the text of this input stands for, or its first
+/// fault.
+pub fn prices_in(
     alloc: Global,
     catalog: &Catalog,
     bytes: &[u8],

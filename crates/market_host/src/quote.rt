@@ -2,7 +2,8 @@
 ghost use Rattle.std.specs.Prelude.{◌≡◌, ◌≤◌, List, ℕ, length, nat_lt, IfOk};
 ghost use Rattle.bundle_rules.specs.{Bundles.sections_of, Demand.IsBest, Menus.wishes_of};
 ghost use Rattle.market_host.specs.Quotes.{IsQuote, state_of_new_desk};
-ghost use Rattle.market_host.specs.Works.{AreNamesOf, IsAnswer, names_in};
+ghost use Rattle.market_host.specs.Works.{IsAnswer};
+ghost use Rattle.market_words.specs.Inputs.{IsCall, names_in};
 ghost use Rattle.market_units.specs.Name.{name_bytes};
 ghost use Rattle.preference_desk.specs.DeskView.{names_of, state_of};
 ghost use Rattle.preference_desk.specs.MarketNames.{market_names};
@@ -10,9 +11,7 @@ ghost use Rattle.student_roll.specs.Students.{single_student};
 
 use crate::Status;
 use crate::ended::{Ended, Output};
-use crate::input::take_input;
-use crate::names::InputNames;
-use crate::session::take_session;
+use crate::inputs::Inputs;
 use crate::text::text_of;
 use crate::trouble::Trouble;
 use bundle_rules::{Bundle, Menu, utility};
@@ -23,7 +22,7 @@ use market_menus::menus;
 use market_units::{
     MAX_COMMANDS, MAX_COURSES, MAX_CREDITS, MAX_SECTIONS, Name, NoMemory, SectionSet, Tokens,
 };
-use market_words::Form;
+use market_words::{Call, Form};
 use preference_desk::Desk;
 use std::alloc::Global;
 use student_roll::Roll;
@@ -34,25 +33,20 @@ const SECTIONS: usize = MAX_SECTIONS as usize;
 /// The text of `quote`, or why there is none.
 pub fn quote<H: Shelf>(
     alloc: Global,
-    names: InputNames,
+    call: Call,
     shelf: &mut H,
     name: Name,
     credits: u16,
     courses: u8,
 ) -> Result<Ended, Trouble>
     requires named { (words : List (List ℕ))
-        × AreNamesOf words (Form.Quote name credits courses) names.front.now names.streams.now }
-    ensures { IsAnswer H.Shelf (Form.Quote name credits courses)
-        (names_in names.entry.front.now names.entry.streams.now) shelf.old shelf.new result }
+        × IsCall words (Form.Quote name credits courses) call }
+    ensures { IsAnswer H.Shelf (Form.Quote name credits courses) (names_in call.entry) shelf.old
+        shelf.new result }
 {
-    let [catalog] = names.front else {
-        unreachable!();
-    };
-    let [session] = names.streams else {
-        unreachable!();
-    };
-    let catalog: Catalog = take_input(alloc, shelf, catalog.as_str(), 1)?;
-    let commands = take_session(alloc, shelf, session.as_str(), 2, MAX_COMMANDS)?;
+    let mut inputs = Inputs::of(call);
+    let catalog: Catalog = inputs.next(alloc, shelf)?;
+    let commands = inputs.stream(alloc, shelf, MAX_COMMANDS)?;
     let text = best_text(alloc, &catalog, &commands, name, credits, courses)?;
     Ok(Ended {
         status: Status::Done,

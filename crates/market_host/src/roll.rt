@@ -1,7 +1,7 @@
 // The roll of a call.
 ghost use Rattle.std.specs.Prelude.{◌≡◌, ◌≢◌, Ok, Err, refl, ⊤};
 ghost use Rattle.student_roll.specs.Rolls.{roll_of};
-ghost use Rattle.market_host.specs.Kinds as kinds;
+ghost use Rattle.market_words.specs.Kinds as kinds;
 ghost use Rattle.market_host.specs.{Reading.IsRefusal, Refusals.IsNoRoll};
 
 use crate::Cause;
@@ -33,6 +33,8 @@ impl Input for Roll {
     }
 
     ghost within = { refl };
+
+    ghost grammar = { λ earlier text said is. (said, is) };
 
     ghost faults = { λ earlier text row cause is. is };
 }

@@ -1,22 +1,21 @@
 // What a market publishes.
 ghost use Rattle.std.specs.Prelude.{◌≡◌, ◌++◌, List, ℕ, [], IfOk};
 ghost use Rattle.market_host.specs.{Endings.bytes_of, Lines.no_prices_line, Said.market_said};
-ghost use Rattle.market_host.specs.Works.{AreNamesOf, EndsFor, IsAnswer, names_in};
+ghost use Rattle.market_host.specs.Works.{EndsFor, IsAnswer};
+ghost use Rattle.market_words.specs.Inputs.{IsCall, names_in};
 ghost use Rattle.session_hall.specs.Streams.{command_lists};
 
 use crate::Status;
 use crate::ended::{Ended, Output};
+use crate::inputs::Inputs;
 use crate::line::no_prices;
-use crate::market::{Market, take_market};
-use crate::names::InputNames;
-use crate::sessions::take_sessions;
-use crate::streams::Streams;
+use crate::said::{Market, Streams};
 use crate::trouble::Trouble;
 use crate::workers::Workers;
 use market_edge::{Gate, Shelf};
 use market_run::{HeldEnd, held_text};
 use market_units::NoMemory;
-use market_words::Form;
+use market_words::{Call, Form};
 use std::alloc::Global;
 use std::sync::Wait;
 use std::thread::Threads;
@@ -27,27 +26,19 @@ use utility_language::Command;
 pub fn run<R: Threads + Wait + Sync, H: Shelf>(
     rt: &R,
     alloc: Global,
-    names: InputNames,
+    call: Call,
     workers: u16,
     shelf: &mut H,
     gate: &(dyn Gate + Sync),
 ) -> Result<Ended, Trouble>
     requires named { (words : List (List ℕ))
-        × AreNamesOf words (Form.Run workers) names.front.now names.streams.now }
-    ensures { IsAnswer H.Shelf (Form.Run workers)
-        (names_in names.entry.front.now names.entry.streams.now) shelf.old shelf.new result }
+        × IsCall words (Form.Run workers) call }
+    ensures { IsAnswer H.Shelf (Form.Run workers) (names_in call.entry) shelf.old shelf.new
+        result }
 {
-    let [catalog, roll, settings] = names.front else {
-        unreachable!();
-    };
-    let market = take_market(
-        alloc,
-        shelf,
-        catalog.as_str(),
-        roll.as_str(),
-        settings.as_str(),
-    )?;
-    let streams = take_sessions(alloc, shelf, names.streams, 4)?;
+    let mut inputs = Inputs::of(call);
+    let market = inputs.market(alloc, shelf)?;
+    let streams = inputs.rest(alloc, shelf)?;
     let workers = Workers { number: workers };
     let ended = held(rt, alloc, workers, &market, &streams, gate)?;
     Ok(ended)

@@ -1,12 +1,11 @@
 // The settings of a call.
 ghost use Rattle.std.specs.Prelude.{◌≡◌, ◌≢◌, Ok, Err, refl};
 ghost use Rattle.market_settings.specs.Settings.{AreInRange, settings_of};
-ghost use Rattle.market_host.specs.Kinds as kinds;
+ghost use Rattle.market_words.specs.Kinds as kinds;
 ghost use Rattle.market_host.specs.{Marks.without_mark, Reading.IsRefusal, Refusals.AreNoSettings};
 
 use crate::Cause;
-use crate::input::Input;
-use crate::inputs::without_mark;
+use crate::input::{Input, without_mark};
 use crate::trouble::Trouble;
 use market_settings::{Settings, SettingsRefusal, read_settings};
 use std::alloc::Global;
@@ -31,6 +30,8 @@ impl Input for Settings {
     }
 
     ghost within = { refl };
+
+    ghost grammar = { λ earlier text said is. (said, is) };
 
     ghost faults = { λ earlier text row cause is. is };
 }

@@ -1,6 +1,6 @@
 -- Lists of words, by their first items.
-use Rattle.std.proofs.Common.{ℕ, suc, ◌≡◌, ◌≤◌, ◌-◌, List, [], ◌∷◌, length, get_or, take, drop, arith, refl, map, ap, sym, ◌∙◌, Global}
-use Rattle.std.proofs.lemmas.List.{take_all}
+use Rattle.std.proofs.Common.{ℕ, suc, ◌≡◌, ◌≤◌, ◌-◌, List, [], ◌∷◌, ◌++◌, length, get_or, take, drop, arith, refl, map, ap, sym, ◌∙◌, Global}
+use Rattle.std.proofs.lemmas.List.{length-drop, length-map, map-append, take-append-drop, take_all}
 use Rattle.std.specs.Prelude.{String}
 use Rattle.std.specs.String.{string_bytes}
 use Rattle.plain_facts.proofs.Lists.{first_rest}
@@ -74,3 +74,36 @@ pub explain_words : (words : List (String Global)) (student section : String Glo
     ∷ string_bytes (get_or words 3 student)
     ∷ string_bytes student ∷ string_bytes section ∷ map string_bytes (take (length words - 6) (drop 6 words))
 explain_words words student section some is also = ap (λ ws. map string_bytes ws) (six_items words student section some) ∙ cc
+
+-- words that name sessions behind so many inputs
+pub sessions_long : (words : List (String Global)) (before : ℕ) → AreSessions (drop before (map string_bytes words))
+    → (suc before ≤ length words) × (length words - before ≤ 64)
+sessions_long words before are =
+    let long : length (drop before (map string_bytes words)) ≡ length words - before =
+    length-drop before (map string_bytes words) ∙ ap (λ n. n - before) (length-map words string_bytes) in
+    (omega (arith, long, are.0), omega (arith, long, are.1))
+
+-- words, cut at a place
+pub words_cut : (words : List (String Global)) (before : ℕ) → before ≤ length words
+    → map string_bytes words ≡ map string_bytes (take before words) ++ map string_bytes (take (length words - before) (drop before words))
+words_cut words before within =
+    let rest : length (drop before words) ≡ length words - before = length-drop before words in
+    ap (map string_bytes) (sym (take-append-drop before words))
+    ∙ map-append string_bytes (take before words) (drop before words)
+    ∙ ap (λ (more : List (String Global)). map string_bytes (take before words) ++ map string_bytes more)
+    (sym (take_all (length words - before) (drop before words) (omega (arith, rest))))
+
+-- the names of `quote` are the first two words behind its own
+pub quote_named : (words : List (String Global)) → length words ≡ 5
+    → take 2 (map string_bytes words) ≡ map string_bytes (take 1 words) ++ map string_bytes (take 1 (drop 1 words))
+quote_named (v ∷ w ∷ more) five = refl
+quote_named words five = absurd (omega arith)
+
+-- those of `explain` stand before and behind those of a student and a section
+pub explain_named : (words : List (String Global)) → 6 ≤ length words
+    → take 4 (map string_bytes words) ++ drop 6 (map string_bytes words)
+    ≡ map string_bytes (take 4 words) ++ map string_bytes (take (length words - 6) (drop 6 words))
+explain_named (u ∷ v ∷ w ∷ x ∷ y ∷ z ∷ more) some =
+    ap (λ (rest : List (String Global)). string_bytes u ∷ string_bytes v ∷ string_bytes w ∷ string_bytes x ∷ map string_bytes rest)
+    (sym (take_all (length (u ∷ v ∷ w ∷ x ∷ y ∷ z ∷ more) - 6) more (omega arith)))
+explain_named words some = absurd (omega arith)

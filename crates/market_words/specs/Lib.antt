@@ -1,2 +1,4 @@
 pub mod Forms
+pub mod Inputs
+pub mod Kinds
 pub mod Laws

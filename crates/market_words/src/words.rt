@@ -2,14 +2,16 @@
 ghost use Rattle.std.specs.Prelude.{◌≡◌, ◌≢◌, ◌≤◌, ◌↔◌, ◌∷◌, ℕ, codes, drop, map, IfSome, IfNone, IsTrue};
 ghost use Rattle.std.specs.Fmt.{decimal};
 ghost use Rattle.std.specs.String.{string_bytes};
-ghost use Rattle.market_words.specs.Forms.{AreSessions, HasForm, HasNoForm};
+ghost use Rattle.market_words.specs.Forms.{AreSessions, HasNoForm};
+ghost use Rattle.market_words.specs.Inputs.{IsCall, NamesInputs};
 
+use crate::Call;
 use market_units::{
     MAX_ACCEPT, MAX_COURSES, MAX_CREDITS, MAX_SECTIONS, MAX_SESSIONS, MAX_STUDENTS, MAX_WORKERS,
     Name, read_name, read_number,
 };
 
-/// What the words of the command line ask for. The words that name inputs are not kept.
+/// What the words of the command line ask for. The words that name inputs are kept in the `Call`.
 #[derive(Clone, Copy)]
 pub enum Form {
     /// `quote CAT SES NAME CREDITS COURSES`: the best bundle of one student at zero prices, within
@@ -59,8 +61,9 @@ pub enum Form {
 }
 
 /// What the words ask for, or `None` exactly where they are none of the forms. It takes no memory.
-pub fn read_words(words: &[String]) -> Option<Form>
-    ensures form { IfSome result (HasForm (map string_bytes words.now)) }
+pub fn read_words(words: &[String]) -> Option<Call>
+    ensures form { IfSome result
+        (λ call. IsCall (map string_bytes words.now) call.form call) }
     ensures none { IfNone result (HasNoForm (map string_bytes words.now)) }
 {
     let [verb, more @ ..] = words else {
@@ -70,8 +73,9 @@ pub fn read_words(words: &[String]) -> Option<Form>
 }
 
 // What the words behind this verb ask for.
-fn read_form(verb: &str, more: &[String]) -> Option<Form>
-    ensures form { IfSome result (HasForm (verb.now ∷ map string_bytes more.now)) }
+fn read_form<'w>(verb: &str, more: &'w [String]) -> Option<Call<'w>>
+    ensures form { IfSome result
+        (λ call. IsCall (verb.now ∷ map string_bytes more.now) call.form call) }
     ensures none { IfNone result (HasNoForm (verb.now ∷ map string_bytes more.now)) }
 {
     if verb == "quote" {
@@ -105,8 +109,9 @@ fn read_form(verb: &str, more: &[String]) -> Option<Form>
 }
 
 // What the words behind `quote` ask for.
-fn read_quote(more: &[String]) -> Option<Form>
-    ensures form { IfSome result (HasForm (codes "quote" ∷ map string_bytes more.now)) }
+fn read_quote(more: &[String]) -> Option<Call>
+    ensures form { IfSome result
+        (λ call. IsCall (codes "quote" ∷ map string_bytes more.now) call.form call) }
     ensures none { IfNone result (HasNoForm (codes "quote" ∷ map string_bytes more.now)) }
 {
     let [_, _, name, credits, courses] = more else {
@@ -115,27 +120,34 @@ fn read_quote(more: &[String]) -> Option<Form>
     let name = read_name(name.as_bytes())?;
     let credits = read_number(credits.as_bytes(), u64::from(MAX_CREDITS))?;
     let courses = read_number(courses.as_bytes(), u64::from(MAX_COURSES))?;
-    Some(Form::Quote {
+    let form = Form::Quote {
         name,
         credits: credits as u16,
         courses: courses as u8,
+    };
+    Some(Call {
+        form,
+        front: &more[..1],
+        streams: &more[1..2],
     })
 }
 
 // What the words behind `prefer` ask for.
-fn read_prefer(more: &[String]) -> Option<Form>
-    ensures form { IfSome result (HasForm (codes "prefer" ∷ map string_bytes more.now)) }
+fn read_prefer(more: &[String]) -> Option<Call>
+    ensures form { IfSome result
+        (λ call. IsCall (codes "prefer" ∷ map string_bytes more.now) call.form call) }
     ensures none { IfNone result (HasNoForm (codes "prefer" ∷ map string_bytes more.now)) }
 {
     if !are_inputs(more, 2) {
         return None;
     }
-    Some(Form::Prefer)
+    Some(call_of(Form::Prefer, more, 2))
 }
 
 // What the words behind `demand` ask for.
-fn read_demand(more: &[String]) -> Option<Form>
-    ensures form { IfSome result (HasForm (codes "demand" ∷ map string_bytes more.now)) }
+fn read_demand(more: &[String]) -> Option<Call>
+    ensures form { IfSome result
+        (λ call. IsCall (codes "demand" ∷ map string_bytes more.now) call.form call) }
     ensures none { IfNone result (HasNoForm (codes "demand" ∷ map string_bytes more.now)) }
 {
     let [workers, inputs @ ..] = more else {
@@ -145,14 +157,16 @@ fn read_demand(more: &[String]) -> Option<Form>
     if !are_inputs(inputs, 4) {
         return None;
     }
-    Some(Form::Demand {
+    let form = Form::Demand {
         workers: workers as u16,
-    })
+    };
+    Some(call_of(form, inputs, 4))
 }
 
 // What the words behind `run` ask for.
-fn read_run(more: &[String]) -> Option<Form>
-    ensures form { IfSome result (HasForm (codes "run" ∷ map string_bytes more.now)) }
+fn read_run(more: &[String]) -> Option<Call>
+    ensures form { IfSome result
+        (λ call. IsCall (codes "run" ∷ map string_bytes more.now) call.form call) }
     ensures none { IfNone result (HasNoForm (codes "run" ∷ map string_bytes more.now)) }
 {
     let [workers, inputs @ ..] = more else {
@@ -162,14 +176,16 @@ fn read_run(more: &[String]) -> Option<Form>
     if !are_inputs(inputs, 3) {
         return None;
     }
-    Some(Form::Run {
+    let form = Form::Run {
         workers: workers as u16,
-    })
+    };
+    Some(call_of(form, inputs, 3))
 }
 
 // What the words behind `make` ask for.
-fn read_make(more: &[String]) -> Option<Form>
-    ensures form { IfSome result (HasForm (codes "make" ∷ map string_bytes more.now)) }
+fn read_make(more: &[String]) -> Option<Call>
+    ensures form { IfSome result
+        (λ call. IsCall (codes "make" ∷ map string_bytes more.now) call.form call) }
     ensures none { IfNone result (HasNoForm (codes "make" ∷ map string_bytes more.now)) }
 {
     let [workers, seed, students, sections, accept] = more else {
@@ -180,29 +196,36 @@ fn read_make(more: &[String]) -> Option<Form>
     let students = read_between(students.as_bytes(), 1, u64::from(MAX_STUDENTS))?;
     let sections = read_between(sections.as_bytes(), 1, u64::from(MAX_SECTIONS))?;
     let accept = read_number(accept.as_bytes(), MAX_ACCEPT)?;
-    Some(Form::Make {
+    let form = Form::Make {
         workers: workers as u16,
         seed,
         students: students as u16,
         sections: sections as u16,
         accept,
+    };
+    Some(Call {
+        form,
+        front: &[],
+        streams: &[],
     })
 }
 
 // What the words behind `check` ask for.
-fn read_check(more: &[String]) -> Option<Form>
-    ensures form { IfSome result (HasForm (codes "check" ∷ map string_bytes more.now)) }
+fn read_check(more: &[String]) -> Option<Call>
+    ensures form { IfSome result
+        (λ call. IsCall (codes "check" ∷ map string_bytes more.now) call.form call) }
     ensures none { IfNone result (HasNoForm (codes "check" ∷ map string_bytes more.now)) }
 {
     if !are_inputs(more, 4) {
         return None;
     }
-    Some(Form::Check)
+    Some(call_of(Form::Check, more, 4))
 }
 
 // What the words behind `explain` ask for.
-fn read_explain(more: &[String]) -> Option<Form>
-    ensures form { IfSome result (HasForm (codes "explain" ∷ map string_bytes more.now)) }
+fn read_explain(more: &[String]) -> Option<Call>
+    ensures form { IfSome result
+        (λ call. IsCall (codes "explain" ∷ map string_bytes more.now) call.form call) }
     ensures none { IfNone result (HasNoForm (codes "explain" ∷ map string_bytes more.now)) }
 {
     let [_, _, _, _, student, section, sessions @ ..] = more else {
@@ -213,23 +236,29 @@ fn read_explain(more: &[String]) -> Option<Form>
     if !are_inputs(sessions, 0) {
         return None;
     }
-    Some(Form::Explain { student, section })
+    Some(Call {
+        form: Form::Explain { student, section },
+        front: &more[..4],
+        streams: sessions,
+    })
 }
 
 // What the words behind `hall` ask for.
-fn read_hall(more: &[String]) -> Option<Form>
-    ensures form { IfSome result (HasForm (codes "hall" ∷ map string_bytes more.now)) }
+fn read_hall(more: &[String]) -> Option<Call>
+    ensures form { IfSome result
+        (λ call. IsCall (codes "hall" ∷ map string_bytes more.now) call.form call) }
     ensures none { IfNone result (HasNoForm (codes "hall" ∷ map string_bytes more.now)) }
 {
     if !are_inputs(more, 3) {
         return None;
     }
-    Some(Form::Hall)
+    Some(call_of(Form::Hall, more, 3))
 }
 
 // What the words behind `audit` ask for.
-fn read_audit(more: &[String]) -> Option<Form>
-    ensures form { IfSome result (HasForm (codes "audit" ∷ map string_bytes more.now)) }
+fn read_audit(more: &[String]) -> Option<Call>
+    ensures form { IfSome result
+        (λ call. IsCall (codes "audit" ∷ map string_bytes more.now) call.form call) }
     ensures none { IfNone result (HasNoForm (codes "audit" ∷ map string_bytes more.now)) }
 {
     let [workers, inputs @ ..] = more else {
@@ -239,9 +268,10 @@ fn read_audit(more: &[String]) -> Option<Form>
     if !are_inputs(inputs, 4) {
         return None;
     }
-    Some(Form::Audit {
+    let form = Form::Audit {
         workers: workers as u16,
-    })
+    };
+    Some(call_of(form, inputs, 4))
 }
 
 // The number from `least` to `most` that the bytes spell, or `None` exactly where they spell none.
@@ -263,4 +293,17 @@ fn are_inputs(words: &[String], before: usize) -> bool
     ensures { IsTrue result ↔ AreSessions (drop before (map string_bytes words.now)) }
 {
     words.len() > before && words.len() - before <= usize::from(MAX_SESSIONS)
+}
+
+// The call of this form whose inputs these words name: so many, and then the sessions.
+fn call_of(form: Form, words: &[String], before: usize) -> Call
+    requires before { before ≤ 4 }
+    requires sessions { AreSessions (drop before (map string_bytes words.now)) }
+    ensures { NamesInputs (map string_bytes words.now) form before result }
+{
+    Call {
+        form,
+        front: &words[..before],
+        streams: &words[before..],
+    }
 }

@@ -79,7 +79,7 @@ fn numbers_of_sessions(rt: HostRuntime) -> Result<(), Fail> {
 
 // The student and the section that `explain` asks about.
 fn names_of(words: &[String]) -> Option<(Name, Name)> {
-    match read_words(words)? {
+    match read_words(words)?.form {
         Form::Explain { student, section } => Some((student, section)),
         _ => None,
     }

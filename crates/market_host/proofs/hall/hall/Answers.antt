@@ -1,113 +1,66 @@
-use Rattle.std.proofs.Common.{◌≤◌, [], ◌∷◌, ◌++◌, arith, length, map, refl, subst}
-use Rattle.std.specs.String.{string_bytes}
-use Rattle.std.proofs.lemmas.List.{length-map}
+use Rattle.std.proofs.Common.{ℕ, List, [], ◌∷◌, arith, refl, subst}
 use Rattle.std.proofs.lemmas.Result.{err_from_is_err_and}
 use Rattle.market_words.specs.declared.words.Form.TheVariants.{Hall}
-use Rattle.market_host.specs.Endings.{bytes_of}
-use Rattle.market_host.specs.Kinds.{Published}
-use Rattle.market_host.specs.Works.{Ends}
-use Rattle.market_host.proofs.HallFacts.{hall_ended, third_stops, third_taken}
-use Rattle.market_host.proofs.Taking.{memory_stops, rest_stops, rest_taken}
-use Rattle.market_host.proofs.WordFacts.{three_names}
-use Rattle.market_host.proofs.Works.{stops_named, taken_named}
+use Rattle.market_words.specs.Inputs.{names_in}
+use Rattle.market_words.specs.Kinds.{Published}
+use Rattle.market_host.specs.Taking.{AreTaken}
+use Rattle.market_host.proofs.Cursor.{none_read_yet}
+use Rattle.market_host.proofs.Taking.{memory_stops}
 use Rattle.market_host.proofs.hall.hall.Goals as goal
+
+pub tables-requires : goal.tables-requires
+tables-requires g c = rw c.of-inputs.ensures (omega (arith, c.requires.named.1.front_long))
+
+pub text-requires : goal.text-requires
+text-requires g c = rw (c.in_ok-tables.ensures.moved, c.of-inputs.ensures) (omega (arith, c.requires.named.1.front_long))
+
+pub rest-requires-clause-front : goal.rest-requires-clause-front
+rest-requires-clause-front g c =
+    rw (c.in_ok-text.ensures.moved, c.in_ok-tables.ensures.moved, c.of-inputs.ensures) (omega (arith, c.requires.named.1.front_long))
+
+pub rest-requires-clause-some : goal.rest-requires-clause-some
+rest-requires-clause-some g c = rw (c.in_ok-text.ensures.moved, c.in_ok-tables.ensures.moved, c.of-inputs.ensures) (c.requires.named.1.some tt)
 
 pub returns-in_err-tables : goal.returns-in_err-tables
 returns-in_err-tables g c =
     let p = err_from_is_err_and c.from_residual.result c.from_residual.ensures.1 in
-    let named =
-    three_names c.args.names.front.now c.catalog-item.result c.roll-item.result c.text-item.result c.as_str.result.now c.as_str-2.result.now
-    (string_bytes c.text-item.result) c.requires.named.1.front_long c.catalog-item.is c.roll-item.is c.text-item.is c.as_str.ensures.value c.as_str-2.ensures.value
-    refl in
-    let names = map string_bytes c.args.names.streams.now in
-    rw (p.1, p.2) (stops_named g.H.Shelf Hall c.args.shelf.now c.take_tables.new.shelf (map string_bytes c.args.names.front.now) _ names
-    c.in_err-tables.field-0.0 named (c.in_err-tables.ensures Hall (Published ∷ [], refl) (string_bytes c.text-item.result ∷ names)))
+    let begun = none_read_yet g.H.Shelf Hall c.requires.named.0 c.args.call c.args.shelf.now c.requires.named.1 in
+    rw (p.1, p.2) ((rw c.of-inputs.ensures at c.in_err-tables.ensures.taken) Hall _ c.args.shelf.now (Published ∷ [], refl) begun)
 
 pub returns-in_err-text : goal.returns-in_err-text
 returns-in_err-text g c =
     let p = err_from_is_err_and c.from_residual-in_err-text.result c.from_residual-in_err-text.ensures.1 in
-    let named =
-    three_names c.args.names.front.now c.catalog-item.result c.roll-item.result c.text-item.result c.as_str.result.now c.as_str-2.result.now
-    c.as_str-3.result.now c.requires.named.1.front_long c.catalog-item.is c.roll-item.is c.text-item.is c.as_str.ensures.value c.as_str-2.ensures.value
-    c.as_str-3.ensures.value in
-    let names = map string_bytes c.args.names.streams.now in
-    rw (p.1, p.2) (stops_named g.H.Shelf Hall c.args.shelf.now c.take_text.new.shelf (map string_bytes c.args.names.front.now) _ names
-    c.in_err-text.field-0.0 named
-    (third_stops g.H.Shelf c.args.shelf.now c.take_tables.new.shelf c.take_text.new.shelf c.as_str.result.now c.as_str-2.result.now c.as_str-3.result.now
-    c.in_ok-tables.tables.catalog c.in_ok-tables.tables.roll (c.in_ok-tables.ensures Hall (Published ∷ [], refl)) names c.in_err-text.field-0.0
-    c.in_err-text.ensures))
+    let begun = none_read_yet g.H.Shelf Hall c.requires.named.0 c.args.call c.args.shelf.now c.requires.named.1 in
+    let tables = (rw c.of-inputs.ensures at c.in_ok-tables.ensures.taken) Hall _ c.args.shelf.now (Published ∷ [], refl) begun in
+    rw (p.1, p.2) (c.in_err-text.ensures.taken Hall _ (tables.0 ∷ tables.1 ∷ []) c.args.shelf.now refl (omega arith) tt tables.2)
 
 pub returns-in_err-streams : goal.returns-in_err-streams
 returns-in_err-streams g c =
     let p = err_from_is_err_and c.from_residual-in_err-streams.result c.from_residual-in_err-streams.ensures.1 in
-    let named =
-    three_names c.args.names.front.now c.catalog-item.result c.roll-item.result c.text-item.result c.as_str.result.now c.as_str-2.result.now
-    c.as_str-3.result.now c.requires.named.1.front_long c.catalog-item.is c.roll-item.is c.text-item.is c.as_str.ensures.value c.as_str-2.ensures.value
-    c.as_str-3.ensures.value in
-    let names = map string_bytes c.args.names.streams.now in
-    let front = c.as_str.result.now ∷ c.as_str-2.result.now ∷ c.as_str-3.result.now ∷ [] in
-    let tables = c.in_ok-tables.ensures Hall (Published ∷ [], refl) in
-    let one = c.in_ok-text.ensures in
-    let third =
-    third_taken g.H.Shelf c.args.shelf.now c.take_tables.new.shelf c.take_text.new.shelf c.as_str.result.now c.as_str-2.result.now c.as_str-3.result.now
-    c.in_ok-tables.tables.catalog c.in_ok-tables.tables.roll tables c.in_ok-text.text.items one in
-    rw (p.1, p.2) (stops_named g.H.Shelf Hall c.args.shelf.now c.take_sessions.new.shelf (map string_bytes c.args.names.front.now) front names
-    c.in_err-streams.field-0.0 named
-    (rest_stops g.H.Shelf Hall c.args.shelf.now c.take_text.new.shelf c.take_sessions.new.shelf front (tables.0 ++ one.text ∷ []) third names 4
-    c.in_err-streams.field-0.0 refl refl refl c.in_err-streams.ensures.trouble c.in_err-streams.ensures.used
-    c.in_err-streams.ensures.kept))
+    let begun = none_read_yet g.H.Shelf Hall c.requires.named.0 c.args.call c.args.shelf.now c.requires.named.1 in
+    let tables = (rw c.of-inputs.ensures at c.in_ok-tables.ensures.taken) Hall _ c.args.shelf.now (Published ∷ [], refl) begun in
+    let text = c.in_ok-text.ensures.taken Hall _ (tables.0 ∷ tables.1 ∷ []) c.args.shelf.now refl (omega arith) tt tables.2 in
+    rw (p.1, p.2) (c.in_err-streams.ensures Hall _ (tables.0 ∷ tables.1 ∷ text.0 ∷ []) c.args.shelf.now refl text.1)
 
 pub opened-requires-clause-short : goal.opened-requires-clause-short
-opened-requires-clause-short g c κs within =
-    let one = c.in_ok-text.ensures in
-    rw c.deref.ensures.value (subst (λ bytes. length bytes ≤ 67108864) one.says one.within)
+opened-requires-clause-short g c κs within = rw c.deref.ensures.value c.in_ok-text.ensures.short
 
 pub returns-in_err-ended : goal.returns-in_err-ended
 returns-in_err-ended g c =
     let p = err_from_is_err_and c.from_residual-in_err-ended.result c.from_residual-in_err-ended.ensures.1 in
-    let named =
-    three_names c.args.names.front.now c.catalog-item.result c.roll-item.result c.text-item.result c.as_str.result.now c.as_str-2.result.now
-    c.as_str-3.result.now c.requires.named.1.front_long c.catalog-item.is c.roll-item.is c.text-item.is c.as_str.ensures.value c.as_str-2.ensures.value
-    c.as_str-3.ensures.value in
-    let names = map string_bytes c.args.names.streams.now in
-    let front = c.as_str.result.now ∷ c.as_str-2.result.now ∷ c.as_str-3.result.now ∷ [] in
-    let tables = c.in_ok-tables.ensures Hall (Published ∷ [], refl) in
-    let one = c.in_ok-text.ensures in
-    let third =
-    third_taken g.H.Shelf c.args.shelf.now c.take_tables.new.shelf c.take_text.new.shelf c.as_str.result.now c.as_str-2.result.now c.as_str-3.result.now
-    c.in_ok-tables.tables.catalog c.in_ok-tables.tables.roll tables c.in_ok-text.text.items one in
-    let read = c.in_ok-streams.ensures.read in
-    let taken =
-    rest_taken g.H.Shelf Hall c.args.shelf.now c.take_text.new.shelf c.take_sessions.new.shelf front (tables.0 ++ one.text ∷ []) third names read.0 refl refl
-    read.2.each (omega (arith, read.2.count)) (omega (arith, length-map c.args.names.streams.now string_bytes, c.requires.named.1.some)) c.in_ok-streams.ensures.ended
-    c.in_ok-streams.ensures.used c.in_ok-streams.ensures.kept in
-    rw (p.1, p.2) (stops_named g.H.Shelf Hall c.args.shelf.now c.take_sessions.new.shelf (map string_bytes c.args.names.front.now) front names _ named
-    (memory_stops g.H.Shelf Hall (front ++ names) ((tables.0 ++ one.text ∷ []) ++ read.0) c.args.shelf.now c.take_sessions.new.shelf taken))
+    let begun = none_read_yet g.H.Shelf Hall c.requires.named.0 c.args.call c.args.shelf.now c.requires.named.1 in
+    let tables = (rw c.of-inputs.ensures at c.in_ok-tables.ensures.taken) Hall _ c.args.shelf.now (Published ∷ [], refl) begun in
+    let text = c.in_ok-text.ensures.taken Hall _ (tables.0 ∷ tables.1 ∷ []) c.args.shelf.now refl (omega arith) tt tables.2 in
+    let rest = c.in_ok-streams.ensures Hall _ (tables.0 ∷ tables.1 ∷ text.0 ∷ []) c.args.shelf.now refl text.1 in
+    rw (p.1, p.2) (memory_stops g.H.Shelf Hall _ _ c.args.shelf.now c.rest.new.shelf rest.1)
 
 pub returns : goal.returns
 returns g c =
-    let named =
-    three_names c.args.names.front.now c.catalog-item.result c.roll-item.result c.text-item.result c.as_str.result.now c.as_str-2.result.now
-    c.as_str-3.result.now c.requires.named.1.front_long c.catalog-item.is c.roll-item.is c.text-item.is c.as_str.ensures.value c.as_str-2.ensures.value
-    c.as_str-3.ensures.value in
-    let names = map string_bytes c.args.names.streams.now in
-    let front = c.as_str.result.now ∷ c.as_str-2.result.now ∷ c.as_str-3.result.now ∷ [] in
-    let tables = c.in_ok-tables.ensures Hall (Published ∷ [], refl) in
-    let one = c.in_ok-text.ensures in
-    let third =
-    third_taken g.H.Shelf c.args.shelf.now c.take_tables.new.shelf c.take_text.new.shelf c.as_str.result.now c.as_str-2.result.now c.as_str-3.result.now
-    c.in_ok-tables.tables.catalog c.in_ok-tables.tables.roll tables c.in_ok-text.text.items one in
-    let read = c.in_ok-streams.ensures.read in
-    let taken =
-    rest_taken g.H.Shelf Hall c.args.shelf.now c.take_text.new.shelf c.take_sessions.new.shelf front (tables.0 ++ one.text ∷ []) third names read.0 refl refl
-    read.2.each (omega (arith, read.2.count)) (omega (arith, length-map c.args.names.streams.now string_bytes, c.requires.named.1.some)) c.in_ok-streams.ensures.ended
-    c.in_ok-streams.ensures.used c.in_ok-streams.ensures.kept in
-    let ended = c.in_ok-ended.ended in
-    taken_named g.H.Shelf Hall c.args.shelf.now c.take_sessions.new.shelf (map string_bytes c.args.names.front.now) front names
-    (λ texts. Ends Hall texts ended.status (bytes_of ended.output)) named (
-      (tables.0 ++ one.text ∷ []) ++ read.0,
-      taken,
-      hall_ended (g.H.Shelf.shows c.take_text.new.shelf).holds c.in_ok-tables.tables.catalog c.in_ok-tables.tables.roll
-          c.in_ok-text.text.items one.text tables.0 names read.0 read.1 c.in_ok-streams.streams.lists.items ended.status (bytes_of ended.output) tables.2 one.says read.2
-          (rw c.deref.ensures.value at c.in_ok-ended.ensures),
+    let begun = none_read_yet g.H.Shelf Hall c.requires.named.0 c.args.call c.args.shelf.now c.requires.named.1 in
+    let tables = (rw c.of-inputs.ensures at c.in_ok-tables.ensures.taken) Hall _ c.args.shelf.now (Published ∷ [], refl) begun in
+    let text = c.in_ok-text.ensures.taken Hall _ (tables.0 ∷ tables.1 ∷ []) c.args.shelf.now refl (omega arith) tt tables.2 in
+    let rest = c.in_ok-streams.ensures Hall _ (tables.0 ∷ tables.1 ∷ text.0 ∷ []) c.args.shelf.now refl text.1 in (
+      tables.0 ∷ tables.1 ∷ c.in_ok-text.text.items ∷ rest.0,
+      subst (λ (one : List ℕ). AreTaken g.H.Shelf Hall (names_in c.args.call) (tables.0 ∷ tables.1 ∷ one ∷ rest.0) c.args.shelf.now c.rest.new.shelf) text.2 rest.1,
+      (rw c.deref.ensures.value at c.in_ok-ended.ensures) tables.0 tables.1 rest.0 tables.3.catalog_says tables.3.roll_says rest.2,
     )

@@ -25,9 +25,9 @@ returns-in-Ok-clause-answered g c =
     is_answered (map string_bytes c.args.words.now) (sight g.H.Shelf c.args.shelf.now c.answer.new.shelf)
     (trace g.H.Shelf c.args.shelf.now c.answer.new.shelf) (writing g.K.Sink c.args.sink.now c.finish-in-Ok.new.sink) c.finish-in-Ok.result
     c.in-Ok.ended.status (bytes_of c.in-Ok.ended.output)
-    (ended_outcome g.H.Shelf c.in-Some.form c.args.shelf.now c.answer.new.shelf (map string_bytes c.args.words.now) c.in-Some.ensures.form c.in-Ok.ended.status
+    (ended_outcome g.H.Shelf c.in-Some.call.form c.args.shelf.now c.answer.new.shelf (map string_bytes c.args.words.now) c.in-Some.call c.in-Some.ensures.form c.in-Ok.ended.status
     (bytes_of c.in-Ok.ended.output) c.in-Ok.ensures)
-    (ended_used g.H.Shelf c.in-Some.form c.args.shelf.now c.answer.new.shelf (map string_bytes c.args.words.now) c.in-Some.ensures.form c.in-Ok.ended.status
+    (ended_used g.H.Shelf c.in-Some.call.form c.args.shelf.now c.answer.new.shelf (map string_bytes c.args.words.now) c.in-Some.call c.in-Some.ensures.form c.in-Ok.ended.status
     (bytes_of c.in-Ok.ended.output) c.in-Ok.ensures)
     c.finish-in-Ok.ensures.status
     (rw c.as_bytes-in-Ok.ensures at c.finish-in-Ok.ensures.written) c.finish-in-Ok.ensures.cause
@@ -41,9 +41,9 @@ returns-in-Err-clause-answered g c =
     is_answered words seen begun (writing g.K.Sink c.args.sink.now c.finish-in-Err.new.sink) c.finish-in-Err.result
     (status_of c.in-Err.trouble) (line_of c.in-Err.trouble)
     (stopped_outcome words seen c.in-Err.trouble (line_of c.in-Err.trouble)
-    (stopped_so g.H.Shelf c.in-Some.form c.args.shelf.now c.answer.new.shelf words c.in-Some.ensures.form c.in-Err.trouble c.in-Err.ensures))
+    (stopped_so g.H.Shelf c.in-Some.call.form c.args.shelf.now c.answer.new.shelf words c.in-Some.call c.in-Some.ensures.form c.in-Err.trouble c.in-Err.ensures))
     (stopped_used words begun c.in-Err.trouble
-    (used_until g.H.Shelf c.in-Some.form c.args.shelf.now c.answer.new.shelf words c.in-Some.ensures.form c.in-Err.trouble c.in-Err.ensures))
+    (used_until g.H.Shelf c.in-Some.call.form c.args.shelf.now c.answer.new.shelf words c.in-Some.call c.in-Some.ensures.form c.in-Err.trouble c.in-Err.ensures))
     (rw c.status.ensures at c.finish-in-Err.ensures.status)
     (rw (c.as_bytes-in-Err.ensures, c.line_for.ensures) at c.finish-in-Err.ensures.written) c.finish-in-Err.ensures.cause
     (rw (c.as_bytes-in-Err.ensures, c.line_for.ensures) at c.finish-in-Err.ensures.front) c.finish-in-Err.ensures.uncounted
@@ -61,4 +61,4 @@ pub returns-in-Err-clause-later : goal.returns-in-Err-clause-later
 returns-in-Err-clause-later g c = c.in-Err.ensures.kept.later
 
 pub finish-requires-in-Ok : goal.finish-requires-in-Ok
-finish-requires-in-Ok g c = ended_apart c.in-Some.form c.in-Ok.ensures.0 c.in-Ok.ended.status (bytes_of c.in-Ok.ended.output) c.in-Ok.ensures.2
+finish-requires-in-Ok g c = ended_apart c.in-Some.call.form c.in-Ok.ensures.0 c.in-Ok.ended.status (bytes_of c.in-Ok.ended.output) c.in-Ok.ensures.2

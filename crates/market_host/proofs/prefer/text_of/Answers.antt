@@ -9,7 +9,7 @@ use Rattle.market_host.proofs.prefer.text_of.Goals as goal
 pub preferences_text-requires-clause-short : goal.preferences_text-requires-clause-short
 preferences_text-requires-clause-short g c =
     subst (All HasShortCommand) (sym c.in_ok-closed.ensures.entries)
-    (short_entries c.requires.0 c.args.streams.now.lists.items _ c.requires.1 (rw c.deref.ensures.value at c.in_ok-closed.ensures.merges))
+    (short_entries c.requires.said.0 c.args.streams.now.lists.items _ c.requires.said.1 (rw c.deref.ensures.value at c.in_ok-closed.ensures.merges))
 
 pub returns : goal.returns
 returns g c =

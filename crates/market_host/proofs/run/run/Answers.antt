@@ -1,81 +1,52 @@
-use Rattle.std.proofs.Common.{[], ◌∷◌, arith, map, refl}
-use Rattle.std.specs.String.{string_bytes}
-use Rattle.std.proofs.lemmas.List.{length-map}
+use Rattle.std.proofs.Common.{[], ◌∷◌, arith, refl}
 use Rattle.std.proofs.lemmas.Result.{err_from_is_err_and}
 use Rattle.market_words.specs.declared.words.Form.TheVariants.{Run}
 use Rattle.published_parts.specs.Markets.{market_of}
 use Rattle.session_hall.specs.Streams.{command_lists}
-use Rattle.market_host.specs.Markets.{AreInputs}
-use Rattle.market_host.proofs.MarketFacts.{inputs_taken}
-use Rattle.market_host.proofs.Taking.{memory_stops, rest_stops}
-use Rattle.market_host.proofs.WordFacts.{three_names}
-use Rattle.market_host.proofs.Works.{stops_named, taken_named}
+use Rattle.market_host.proofs.Cursor.{none_read_yet, with_sessions}
+use Rattle.market_host.proofs.Taking.{memory_stops}
 use Rattle.market_host.proofs.run.run.Goals as goal
+
+pub market-requires : goal.market-requires
+market-requires g c = rw c.of-inputs.ensures (omega (arith, c.requires.named.1.front_long))
+
+pub rest-requires-clause-front : goal.rest-requires-clause-front
+rest-requires-clause-front g c = rw (c.in_ok-market.ensures.moved, c.of-inputs.ensures) (omega (arith, c.requires.named.1.front_long))
+
+pub rest-requires-clause-some : goal.rest-requires-clause-some
+rest-requires-clause-some g c = rw (c.in_ok-market.ensures.moved, c.of-inputs.ensures) (c.requires.named.1.some tt)
 
 pub returns-in_err-market : goal.returns-in_err-market
 returns-in_err-market g c =
     let p = err_from_is_err_and c.from_residual.result c.from_residual.ensures.1 in
-    let named =
-    three_names c.args.names.front.now c.catalog-item.result c.roll-item.result c.settings-item.result c.as_str.result.now c.as_str-2.result.now
-    c.as_str-3.result.now c.requires.named.1.front_long c.catalog-item.is c.roll-item.is c.settings-item.is c.as_str.ensures.value c.as_str-2.ensures.value
-    c.as_str-3.ensures.value in
-    let names = map string_bytes c.args.names.streams.now in
-    rw (p.1, p.2) (stops_named g.H.Shelf (Run c.args.workers) c.args.shelf.now c.take_market.new.shelf (map string_bytes c.args.names.front.now) _ names
-    c.in_err-market.field-0.0 named (c.in_err-market.ensures (Run c.args.workers) ([], refl) names))
+    let begun = none_read_yet g.H.Shelf (Run c.args.workers) c.requires.named.0 c.args.call c.args.shelf.now c.requires.named.1 in
+    rw (p.1, p.2) ((rw c.of-inputs.ensures at c.in_err-market.ensures.taken) (Run c.args.workers) _ c.args.shelf.now ([], refl) begun)
 
 pub returns-in_err-streams : goal.returns-in_err-streams
 returns-in_err-streams g c =
     let p = err_from_is_err_and c.from_residual-in_err-streams.result c.from_residual-in_err-streams.ensures.1 in
-    let named =
-    three_names c.args.names.front.now c.catalog-item.result c.roll-item.result c.settings-item.result c.as_str.result.now c.as_str-2.result.now
-    c.as_str-3.result.now c.requires.named.1.front_long c.catalog-item.is c.roll-item.is c.settings-item.is c.as_str.ensures.value c.as_str-2.ensures.value
-    c.as_str-3.ensures.value in
-    let names = map string_bytes c.args.names.streams.now in
-    let front = c.as_str.result.now ∷ c.as_str-2.result.now ∷ c.as_str-3.result.now ∷ [] in
-    let said = c.in_ok-market.ensures (Run c.args.workers) ([], refl) in
-    rw (p.1, p.2) (stops_named g.H.Shelf (Run c.args.workers) c.args.shelf.now c.take_sessions.new.shelf (map string_bytes c.args.names.front.now) front names
-    c.in_err-streams.field-0.0 named
-    (rest_stops g.H.Shelf (Run c.args.workers) c.args.shelf.now c.take_market.new.shelf c.take_sessions.new.shelf front said.0 said.1 names 4
-    c.in_err-streams.field-0.0 refl refl refl c.in_err-streams.ensures.trouble c.in_err-streams.ensures.used
-    c.in_err-streams.ensures.kept))
+    let begun = none_read_yet g.H.Shelf (Run c.args.workers) c.requires.named.0 c.args.call c.args.shelf.now c.requires.named.1 in
+    let market = (rw c.of-inputs.ensures at c.in_ok-market.ensures.taken) (Run c.args.workers) _ c.args.shelf.now ([], refl) begun in
+    rw (p.1, p.2) (c.in_err-streams.ensures (Run c.args.workers) _ (market.0 ∷ market.1 ∷ market.2 ∷ []) c.args.shelf.now refl market.3)
 
 pub returns-in_err-ended : goal.returns-in_err-ended
 returns-in_err-ended g c =
     let p = err_from_is_err_and c.from_residual-in_err-ended.result c.from_residual-in_err-ended.ensures.1 in
-    let named =
-    three_names c.args.names.front.now c.catalog-item.result c.roll-item.result c.settings-item.result c.as_str.result.now c.as_str-2.result.now
-    c.as_str-3.result.now c.requires.named.1.front_long c.catalog-item.is c.roll-item.is c.settings-item.is c.as_str.ensures.value c.as_str-2.ensures.value
-    c.as_str-3.ensures.value in
-    let names = map string_bytes c.args.names.streams.now in
-    let front = c.as_str.result.now ∷ c.as_str-2.result.now ∷ c.as_str-3.result.now ∷ [] in
-    let market = market_of c.in_ok-market.market.catalog c.in_ok-market.market.roll c.in_ok-market.market.settings in
-    let read = c.in_ok-streams.ensures.read in
-    let said =
-    inputs_taken g.H.Shelf (Run c.args.workers) c.args.shelf.now c.take_market.new.shelf c.take_sessions.new.shelf front [] market names read.0 read.1
-    c.in_ok-streams.streams.lists.items (c.in_ok-market.ensures (Run c.args.workers) ([], refl)) refl refl read.2
-    (omega (arith, length-map c.args.names.streams.now string_bytes, c.requires.named.1.some)) c.in_ok-streams.ensures.ended c.in_ok-streams.ensures.used
-    c.in_ok-streams.ensures.kept in
-    rw (p.1, p.2) (stops_named g.H.Shelf (Run c.args.workers) c.args.shelf.now c.take_sessions.new.shelf (map string_bytes c.args.names.front.now) front names _
-    named (memory_stops g.H.Shelf (Run c.args.workers) _ said.0 c.args.shelf.now c.take_sessions.new.shelf said.1))
+    let begun = none_read_yet g.H.Shelf (Run c.args.workers) c.requires.named.0 c.args.call c.args.shelf.now c.requires.named.1 in
+    let market = (rw c.of-inputs.ensures at c.in_ok-market.ensures.taken) (Run c.args.workers) _ c.args.shelf.now ([], refl) begun in
+    let rest = c.in_ok-streams.ensures (Run c.args.workers) _ (market.0 ∷ market.1 ∷ market.2 ∷ []) c.args.shelf.now refl market.3 in
+    rw (p.1, p.2) (memory_stops g.H.Shelf (Run c.args.workers) _ _ c.args.shelf.now c.rest.new.shelf rest.1)
 
 pub returns : goal.returns
 returns g c =
-    let named =
-    three_names c.args.names.front.now c.catalog-item.result c.roll-item.result c.settings-item.result c.as_str.result.now c.as_str-2.result.now
-    c.as_str-3.result.now c.requires.named.1.front_long c.catalog-item.is c.roll-item.is c.settings-item.is c.as_str.ensures.value c.as_str-2.ensures.value
-    c.as_str-3.ensures.value in
-    let names = map string_bytes c.args.names.streams.now in
-    let front = c.as_str.result.now ∷ c.as_str-2.result.now ∷ c.as_str-3.result.now ∷ [] in
-    let market = market_of c.in_ok-market.market.catalog c.in_ok-market.market.roll c.in_ok-market.market.settings in
-    let read = c.in_ok-streams.ensures.read in
-    let said =
-    taken_named g.H.Shelf (Run c.args.workers) c.args.shelf.now c.take_sessions.new.shelf (map string_bytes c.args.names.front.now) front names
-    (λ texts. AreInputs texts market [] (command_lists c.in_ok-streams.streams.lists.items)) named
-    (inputs_taken g.H.Shelf (Run c.args.workers) c.args.shelf.now c.take_market.new.shelf c.take_sessions.new.shelf front [] market names read.0 read.1
-    c.in_ok-streams.streams.lists.items (c.in_ok-market.ensures (Run c.args.workers) ([], refl)) refl refl read.2
-    (omega (arith, length-map c.args.names.streams.now string_bytes, c.requires.named.1.some)) c.in_ok-streams.ensures.ended c.in_ok-streams.ensures.used
-    c.in_ok-streams.ensures.kept) in
-    (said.0, said.1, c.in_ok-ended.ensures said.0 said.2)
+    let begun = none_read_yet g.H.Shelf (Run c.args.workers) c.requires.named.0 c.args.call c.args.shelf.now c.requires.named.1 in
+    let market = (rw c.of-inputs.ensures at c.in_ok-market.ensures.taken) (Run c.args.workers) _ c.args.shelf.now ([], refl) begun in
+    let rest = c.in_ok-streams.ensures (Run c.args.workers) _ (market.0 ∷ market.1 ∷ market.2 ∷ []) c.args.shelf.now refl market.3 in
+    let said = c.in_ok-market.market in
+    let say =
+    with_sessions market.0 market.1 market.2 rest.0 (market_of said.catalog said.roll said.settings) (command_lists c.in_ok-streams.streams.lists.items)
+    market.4 rest.2 in
+    (_, rest.1, c.in_ok-ended.ensures market.0 market.1 market.2 rest.0 say)
 
 pub invariant_of-workers : goal.invariant_of-workers
 invariant_of-workers g c = record { within = c.requires.named.1.has.5 }
