@@ -5,10 +5,10 @@ import { code, el, opening, p } from './elements.js';
 import { demandedWith, linesInText } from './one_student.js';
 import { priceOf, raisedBudget } from './reckoning.js';
 import { CAUSES } from './signs.js';
-import { grouped, sections, stageName, studentName, tokens } from './stage_words.js';
+import { sections, stageName, studentName } from './stage_words.js';
 import { linesOf } from './texts.js';
 import { weekView } from './week_view.js';
-import { shortList } from './wording.js';
+import { grouped, shortList, tokens } from './wording.js';
 import { findingWords } from './words.js';
 import { work } from './work.js';
 

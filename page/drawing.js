@@ -3,22 +3,22 @@
 
 import { code, el, opening, p } from './elements.js';
 import { tableOf } from './grid.js';
-import { TAKES, boundOf, closedBy, firstUndue, losesTies, nodesOf } from './reckoning.js';
+import { TAKES, boundOf, closedBy, firstUndue, nodesOf } from './reckoning.js';
 import { keyOf, sign } from './sign_key.js';
-import { leftWords, pairedWorth, points } from './signs.js';
-import { listed, plural } from './wording.js';
+import { endWords, leftWords, pairedWorth, points } from './signs.js';
+import { grouped, listed, plural } from './wording.js';
 
 /**
- * The line of one section that may not be taken, or of several.
+ * The line of one section that cannot be taken, or of several.
  * @param {Walk} walk @param {number[]} chosen @param {number[]} places
  */
 function closedLine(walk, chosen, places) {
   const words = (/** @type {number} */ it) =>
-    el('span', {}, el('b', {}, walk.menu.places[it].shown), ` ${closedBy(walk, chosen, it) ?? 'may not be taken'}`);
+    el('span', {}, el('b', {}, walk.menu.places[it].shown), ` ${closedBy(walk, chosen, it) ?? 'is left out'}`);
   if (places.length === 1) return el('li', { class: 'closed' }, sign('-'), ' ', words(places[0]), '.');
   const names = listed(places.map(it => walk.menu.places[it].shown));
   return el('li', { class: 'closed' }, opening(
-    [sign('-'.repeat(places.length)), ' ', `${places.length} sections may not be taken: ${names}`],
+    [sign('-'.repeat(places.length)), ' ', `${places.length} sections are left out: ${names}`],
     () => el('ul', { class: 'plain' }, places.map(it => el('li', {}, words(it), '.')))));
 }
 
@@ -30,11 +30,7 @@ const RESOURCES = { b: ['token', 'tokens'], c: ['credit', 'credits'], m: ['secti
  * @param {Walk} walk @param {number[]} chosen @param {number} from @param {TreeNode} node
  */
 function boundWords(walk, chosen, from, node) {
-  const it = boundOf(walk, chosen, from, node), most = Math.floor(it.bound / 1000);
-  const isTie = most === walk.worth && losesTies(walk, chosen, from);
-  const tie = 'of bundles of equal worth the one with the earlier section is preferred, and that is the bundle.';
-  const end = `So at most ${most}, ${isTie ? `no more than the ${walk.worth} of the bundle; ${tie}`
-    : `less than the ${walk.worth} of the bundle: no more need be looked at.`}`;
+  const it = boundOf(walk, chosen, from, node), end = endWords({ walk, chosen, place: from }, it.bound);
   if (node.symbol !== 'n') return [...rateWords(walk, node, it), p(end)];
   const more = it.brought.map(that => `${that.worth} (${that.name})`).join(' + ');
   const rest = more ? `The rest can bring ${more} at most, in all ${points(it.bound)}.` : 'Nothing else can come to '
@@ -57,9 +53,9 @@ function rateWords(walk, node, it) {
       + 'Who could spend all that is left at that rate, and besides got what each course brings above it, would have '
       + 'at most'),
     el('ul', { class: 'plain' },
-      el('li', {}, `${it.value} (chosen) + ${points(it.rate)} · ${it.left} (left) = ${all}`),
+      el('li', {}, `${it.value} (chosen) + ${points(it.rate)} · ${grouped(it.left)} (left) = ${all}`),
       it.brought.map(that => el('li', {},
-        `+ ${points(that.brings)} (${that.name}: ${that.worth} less ${points(it.rate)} · ${that.takes})`)),
+        `+ ${points(that.brings)} (${that.name}: ${that.worth} less ${points(it.rate)} · ${grouped(that.takes)})`)),
       el('li', {}, `= ${points(it.bound)}`)),
   ];
 }
@@ -94,7 +90,7 @@ function takenLine(walk, chosen, node, place) {
   const isOnTheWay = now.every(that => walk.champion.includes(that))
     && walk.champion.every(that => that > place || now.includes(that));
   const must = node.symbol === '!' ? ', which has to be taken' : '';
-  const rest = `${must} (place ${place}, rating ${it.rating}, price ${it.price}): ${leftWords(walk, now)}`;
+  const rest = `${must} (number ${place}, rating ${it.rating}, price ${grouped(it.price)}): ${leftWords(walk, now)}`;
   const summary = [sign(node.symbol), ' with ', el('b', {}, it.shown), rest];
   return el('li', { class: isOnTheWay ? 'way' : '' },
     opening(summary, () => levelOf(walk, now, place + 1, node.with), isOnTheWay));
@@ -132,8 +128,8 @@ export function drawingOf(walk, text) {
       el('p', { class: 'tree-text' }, code(text)),
     ];
   }
-  const places = tableOf('The places of the signs', [
-    { head: 'Place', of: it => it.place },
+  const places = tableOf('The numbers in the signs', [
+    { head: 'Number', of: it => it.place },
     { head: 'Section', of: it => it.shown, isText: true },
     { head: 'Rating', of: it => it.rating },
     { head: 'Price', of: it => it.price },
@@ -141,9 +137,9 @@ export function drawingOf(walk, text) {
   return [
     p('Read from the top down. A line that opens takes its section, and shows what follows; the next line does without '
       + `it. At first ${leftWords(walk, [])}.`),
-    keyOf(text, walk.menu),
+    keyOf(text, walk),
     levelOf(walk, [], 0, root),
-    opening('The signs as they are published, and their places',
+    opening('The signs as they are published, and the sections that they number',
       () => [el('p', { class: 'tree-text' }, code(text)), places]),
   ];
 }

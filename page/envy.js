@@ -3,7 +3,7 @@
 import { button, el, p } from './elements.js';
 import { callOf } from './program.js';
 import { namesOf } from './texts.js';
-import { listed, plural } from './wording.js';
+import { grouped, listed, plural } from './wording.js';
 import { answerWords } from './words.js';
 import { work } from './work.js';
 
@@ -55,12 +55,12 @@ function envyWords(market, student, stage, when) {
     higher && `${plural(higher, 'student')} of a greater budget`,
   ].filter(Boolean);
   const first = lower + higher > 1 ? 'The first of them is' : 'It is';
-  const tokens = market.text.budgets[market.roll.findIndex(it => it.name === sees.other)];
+  const budget = market.text.budgets[market.roll.findIndex(it => it.name === sees.other)];
   const end = sees.but ? `Without ${sees.but} it would not envy ${sees.other}.`
     : `It would envy ${sees.other} without any one of these sections too.`;
   const more = beyond && sees.but
     ? ` (${beyond} of them it would envy without any one of their sections too.)` : '';
-  return p(`${when} ${name} envies ${listed(of)}. ${first} ${sees.other}, whose budget is ${tokens}: of the sections `
+  return p(`${when} ${name} envies ${listed(of)}. ${first} ${sees.other}, whose budget is ${grouped(budget)}: of the sections `
     + `of ${sees.other} ${name} could use ${listed(sees.names)}, which are worth more to ${name} than its own bundle. `
     + `${end}${more}`);
 }

@@ -1,7 +1,7 @@
 // Tables that sort, filter and copy.
 
 import { button, copied, el, p } from './elements.js';
-import { plural } from './wording.js';
+import { grouped, plural } from './wording.js';
 
 /** @param {string | number} one @param {string | number} other */
 function compare(one, other) {
@@ -97,9 +97,9 @@ function headsOf(columns, now, arrange) {
 /** @template Row @param {Row} row @param {Column<Row>[]} columns */
 function rowOf(row, columns) {
   return el('tr', {}, columns.map((column, at) => {
-    const isWords = !at && String(column.of(row)).includes(' ');
+    const value = column.of(row), isWords = !at && String(value).includes(' ');
     return el(at ? 'td' : 'th', { scope: at ? null : 'row', class: isWords ? 'words' : classOf(column) },
-      column.show ? column.show(row) : String(column.of(row)));
+      column.show ? column.show(row) : typeof value === 'number' ? grouped(value) : value);
   }));
 }
 

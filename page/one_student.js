@@ -4,8 +4,8 @@ import { MOST_BASE, roomOf, sessionOf } from './alone.js';
 import { encoded } from './bytes.js';
 import { callOf } from './program.js';
 import { menuOf, priceOf, raisedBudget, worthOf } from './reckoning.js';
-import { grouped, tokens } from './stage_words.js';
 import { linesOf, namesOf, treeAt, turnsOf } from './texts.js';
+import { grouped, tokens } from './wording.js';
 
 /**
  * Runs one call of the program and tells that it works.

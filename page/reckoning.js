@@ -1,7 +1,7 @@
 // What the page works out by itself, to draw a tree that the program has checked: which sections clash, what a bundle
 // is worth, what is left, and the bound that closes a node (FORMATS, "Best bundles" and "Trees").
 
-import { plural } from './wording.js';
+import { grouped, plural } from './wording.js';
 
 /** @param {Meeting} one @param {Meeting} other */
 function overlaps(one, other) {
@@ -148,7 +148,7 @@ export function closedBy(walk, chosen, place) {
     const clash = clashOf(section, walk.menu.places[it].section);
     if (clash) return `${clash} ${walk.menu.places[it].shown}`;
   }
-  if (price > left.b) return `has the price ${price}, and ${plural(left.b, 'token is', 'tokens are')} left`;
+  if (price > left.b) return `has the price ${grouped(price)}, and ${plural(left.b, 'token is', 'tokens are')} left`;
   if (section.credits > left.c) {
     return `has ${plural(section.credits, 'credit')}, and ${plural(left.c, 'credit is', 'credits are')} left`;
   }
@@ -201,16 +201,20 @@ export function boundOf(walk, chosen, from, node) {
 }
 
 /**
+ * The lowest decided place on which the chosen ones and the bundle differ; null where they do on none.
+ * @param {Walk} walk @param {number[]} chosen @param {number} from
+ */
+export function firstDifference(walk, chosen, from) {
+  for (let it = 0; it < from; it++) if (chosen.includes(it) !== walk.champion.includes(it)) return it;
+  return null;
+}
+
+/**
  * Whether the lowest decided place on which the chosen ones and the bundle differ is the bundle's: then a bundle of
  * equal worth is no better.
  * @param {Walk} walk @param {number[]} chosen @param {number} from
  */
-export function losesTies(walk, chosen, from) {
-  for (let it = 0; it < from; it++) {
-    if (chosen.includes(it) !== walk.champion.includes(it)) return walk.champion.includes(it);
-  }
-  return false;
-}
+export const losesTies = (walk, chosen, from) => walk.champion.includes(firstDifference(walk, chosen, from));
 
 /**
  * Whether the symbol of a node is the one that is due by what the page works out.

@@ -6,59 +6,83 @@ import { shortList } from './wording.js';
 /** Of how many places the names stand at once; more unfold. */
 const MOST_PLACES = 20;
 
+/** Of how many bounds of a kind each has its own line. */
+const MOST_BOUNDS = 6;
+
 /**
  * A sign as it is shown.
  * @param {string} symbol
  */
 export const sign = symbol => el('span', { class: 'sign' }, symbol);
 
+/** @type {[string, (walk: { allowed?: Set<string> }) => string][]} */
 const KEY = [
-  ['+', 'the section is taken: first comes what follows with it, then what follows without it'],
-  ['-', 'the section is left out: it clashes, too little is left for it, or it has no free seat'],
-  ['!', 'the section that is asked for comes next, and has to be taken'],
-  ['x', 'the section that is asked for can no more be taken'],
-  ['*', 'the bundle itself, which the signs prove to be the best'],
-  ['n', 'no more need be looked at: even with all that may still come it would not be better than the bundle'],
+  ['+', () => 'the section is taken; later the signs come back to it, and go on without it'],
+  ['-', ({ allowed }) => 'the section cannot be taken, and is left out: it is of the same course as one that is taken, '
+    + `or meets at its time, or too little is left for it${allowed ? ', or it had no free seat' : ''}`],
+  ['!', () => 'the section that is asked for: it has to be taken'],
+  ['x', () => 'stop: the section that is asked for can no more be taken'],
+  ['*', () => 'stop: this is the bundle itself, which the signs prove to be the best'],
+  ['n', () => 'stop: even with all that may still come it would not be better than the bundle'],
 ];
 
-/** @type {Record<string, string>} */
-const LEFT = { b: 'tokens left', c: 'credits left', m: 'sections that may still come' };
+/**
+ * What a bound says, of a section.
+ * @type {Record<string, (section: string) => string>}
+ */
+const BOUND_MEANS = {
+  b: it => `stop: even with the tokens left spent as well as on ${it}, or better where a section brings more for a `
+    + 'token, the bundle is not beaten',
+  c: it => `stop: even with the credits left used as well as on ${it}, or better where a section brings more for a `
+    + 'credit, the bundle is not beaten',
+  m: it => `stop: even if each further section brought as much as ${it}, or more where one does, the bundle is not `
+    + 'beaten',
+};
 
 /**
- * What a bound means, of the first place that it has here; where it has others too, the names of all of them follow.
+ * What the bounds of a kind mean that a tree has: the first in words, the others beside it, the most of them in one.
  * @param {string} text @param {string} symbol @param {Menu} menu
  */
-export function boundMeans(text, symbol, menu) {
-  const numbers = [...text.matchAll(new RegExp(`${symbol}(\\d+)`, 'g'))].map(it => it[1]), [first] = numbers;
-  const it = menu.places[Number(first)], others = numbers.some(number => number !== first);
-  const section = it ? `section ${it.place} (${it.shown})` : 'that section';
-  return { sign: symbol + (first ?? ''), words: `even if all ${LEFT[symbol]} brought as much worth each as `
-    + `${section} does, and better sections what they bring above that, it would not be better than the bundle`
-    + (others ? numberedBy(text, symbol, menu) : '') };
+export function boundsMean(text, symbol, { places }) {
+  const numbers = new Set([...text.matchAll(new RegExp(`${symbol}(\\d+)`, 'g'))].map(it => Number(it[1])));
+  const all = [...numbers].map(number => ({ sign: `${symbol}${number}`, of: placeWords(places, number) }));
+  const told = all.slice(0, MOST_BOUNDS).map(({ sign: it, of }, at) => (
+    { sign: it, words: at ? `the same with ${of}` : BOUND_MEANS[symbol](of) }));
+  const rest = all.slice(MOST_BOUNDS).map(it => it.of);
+  return rest.length ? [...told, { sign: `${symbol}..`, words: `the same with ${shortList(rest)}` }] : told;
 }
 
-const WAYS = 'Each + opens two ways, with the section and without it, and each way ends in one of * n x b c m: so no '
-  + 'bundle was missed.';
+/** @param {Place[]} places @param {number} number */
+const placeWords = (places, number) => `${places[number] ? `${places[number].shown} ` : ''}(number ${number})`;
+
+/**
+ * What each sign of a tree means, of those that it has.
+ * @param {string} text @param {{ menu: Menu, allowed?: Set<string> }} walk
+ */
+export const meanings = (text, walk) => [
+  ...KEY.filter(([it]) => text.includes(it)).map(([it, words]) => ({ sign: it, words: words(walk) })),
+  ...Object.keys(BOUND_MEANS).flatMap(it => boundsMean(text, it, walk.menu)),
+];
+
+/**
+ * Why the signs of a tree leave nothing out; nothing where they open no two ways.
+ * @param {string} text
+ */
+export function waysWords(text) {
+  const ends = [...'*nxbcm'].filter(it => text.includes(it));
+  return text.includes('+') && ends.length ? `Each + opens two ways, with the section and without it, and each way `
+    + `ends in ${ends.join(' or ')}: so no bundle was missed.` : '';
+}
 
 /**
  * What the signs of a tree mean, of those that it has, and why they leave nothing out.
- * @param {string} text @param {Menu} menu
+ * @param {string} text @param {{ menu: Menu, allowed?: Set<string> }} walk
  */
-export const keyOf = (text, menu) => el('ul', { class: 'plain quiet', 'aria-label': 'What the signs mean' },
-  [
-    ...KEY.filter(([it]) => text.includes(it)).map(([it, words]) => ({ sign: it, words })),
-    ...Object.keys(LEFT).filter(it => text.includes(it)).map(it => boundMeans(text, it, menu)),
-  ].map(it => el('li', {}, sign(it.sign), ` ${it.words}`)).concat(text.includes('+') ? el('li', {}, WAYS) : []));
-
-/**
- * The sections whose places stand behind a sign.
- * @param {string} text @param {string} symbol @param {Menu} menu
- */
-export function numberedBy(text, symbol, { places }) {
-  const numbered = [...text.matchAll(/([bcm])(\d+)/g)].filter(it => it[1] === symbol);
-  const numbers = new Set(numbered.map(it => Number(it[2])));
-  const named = places.filter(it => numbers.has(it.place)).map(it => `${it.place} is ${it.shown}`);
-  return named.length ? `. Here ${shortList(named)}` : '';
+export function keyOf(text, walk) {
+  const ways = waysWords(text);
+  return el('ul', { class: 'plain quiet key', 'aria-label': 'What the signs mean' },
+    meanings(text, walk).map(it => el('li', {}, sign(it.sign), ' ', el('span', {}, it.words))),
+    ways ? el('li', { class: 'rest' }, ways) : null);
 }
 
 /**
@@ -68,6 +92,6 @@ export function numberedBy(text, symbol, { places }) {
 export function placeNames({ places }) {
   const words = places.map(it => `${it.place} ${it.shown}`).join(', ');
   const told = () => el('p', { class: 'quiet' },
-    `The places are the rated sections, in the order of the catalogue: ${words}.`);
-  return places.length > MOST_PLACES ? opening(`The names of the ${places.length} places`, told) : told();
+    `The signs go through the rated sections in the order of the catalogue, and number them from 0: ${words}.`);
+  return places.length > MOST_PLACES ? opening(`The numbers of the ${places.length} sections`, told) : told();
 }

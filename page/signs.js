@@ -1,7 +1,9 @@
 // Explains the signs of a tree one after another, and stops at the first that does not fit (FORMATS, "Trees").
 
-import { TAKES, boundOf, closedBy, leftOf, losesTies, openPlaces, worthOf } from './reckoning.js';
-import { listed, plural } from './wording.js';
+import {
+  TAKES, boundOf, closedBy, firstDifference, leftOf, losesTies, openPlaces, worthOf,
+} from './reckoning.js';
+import { grouped, listed, plural } from './wording.js';
 
 const SIGN = /[*nx!+-]|[bcm](?:0|[1-9]\d?)(?!\d)/y;
 const BOUNDS = [['b', 'token', 'tokens'], ['c', 'credit', 'credits'], ['m', 'section', 'sections']];
@@ -81,8 +83,8 @@ function signAt(text, at) {
 }
 
 /**
- * The signs of a tree one after another, each in words. Places that may not be taken and follow each other are one
- * step. The last step is of kind `fault` where a sign does not fit, and of kind `end` where all do.
+ * The signs of a tree one after another, each in words. The last step is of kind `fault` where a sign does not fit, and
+ * of kind `end` where all do.
  * @param {Walk} walk
  * @param {string} text
  * @returns {Generator<Step>}
@@ -96,65 +98,43 @@ export function* stepsOf(walk, text) {
   for (;;) {
     const sign = signAt(text, at), due = dueSign(walk, chosen, place);
     if (!sign || sign !== due) { yield { ...faultAt(walk, chosen, text, at, due), back }; return; }
-    const node = { walk, chosen, place }, depth = waiting.length;
-    if (sign === '-') {
-      const run = closedRun(walk, chosen, place, text, at);
-      yield { kind: 'closed', at, sign: '-'.repeat(run), back, words: closedWords(node, run), depth };
-      [place, at, back] = [place + run, at + run, ''];
-      continue;
-    }
-    yield { kind: STEP_KINDS[sign[0]] ?? 'leaf', at, sign, back, words: signWords(node, sign), depth };
+    yield { kind: STEP_KINDS[sign[0]] ?? 'leaf', at, sign, back, ...signWords({ walk, chosen, place }, sign) };
     [at, back] = [at + sign.length, ''];
+    if (sign === '-') { place++; continue; }
     if (sign === '+') waiting.push({ chosen, place: place + 1 });
     if (sign === '+' || sign === '!') { chosen = [...chosen, place]; place++; continue; }
     const next = waiting.pop();
     if (!next) break;
     ({ chosen, place } = next);
-    back = backWords(walk, place - 1);
+    back = `Back at ${walk.menu.places[place - 1].shown}, now without it:`;
   }
   if (at < text.length) { yield faultAt(walk, null, text, at, null); return; }
-  yield { kind: 'end', at, sign: '', back: '', words: END, depth: 0 };
+  yield { kind: 'end', at, sign: '', back: '', section: '', words: END };
 }
-
-/**
- * To which section a tree steps back, once all that begins with it was looked at, in words.
- * @param {Walk} walk @param {number} place
- */
-const backWords = ({ menu }, place) => `Back to place ${place}, ${menu.places[place].shown}: now without it.`;
 
 /** @type {Record<string, Step['kind']>} */
-const STEP_KINDS = { '+': 'taken', '!': 'taken', '*': 'bundle' };
+const STEP_KINDS = { '+': 'taken', '!': 'taken', '-': 'closed', '*': 'bundle' };
 const END = 'All signs fit: every bundle that the budget buys was looked at or ruled out, and none is better.';
 
-/** How many places from this one on are closed, each with its sign `-`. */
-function closedRun(/** @type {Walk} */ walk, /** @type {number[]} */ chosen, /** @type {number} */ place,
-  /** @type {string} */ text, /** @type {number} */ at) {
-  let run = 1;
-  while (text[at + run] === '-' && dueSign(walk, chosen, place + run) === '-') run++;
-  return run;
-}
-
-/** @param {NodeAt} node @param {number} run */
-function closedWords({ walk, chosen, place }, run) {
-  return Array.from({ length: run }, (_, at) => {
-    const it = walk.menu.places[place + at];
-    return `Place ${it.place}, ${it.shown}, may not be taken: it ${closedBy(walk, chosen, it.place)}.`;
-  }).join(' ');
-}
-
-/** @param {NodeAt} node @param {string} sign */
+/**
+ * The section that a sign speaks of, which stands in front, and what it says of it.
+ * @param {NodeAt} node @param {string} sign
+ */
 function signWords(node, sign) {
   const { walk, chosen, place } = node, names = listed(chosen.map(it => walk.menu.places[it].shown));
-  if (sign === '*') return `Nothing is left to decide, and this is the bundle: ${names}, worth ${walk.worth}.`;
-  if (sign === 'x') {
-    return `${walk.menu.places[walk.forced].shown}, which has to be taken, can no more be: it `
-      + `${closedBy(walk, chosen, walk.forced)}.`;
+  if (sign === '*') {
+    return { section: '', words: `This is the bundle: ${names}, worth ${walk.worth}. Nothing is left to decide.` };
   }
-  if (sign !== '+' && sign !== '!') return boundSentence(node, sign);
-  const it = walk.menu.places[place], left = leftWords(walk, [...chosen, place]);
-  const may = sign === '!' ? 'is the section that is asked for and has to be taken' : 'may be taken';
-  return `Place ${place}, ${it.shown}, ${may} (rating ${it.rating}, price ${it.price}). First comes what begins with `
-    + `${listed([...chosen, place].map(that => walk.menu.places[that].shown))}: ${left}.`;
+  if (sign === 'x') {
+    const why = `has to be taken, and no more can be: it ${closedBy(walk, chosen, walk.forced)}.`;
+    return { section: walk.menu.places[walk.forced].shown, words: why };
+  }
+  if (!'+!-'.includes(sign)) return { section: '', words: boundSentence(node, sign) };
+  const it = walk.menu.places[place];
+  if (sign === '-') return { section: it.shown, words: `is left out: it ${closedBy(walk, chosen, place)}.` };
+  const asked = sign === '!' ? ', as the section that is asked for has to be' : '';
+  const costs = `(rating ${it.rating}, price ${grouped(it.price)})`, left = leftWords(walk, [...chosen, place]);
+  return { section: it.shown, words: `is taken${asked} ${costs}: ${left}.` };
 }
 
 /**
@@ -163,7 +143,7 @@ function signWords(node, sign) {
  */
 export function leftWords(walk, chosen) {
   const left = leftOf(walk, chosen);
-  return `left are ${left.b} of ${plural(walk.budget, 'token')}, ${left.c} of ${plural(walk.credits, 'credit')} and `
+  return `left are ${grouped(left.b)} of ${plural(walk.budget, 'token')}, ${left.c} of ${plural(walk.credits, 'credit')} and `
     + `${left.m} of ${plural(walk.courses, 'section')}`;
 }
 
@@ -171,38 +151,55 @@ export function leftWords(walk, chosen) {
  * Thousandths of a point as points.
  * @param {number} thousandths
  */
-export const points = thousandths => (thousandths / 1000).toFixed(3).replace(/\.?0+$/, '');
+export const points = thousandths => grouped(Number((thousandths / 1000).toFixed(3)));
 
 /**
  * What a section brings, and, where pairs change its rating, of what that is the sum.
  * @param {number} rating @param {number} worth
  */
 export const pairedWorth = (rating, worth) => worth === rating ? String(worth)
-  : `${worth} (its rating ${rating} ${worth > rating ? '+' : '-'} ${Math.abs(worth - rating)} with its pairs)`;
+  : `${worth} (its rating ${rating}, and ${Math.abs(worth - rating)} ${worth > rating ? 'more' : 'less'} by pairs: two `
+    + 'sections that were said to be worth more, or less, together)';
+
+/**
+ * Why a bundle of equal worth is not better than the bundle, in words.
+ * @param {Walk} walk @param {number[]} chosen @param {number} place
+ */
+export function tieWords(walk, chosen, place) {
+  const { shown } = walk.menu.places[firstDifference(walk, chosen, place)];
+  return `a tie goes to the bundle, which alone has ${shown}: the first section, in the order of the catalogue, in `
+    + 'which the two differ';
+}
+
+/**
+ * What is the most that can come, and that it is no better than the bundle.
+ * @param {NodeAt} node @param {number} bound in thousandths
+ */
+export function endWords({ walk, chosen, place }, bound) {
+  const most = Math.floor(bound / 1000), whole = bound % 1000 ? `Worth is a whole number, so at most ${most}`
+    : `So at most ${most}`;
+  return most === walk.worth ? `${whole}, as much as the bundle; and ${tieWords(walk, chosen, place)}.`
+    : `${whole}, less than the ${walk.worth} of the bundle.`;
+}
 
 /** @param {NodeAt} node @param {string} sign */
 function boundSentence({ walk, chosen, place }, sign) {
   const symbol = sign[0], number = Number(sign.slice(1));
   const it = boundOf(walk, chosen, place, /** @type {any} */ ({ symbol, number }));
-  const begins = beginsWith(walk, chosen, place, it.value);
-  const most = Math.floor(it.bound / 1000), isTie = most === walk.worth;
-  const end = isTie
-    ? `So at most ${most}, as much as the bundle; and of bundles of equal worth the one with the earlier section wins, `
-      + 'which is the bundle.'
-    : `So at most ${most}, less than the ${walk.worth} of the bundle: no more need be looked at.`;
+  const begins = beginsWith(walk, chosen, place, it.value), end = endWords({ walk, chosen, place }, it.bound);
   if (symbol === 'n') {
     const more = it.brought.map(that => `${that.worth} (${that.name})`).join(' + ');
-    return `${begins} ${more ? `What may still come brings ${more} at most.` : 'Nothing else can come to it.'} ${end}`;
+    return `${begins} ${more ? `what may still come brings ${more} at most.` : 'nothing else can come to it.'} ${end}`;
   }
   const [, one, many] = BOUNDS.find(([that]) => that === symbol), by = walk.menu.places[number];
-  const rate = points(it.rate);
+  const takes = TAKES[symbol](by), rate = points(it.rate), isRounded = 1000 * it.by.worth % takes > 0;
   const above = it.brought.map(that => `${points(that.brings)} (${that.name}: ${that.worth} less ${rate} · `
-    + `${that.takes})`);
-  const sum = [`${it.value}`, `${rate} · ${it.left}`, ...above].join(' + ');
-  return `${begins} ${plural(it.left, `${one} is`, `${many} are`)} left. At place ${number}, ${by.shown}, `
-    + `${plural(TAKES[symbol](by), one, many)} bring ${pairedWorth(by.rating, it.by.worth)}, ${rate} points a ${one}. `
-    + 'Counted at that rate, with what '
-    + `each course may bring above it: ${sum} = ${points(it.bound)}. ${end}`;
+    + `${grouped(that.takes)})`);
+  const sum = [grouped(it.value), `${rate} · ${grouped(it.left)}`, ...above].join(' + ');
+  return `${begins} ${plural(it.left, `${one} is`, `${many} are`)} left. At ${by.shown} (number ${number}) `
+    + `${plural(takes, one, many)} bring ${pairedWorth(by.rating, it.by.worth)}: ${rate} points a ${one}`
+    + `${isRounded ? ', rounded down' : ''}. With all that is left at that rate, and what a section of each course may `
+    + `bring above it, it comes to ${sum} = ${points(it.bound)}. ${end}`;
 }
 
 /**
@@ -210,10 +207,10 @@ function boundSentence({ walk, chosen, place }, sign) {
  * @param {{ menu: Menu }} walk @param {number[]} chosen @param {number} place @param {number} value
  */
 export function beginsWith({ menu }, chosen, place, value) {
-  const last = place ? `up to place ${place - 1}, ${menu.places[place - 1].shown}` : '';
-  if (!chosen.length) return `${last ? `Without the sections ${last}: nothing` : 'Nothing'} is chosen yet.`;
+  const last = place ? menu.places[place - 1].shown : '', upTo = place > 1 ? `the sections up to ${last}` : last;
+  if (!chosen.length) return `${place ? `Without ${upTo}` : 'At first'} nothing is taken yet:`;
   const names = listed(chosen.map(it => menu.places[it].shown));
-  return `With ${names}, worth ${value}${chosen.length < place ? `, and no other section ${last}` : ''}:`;
+  return `With ${names}, worth ${grouped(value)}${chosen.length < place ? `, and no other section up to ${last}` : ''}:`;
 }
 
 /**
@@ -226,7 +223,7 @@ function faultAt(walk, chosen, text, at, due) {
       + `${worthOf(walk.menu, chosen)}, better than the ${walk.worth} of the bundle`
     : `“${due}” is due`;
   const words = `Behind ${plural(at, 'character')} ${stands}, and by these ratings, prices and this budget ${what}.`;
-  return /** @type {Step} */ ({ kind: 'fault', at, sign: text.slice(at, at + 3), back: '', words, depth: 0 });
+  return /** @type {Step} */ ({ kind: 'fault', at, sign: text.slice(at, at + 3), back: '', section: '', words });
 }
 
 /** Why a tree may not fit that a school published, in words. */

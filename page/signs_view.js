@@ -1,49 +1,101 @@
-// Signs that are pasted, explained one after another.
+// The signs behind a student's bundles, and signs that are pasted, explained one after another.
 
-import { button, el, p } from './elements.js';
+import { button, code, el, namesCell, opening, p } from './elements.js';
 import { unratedIn } from './one_student.js';
 import { menuOf, walkOf } from './reckoning.js';
-import { keyOf, placeNames } from './sign_key.js';
+import { keyOf, placeNames, sign } from './sign_key.js';
 import { CAUSES, championOf, pastedSigns, stepsOf } from './signs.js';
-import { section, sections, stageName, studentName, tokens } from './stage_words.js';
+import { section, sections, stageName, stagesName, studentName } from './stage_words.js';
+import { tokens } from './wording.js';
 
 /** How many steps stand at once; the rest come by a button. */
 const STEPS = 40;
 
+/** How many signs of a tree stand where it is chosen. */
+const MOST_SIGNS = 60;
+
 /**
- * The field, what its signs mean, and where its answer comes. The field has the signs of a stage; what is pasted comes
- * in their place.
+ * The bundles whose signs can be chosen, and the signs of the chosen one, explained; others can be pasted.
  * @param {Market} market @param {number} student @param {Stage[]} stages
  */
 export function signsNodes(market, student, stages) {
-  const told = el('div', { class: 'answer', 'aria-live': 'polite' }), key = el('div'), menu = menuOf(market, student);
-  const held = heldSince(stages);
-  const drawKey = () => key.replaceChildren(keyOf(pastedSigns(field.value).tree, menu));
-  const plain = { autocomplete: 'off', autocapitalize: 'off', spellcheck: 'false' };
-  const field = el('textarea', { id: 'signs', rows: 2, oninput: drawKey, onfocus: () => selectAll(field), ...plain });
-  const onchange = () => {
-    if (!of.value || !stages.some(it => it.tree === field.value)) return;
-    field.value = stages[of.value].tree;
-    drawKey();
+  const told = el('div', { class: 'answer', id: 'signs-told', 'aria-live': 'polite' });
+  const name = studentName(market, student);
+  const now = { stage: stages[0] };
+  const press = (/** @type {number} */ at) =>
+    choices.forEach((it, number) => it.setAttribute('aria-pressed', String(number === at)));
+  const choose = (/** @type {number} */ at) => {
+    press(at);
+    now.stage = runs[at].stage;
+    told.replaceChildren(...chosenNodes(market, student, now.stage));
   };
-  const of = el('select', { id: 'signs-stage', onchange }, el('option', { value: '' }, 'tell by the signs'),
-    stages.map((it, at) => el('option', { value: at }, stageName(it))));
+  const paste = (/** @type {string} */ typed) => {
+    press(-1);
+    told.replaceChildren(...explained(market, student, [now.stage, heldSince(stages), ...stages], typed));
+    toAnswer(told);
+  };
+  const runs = signRuns(stages, menuOf(market, student));
+  /** @type {HTMLElement[]} */
+  const choices = runs.map((it, at) => el('button',
+    { type: 'button', class: 'choice', onclick: () => { choose(at); toAnswer(told); } }, choiceNodes(market, it)));
+  choose(0);
+  return [
+    p('Behind each bundle of the text stand signs, which prove that nothing better was to be had. Choose a bundle of '
+      + `${name}: its signs are explained below, one by one.`),
+    el('div', { class: 'choices', role: 'group', 'aria-label': `Bundles of ${name}` }, choices),
+    opening('Explain other signs', () => pasteForm(paste)),
+    told,
+  ];
+}
+
+/**
+ * The stages whose signs can be chosen: those that follow each other with the same signs of the same are one.
+ * @param {Stage[]} stages @param {Menu} menu
+ */
+export function signRuns(stages, menu) {
+  /** @type {{ stage: Stage, last: Stage, key: string }[]} */
+  const runs = [];
+  for (const it of stages) {
+    const free = menu.places.filter(({ name }) => it.allowed?.has(name)).map(({ name }) => name);
+    const key = [it.pass > 0, it.budget, it.names.join(), it.tree, free.join()].join(' ');
+    if (runs.at(-1)?.key === key) runs.at(-1).last = it;
+    else runs.push({ stage: it, last: it, key });
+  }
+  return runs;
+}
+
+/** @param {Market} market @param {{ stage: Stage, last: Stage }} run */
+const choiceNodes = (market, { stage, last }) => [
+  el('b', {}, `${stagesName(stage, last)}: `), namesCell(stage.names.map(it => section(market, it))), ' ',
+  code(stage.tree.length > MOST_SIGNS ? `${stage.tree.slice(0, MOST_SIGNS)}..` : stage.tree),
+];
+
+/**
+ * The field for signs that are pasted.
+ * @param {(typed: string) => void} paste
+ */
+function pasteForm(paste) {
+  const plain = { autocomplete: 'off', autocapitalize: 'off', spellcheck: 'false' };
+  const field = el('textarea', { id: 'signs', rows: 2, ...plain });
   const onsubmit = (/** @type {Event} */ event) => {
     event.preventDefault();
-    told.replaceChildren(...explained(market, student, stages, field.value, of.value === '' ? null : stages[of.value]));
+    paste(field.value);
   };
-  field.value = held.tree;
-  drawKey();
   return [
-    p('In the text signs stand behind each bundle, which prove that it is the best one. Here are those of the bundle '
-      + `that ${studentName(market, student)} holds in the end (${stageName(held).toLowerCase()}): choose another `
-      + 'stage, or paste signs, or a whole line of the text or of an answer, in their place.'),
-    key, menu.places.length ? placeNames(menu) : null,
-    el('form', { class: 'signs', onsubmit },
-      el('label', { for: 'signs' }, 'The signs'), field, el('label', { for: 'signs-stage' }, 'Stage'), of,
+    p('Paste signs, or a whole line of the text or of an answer. Signs alone are read as of the bundle that was chosen '
+      + 'last, where they are not those of another.'),
+    el('form', { class: 'signs', onsubmit }, el('label', { for: 'signs' }, 'The signs'), field,
       el('button', { class: 'main' }, 'Explain')),
-    told,
-  ].filter(Boolean);
+  ];
+}
+
+/**
+ * Brings an answer into sight, where it does not stand in the upper half of the screen.
+ * @param {HTMLElement} answer
+ */
+function toAnswer(answer) {
+  const { top } = answer.getBoundingClientRect();
+  if (top < 0 || top > innerHeight / 2) answer.scrollIntoView();
 }
 
 /**
@@ -56,17 +108,35 @@ export function heldSince(stages) {
 }
 
 /**
- * Has all of a field selected, once the browser has placed the cursor where it was met.
- * @param {HTMLTextAreaElement} field
- */
-const selectAll = field => setTimeout(() => field.select());
-
-/**
- * @param {Market} market @param {number} student @param {Stage[]} stages @param {string} typed
- * @param {Stage | null} chosen
+ * The signs of a stage's bundle, explained.
+ * @param {Market} market @param {number} student @param {Stage} stage
  * @returns {any[]}
  */
-function explained(market, student, stages, typed, chosen) {
+function chosenNodes(market, student, stage) {
+  const { names, budget, allowed, tree } = stage, strange = unratedIn(market, student, names);
+  if (strange.length) return [p(`Its signs cannot be read, since not rated above 0: ${sections(market, strange)}.`)];
+  const walk = walkOf(market, student, { budget, allowed, champion: names });
+  return [p(`These signs stand behind ${sections(market, names)} (${stageName(stage).toLowerCase()}, with a budget of `
+    + `${tokens(budget)}):`), ...readNodes(walk, tree)];
+}
+
+/**
+ * The signs of a tree, what each means, and all of them one after another.
+ * @param {Walk} walk @param {string} tree
+ */
+const readNodes = (walk, tree) => [
+  el('p', { class: 'tree-text' }, code(tree)),
+  keyOf(tree, walk), walk.menu.places.length ? placeNames(walk.menu) : '',
+  p(el('b', {}, 'One by one, from the left:')), ...stepNodes(stepsOf(walk, tree)),
+];
+
+/**
+ * Signs that were pasted, explained.
+ * @param {Market} market @param {number} student @param {Stage[]} stages that which counts most first
+ * @param {string} typed
+ * @returns {any[]}
+ */
+function explained(market, student, stages, typed) {
   const pasted = pastedSigns(typed), { name } = market.roll[student];
   if (!pasted.tree) return [p('Nothing stands in the field.')];
   if (pasted.student && pasted.student !== name) {
@@ -76,7 +146,7 @@ function explained(market, student, stages, typed, chosen) {
   const proved = championOf(pasted.tree), menu = menuOf(market, student);
   const isWithin = proved?.champion.every(it => it < menu.places.length);
   const own = isWithin ? proved.champion.map(it => menu.places[it].name) : null;
-  const stage = chosen ?? stageOf(stages, pasted, own), names = pasted.bundle ?? own ?? stage.names;
+  const stage = stageOf(stages, pasted, own), names = pasted.bundle ?? own ?? stage.names;
   const strange = unratedIn(market, student, names);
   if (strange.length) return [p(`Not rated above 0: ${sections(market, strange)}.`)];
   const forced = menu.places[proved?.forced ?? -1]?.name;
@@ -84,22 +154,22 @@ function explained(market, student, stages, typed, chosen) {
   const asked = forced ? `, ${section(market, forced)} being the section that is asked for` : '';
   const where = stageName(stage).toLowerCase(), of = sections(market, names);
   return [p(`Read as the signs of ${of} in the ${where}, with a budget of ${tokens(stage.budget)}${asked}.`),
-    ...stepNodes(stepsOf(walk, pasted.tree))];
+    ...readNodes(walk, pasted.tree)];
 }
 
 /**
- * The stage that signs belong to: of the same signs (that of what is held in the end goes before others), else of the
- * same pass, else of the same bundle, else the second one.
+ * The stage that signs belong to: of the same signs, else of the same pass, else of the same bundle, else the first.
+ * @param {Stage[]} stages @param {ReturnType<typeof pastedSigns>} pasted @param {string[] | null} own
  */
-function stageOf(/** @type {Stage[]} */ stages, /** @type {any} */ pasted, /** @type {string[] | null} */ own) {
+function stageOf(stages, pasted, own) {
   const bundle = pasted.bundle ?? own;
-  return [heldSince(stages), ...stages].find(it => it.tree === pasted.tree)
+  return stages.find(it => it.tree === pasted.tree)
     ?? stages.find(it => it.pass === pasted.pass) ?? stages.find(it => it.names.join() === bundle?.join()) ?? stages[0];
 }
 
 /** @param {Generator<Step>} steps */
 function stepNodes(steps) {
-  const list = el('ol', { class: 'steps' }), end = el('div');
+  const list = el('ul', { class: 'plain steps' }), end = el('div');
   const more = button('Further signs', () => add(), { class: 'small' });
   let next = steps.next();
   const isLast = () => next.value && ['end', 'fault'].includes(next.value.kind);
@@ -118,8 +188,8 @@ function stepNodes(steps) {
 }
 
 /** @param {Step} step */
-const stepNode = ({ kind, sign, back, words }) => el('li', { class: kind }, el('span', { class: 'sign' }, sign), ' ',
-  back ? el('b', {}, `${back} `) : null, words);
+const stepNode = ({ kind, sign: symbol, back, section: of, words }) => el('li', { class: kind }, sign(symbol), ' ',
+  el('span', {}, back ? el('span', { class: 'back' }, `${back} `) : null, of ? [el('b', {}, of), ' '] : null, words));
 
 /** @param {Step} step */
 const faultNodes = ({ back, words }) => [

@@ -1,19 +1,7 @@
 // What is said of a student's stages and of why it has no seat, in words.
 
 import { clashOf, menuOf, priceOf, worthOf } from './reckoning.js';
-import { listed, plural } from './wording.js';
-
-/**
- * A number of tokens, with a comma between thousands.
- * @param {number} count
- */
-export const tokens = count => `${grouped(count)} ${count === 1 ? 'token' : 'tokens'}`;
-
-/**
- * A number with a comma between thousands.
- * @param {number} count
- */
-export const grouped = count => String(count).replace(/\B(?=(\d{3})+$)/g, ',');
+import { grouped, listed, plural, tokens } from './wording.js';
 
 /**
  * The spelling of sections that the school uses, in a sentence.

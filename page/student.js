@@ -11,11 +11,11 @@ import { judgedStages, stagesOf, unjudgedWords, unratedIn } from './one_student.
 import { menuOf, priceOf, raisedBudget, walkOf, worthOf } from './reckoning.js';
 import { sheetNodes } from './sheet.js';
 import { signsNodes } from './signs_view.js';
-import { changeWords, grouped, section, sections, stagesName, studentName, tokens } from './stage_words.js';
+import { changeWords, section, sections, stagesName, studentName } from './stage_words.js';
 import { meetingWords } from './tables.js';
 import { whatIfNodes } from './what_if_view.js';
 import { whyNodes } from './why_view.js';
-import { plural } from './wording.js';
+import { grouped, plural, tokens } from './wording.js';
 import { work } from './work.js';
 
 /** @param {Market} market @param {number} student */

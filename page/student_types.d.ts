@@ -73,15 +73,16 @@ interface Week {
   without: Section[];
 }
 
-/** A step through the signs of a tree; `at` is its first byte, `depth` how many nodes wait to be gone on from. */
+/** A step through the signs of a tree; `at` is its first byte. */
 interface Step {
   kind: 'taken' | 'closed' | 'bundle' | 'leaf' | 'fault' | 'end';
   at: number;
   sign: string;
   /** to where the signs step back with it, in words; empty where they go on */
   back: string;
+  /** the section that it speaks of, which stands in front of the words; empty where it speaks of none */
+  section: string;
   words: string;
-  depth: number;
 }
 
 /** A node of a tree on the way through its signs. */

@@ -4,8 +4,9 @@ import { MOST_BASE } from './alone.js';
 import { el, p } from './elements.js';
 import { demandedWith } from './one_student.js';
 import { menuOf, priceOf, worthOf } from './reckoning.js';
-import { grouped, section, sections, studentName, tokens } from './stage_words.js';
+import { section, sections, studentName } from './stage_words.js';
 import { ratingOf } from './wish_list.js';
+import { grouped, tokens } from './wording.js';
 import { answerWords } from './words.js';
 import { work } from './work.js';
 

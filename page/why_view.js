@@ -7,9 +7,9 @@ import { callOf } from './program.js';
 import { menuOf, walkOf } from './reckoning.js';
 import { turnOrder } from './seats_and_turns.js';
 import {
-  grouped, laterReason, longReason, section, shortReason, stageName, stagesName, studentName,
+  laterReason, longReason, section, shortReason, stageName, stagesName, studentName,
 } from './stage_words.js';
-import { plural } from './wording.js';
+import { grouped, plural } from './wording.js';
 import { answerWords } from './words.js';
 import { work } from './work.js';
 

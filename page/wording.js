@@ -1,10 +1,22 @@
 // Numbers and names in sentences.
 
 /**
- * How many of something: `1 student`, `2 students`.
+ * A number with a comma between thousands.
+ * @param {number} count
+ */
+export const grouped = count => String(count).replace(/^-?\d+/, it => it.replace(/\B(?=(\d{3})+$)/g, ','));
+
+/**
+ * How many of something: `1 student`, `2,000 students`.
  * @param {number} count @param {string} one @param {string} [more]
  */
-export const plural = (count, one, more = one + 's') => `${count} ${count === 1 ? one : more}`;
+export const plural = (count, one, more = one + 's') => `${grouped(count)} ${count === 1 ? one : more}`;
+
+/**
+ * A number of tokens.
+ * @param {number} count
+ */
+export const tokens = count => plural(count, 'token');
 
 /**
  * Names in a sentence: `A`, `A and B`, `A, B and C`; `nothing` where there are none.

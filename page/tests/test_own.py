@@ -480,33 +480,43 @@ class Own(unittest.TestCase):
     def test_signs_are_explained_step_by_step(self) -> None:
         self.give()
         self.answer("Yes")
-        explain = "document.querySelector('form.signs').requestSubmit()"
-        told = "document.querySelector('form.signs + .answer').textContent"
-        self.fill("signs", "bundle n.jones [ACCT-611-B,FNCE-601-A,HCMG-841-A] ++--------+*nb5b1")
-        self.tab.evaluate(explain)
+        told = "$('signs-told').textContent"
+        self.open_signs()
+        self.explain("bundle n.jones [ACCT-611-B,FNCE-601-A,HCMG-841-A] ++--------+*nb5b1")
         for words in (
             "in the second stage, with a budget of 4,542 tokens",
-            "Place 0, ACCT-611-B, may be taken",
-            "b5 Back to place 1, FNCE-601-A: now without it. With ACCT-611-B, worth 88, and no other section",
+            "+ ACCT-611-B is taken (rating 88, price 851): left are 3,691 of 4,542 tokens",
+            "- FNCE-601-B is left out: it is of the same course as FNCE-601-A.",
+            "b5 Back at FNCE-601-A, now without it: With ACCT-611-B, worth 88, and no other section",
             "= 260.508",
             "All signs fit",
         ):
             self.assertIn(words, self.tab.evaluate(told))
         self.assertEqual(
-            ["+", "+", "--------", "+", "*", "n", "b5", "b1"],
+            ["+", "+", *"--------", "+", "*", "n", "b5", "b1"],
             self.tab.evaluate("[...document.querySelectorAll('.steps .sign')].map(it => it.textContent)"),
         )
         self.assertFalse(self.tab.evaluate(f"{FURTHER}.checkVisibility()"))
-        self.fill("signs", "++x+x!-------*+x+x!n")
-        self.tab.evaluate(explain)
+        self.explain("++x+x!-------*+x+x!n")
         self.assertIn("FNCE-717-A being the section that is asked for", self.tab.evaluate(told))
-        self.fill("signs", "++--------+*nb6b1")
-        self.tab.evaluate(explain)
+        self.explain("++--------+*nb6b1")
         for words in ("“b6” stands here", "“b5” is due", "a price in the text was changed"):
             self.assertIn(words, self.tab.evaluate(told))
-        self.fill("signs", "bundle s.adler [] *")
-        self.tab.evaluate(explain)
+        self.explain("bundle s.adler [] *")
         self.assertIn("This is a line of s.adler", self.tab.evaluate(told))
+
+    def open_signs(self) -> None:
+        """Goes to the signs, and unfolds the field for others."""
+        self.tab.wait("$('signs-told') && !isWorking()")
+        self.click("Explain other signs")
+        self.tab.wait("$('signs')")
+
+    def explain(self, signs: str) -> None:
+        """Has signs explained that are pasted; the answer is in sight then."""
+        self.fill("signs", signs)
+        self.tab.evaluate("scrollTo(0, 0); document.querySelector('form.signs').requestSubmit()")
+        top = self.tab.evaluate("$('signs-told').getBoundingClientRect().top")
+        self.assertTrue(-1 <= top <= 422, top)
 
     def test_further_signs_come_by_a_button_that_goes_with_the_last(self) -> None:
         made = """(count => {
@@ -523,36 +533,44 @@ class Own(unittest.TestCase):
                 self.assertEqual([count, 1], self.tab.evaluate(shown))
                 self.assertFalse(self.tab.evaluate(f"{FURTHER}.checkVisibility()"))
 
-    def test_signs_are_replaced_by_what_is_pasted_and_have_their_key_beside_them(self) -> None:
+    def test_signs_of_each_bundle_are_a_button_and_those_of_the_second_stage_are_explained_at_once(self) -> None:
         self.give()
         self.answer("Yes")
-        self.tab.wait("$('signs')")
-        key = "document.querySelector('ul[aria-label=\"What the signs mean\"]')"
-        meaning = self.tab.evaluate(f"{key}.textContent")
-        self.assertIn("b2 even if all tokens left brought as much worth each as section 2 (FNCE-601-B) does", meaning)
-        self.assertIn("* the bundle itself, which the signs prove to be the best", meaning)
-        self.assertEqual("++----+----*n+n---+nnb2", self.tab.evaluate("$('signs').value"))
-        self.assertIn("that n.jones holds in the end (aftermarket, pass 2): choose", self.words("#student-answer"))
-        self.fill("signs", "++--------+*nb5b1")
-        meaning = self.tab.evaluate(f"{key}.textContent")
-        self.assertIn("it would not be better than the bundle. Here 1 is FNCE-601-A and 5 is MGMT-690-A", meaning)
-        self.assertIn("0 ACCT-611-B, 1 FNCE-601-A, 2 FNCE-601-B", self.words("#student-answer"))
-        place = self.tab.evaluate(
-            f"$('signs').scrollIntoView({{ block: 'end' }}); [{key}, $('signs')].map(it => it.getBoundingClientRect().top)"
+        self.tab.wait("$('signs-told') && !isWorking()")
+        choices = "[...document.querySelectorAll('.choice')]"
+        pressed = f"{choices}.map(it => it.getAttribute('aria-pressed'))"
+        self.assertEqual(
+            [
+                "Second stage: ACCT-611-B, FNCE-601-A, HCMG-841-A ++--------+*nb5b1",
+                "Aftermarket, pass 1: ACCT-611-B, FNCE-601-A, HCMG-841-A ++--------+*n+nnn",
+                "Aftermarket, pass 2: ACCT-611-B, FNCE-601-A, MGMT-691-B ++----+----*n+n---+nnb2",
+                "Aftermarket, passes 3 to 5: ACCT-611-B, FNCE-601-A, MGMT-691-B ++----+----*nnn",
+            ],
+            self.tab.evaluate(f"{choices}.map(it => it.textContent)"),
         )
-        self.assertTrue(0 < place[0] < place[1] < 844, place)
-        box = self.tab.evaluate("(it => [it.x + it.width / 2, it.y + it.height / 2])($('signs').getBoundingClientRect())")
-        for kind in "mousePressed", "mouseReleased":
-            self.tab.call("Input.dispatchMouseEvent", type=kind, x=box[0], y=box[1], button="left", clickCount=1)
-        self.tab.wait("$('signs').selectionEnd === $('signs').value.length && !$('signs').selectionStart")
-        self.tab.type("tree *")
-        self.assertEqual("tree *", self.tab.evaluate("$('signs').value"))
-        self.assertNotIn("FNCE-601-A", self.tab.evaluate(f"{key}.textContent"))
-        self.fill("signs-stage", "2")
-        self.assertEqual("tree *", self.tab.evaluate("$('signs').value"))
-        self.fill("signs", "++--------+*nb5b1")
-        self.fill("signs-stage", "2")
-        self.assertEqual("++----+----*n+n---+nnb2", self.tab.evaluate("$('signs').value"))
+        self.assertEqual(["true", "false", "false", "false"], self.tab.evaluate(pressed))
+        told = self.words("#signs-told")
+        for words in (
+            "(second stage, with a budget of 4,542 tokens):++--------+*nb5b1",
+            "* stop: this is the bundle itself, which the signs prove to be the best",
+            "b5 stop: even with the tokens left spent as well as on MGMT-690-A (number 5), or better",
+            "b1 the same with FNCE-601-A (number 1)",
+            "number them from 0: 0 ACCT-611-B, 1 FNCE-601-A, 2 FNCE-601-B",
+            "All signs fit",
+        ):
+            self.assertIn(words, told)
+        self.assertNotIn("aftermarket", told)
+        self.tab.evaluate(f"{choices}[2].click()")
+        self.assertEqual(["false", "false", "true", "false"], self.tab.evaluate(pressed))
+        told = self.words("#signs-told")
+        self.assertIn("(aftermarket, pass 2, with a budget of 4,996 tokens):++----+----*n+n---+nnb2", told)
+        self.assertNotIn("second stage", told)
+        self.assertLess(self.tab.evaluate("$('signs-told').getBoundingClientRect().top"), 422)
+        self.open_signs()
+        self.explain("tree *")
+        self.assertEqual(["false"] * 4, self.tab.evaluate(pressed))
+        self.tab.evaluate(f"{choices}[0].click()")
+        self.assertEqual(["true", "false", "false", "false"], self.tab.evaluate(pressed))
 
     def test_names_are_shown_as_the_school_spells_them(self) -> None:
         names = '\ufeffkind,original,name\nsection,ACCT 611 (é),ACCT-611-B\nstudent,"Jones, Nora",n.jones\n'.encode()
@@ -560,10 +578,9 @@ class Own(unittest.TestCase):
         self.answer("Yes")
         self.assertIn("In the end Jones, Nora holds ACCT 611 (é), FNCE-601-A and MGMT-691-B, prices", self.words(".holds"))
         self.assertEqual("Jones, Nora n.jones", self.words("#student-answer h2"))
-        self.tab.wait("$('signs')")
-        self.assertIn("0 ACCT 611 (é), 1 FNCE-601-A", self.words("#student-answer"))
-        self.tab.evaluate("document.querySelector('form.signs').requestSubmit()")
-        self.assertIn("Place 0, ACCT 611 (é), may be taken", self.words("form.signs + .answer"))
+        self.tab.wait("$('signs-told')")
+        self.assertIn("0 ACCT 611 (é), 1 FNCE-601-A", self.words("#signs-told"))
+        self.assertIn("+ ACCT 611 (é) is taken", self.words("#signs-told"))
         self.give(
             {"desk.session": (TERM / "desk.session").read_bytes(), "web.session": (TERM / "web.session").read_bytes()}
         )

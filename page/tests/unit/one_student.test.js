@@ -3,12 +3,14 @@ import { test } from 'node:test';
 
 import { heldPrices, lineOf, yesWords } from '../../answer_view.js';
 import { explainedIn, explanationOf, judgedStages, linesInText, stagesOf, unjudgedWords } from '../../one_student.js';
+import { menuOf } from '../../reckoning.js';
 import { AS_NAMED } from '../../spelling.js';
-import { grouped, longReason, shortReason, stagesName, tokens } from '../../stage_words.js';
+import { longReason, shortReason, stagesName } from '../../stage_words.js';
 import { countsOf } from '../../texts.js';
-import { heldSince } from '../../signs_view.js';
+import { heldSince, signRuns } from '../../signs_view.js';
 import { triedOf } from '../../what_if_view.js';
 import { missedSections, shortAnswer } from '../../why_view.js';
+import { grouped, plural, tokens } from '../../wording.js';
 import { term } from './vectors.js';
 
 const market = /** @type {any} */ ({ ...term(), spelling: AS_NAMED });
@@ -22,6 +24,15 @@ test('stages are the second one and each turn as it stood', () => {
   assert.ok(stages[2].allowed.has('MGMT-691-B') && !stages[1].allowed.has('MGMT-691-B'));
   assert.deepEqual([stagesName(stages[0], stages[0]), stagesName(stages[3], stages[5])],
     ['Second stage', 'Aftermarket, passes 3 to 5']);
+});
+
+test('the signs of each bundle can be chosen, equal ones that follow each other once', () => {
+  const menu = menuOf(market, student), runs = signRuns(stages, menu);
+  assert.deepEqual(runs.map(({ stage, last }) => stagesName(stage, last)),
+    ['Second stage', 'Aftermarket, pass 1', 'Aftermarket, pass 2', 'Aftermarket, passes 3 to 5']);
+  assert.equal(runs[0].stage.tree, '++--------+*nb5b1');
+  const others = stages.map(it => it.pass === 5 ? { ...it, allowed: new Set([...it.allowed, 'FNCE-717-A']) } : it);
+  assert.deepEqual(signRuns(others, menu).slice(3).map(it => it.stage.pass), [3, 5]);
 });
 
 test('the stage since which the bundle of the end is held', () => {
@@ -178,6 +189,8 @@ test('what is tried is a rating and a budget, or is told to be none', () => {
 });
 
 test('numbers have a comma between thousands', () => {
-  assert.deepEqual([0, 999, 1000, 1234567].map(grouped), ['0', '999', '1,000', '1,234,567']);
-  assert.deepEqual([1, 2].map(tokens), ['1 token', '2 tokens']);
+  assert.deepEqual([0, 999, 1000, 1234567, -1000, 0.12345].map(grouped),
+    ['0', '999', '1,000', '1,234,567', '-1,000', '0.12345']);
+  assert.deepEqual([1, 2, 3691].map(tokens), ['1 token', '2 tokens', '3,691 tokens']);
+  assert.equal(plural(2000, 'student'), '2,000 students');
 });

@@ -2,8 +2,8 @@ import assert from 'node:assert/strict';
 import { test } from 'node:test';
 
 import { walkOf } from '../../reckoning.js';
-import { boundMeans, numberedBy } from '../../sign_key.js';
-import { beginsWith, championOf, pairedWorth, pastedSigns, stepsOf } from '../../signs.js';
+import { boundsMean, meanings, waysWords } from '../../sign_key.js';
+import { beginsWith, championOf, pairedWorth, pastedSigns, points, stepsOf } from '../../signs.js';
 import { treeAt, turnsOf } from '../../texts.js';
 import { cases, marketOfCase, term } from './vectors.js';
 
@@ -77,36 +77,66 @@ test('the signs of n.jones are read as the guide reads them', () => {
   const student = market.roll.findIndex((/** @type {any} */ it) => it.name === 'n.jones');
   const { names, tree } = bundleOf(market, student);
   const steps = [...stepsOf(walkOf(market, student, { budget: 4542, champion: names }), tree)];
-  assert.deepEqual(steps.map(it => it.sign), ['+', '+', '--------', '+', '*', 'n', 'b5', 'b1', '']);
-  assert.match(steps[0].words, /begins with ACCT-611-B: left are 3691 of 4542 tokens/);
-  assert.match(steps[2].words, /Place 2, FNCE-601-B, may not be taken: it is of the same course as FNCE-601-A/);
-  assert.match(steps[4].words, /ACCT-611-B, FNCE-601-A and HCMG-841-A, worth 260/);
-  assert.deepEqual(steps.map(it => it.back), ['', '', '', '', '', 'Back to place 10, HCMG-841-A: now without it.',
-    'Back to place 1, FNCE-601-A: now without it.', 'Back to place 0, ACCT-611-B: now without it.', '']);
-  assert.match(steps[5].words, /worth 188.*Nothing else can come to it\. So at most 188, less than the 260/);
-  assert.match(steps[6].words, /2989 tokens bring 109 \(its rating 100 \+ 9 with its pairs\), 0\.036 points a token\./);
-  assert.match(steps[6].words, / = 260\.508\. So at most 260, as much as/);
-  assert.match(steps[8].words, /was looked at or ruled out, and none is better/);
-  assert.match(steps[7].words, / = 247\.429\. So at most 247, less than the 260/);
+  assert.deepEqual(steps.map(it => it.sign), ['+', '+', ...'--------', '+', '*', 'n', 'b5', 'b1', '']);
+  const told = steps.map(it => `${it.section} ${it.words}`.trim());
+  assert.equal(told[0], 'ACCT-611-B is taken (rating 88, price 851): left are 3,691 of 4,542 tokens, 6 of 8 credits and '
+    + '4 of 5 sections.');
+  assert.deepEqual(told.slice(2, 4), ['FNCE-601-B is left out: it is of the same course as FNCE-601-A.',
+    'FNCE-717-A is left out: it has the price 3,252, and 1,749 tokens are left.']);
+  assert.equal(told[11], 'This is the bundle: ACCT-611-B, FNCE-601-A and HCMG-841-A, worth 260. Nothing is left to '
+    + 'decide.');
+  assert.deepEqual(steps.map(it => it.back).slice(11), ['', 'Back at HCMG-841-A, now without it:',
+    'Back at FNCE-601-A, now without it:', 'Back at ACCT-611-B, now without it:', '']);
+  assert.equal(told[12], 'With ACCT-611-B and FNCE-601-A, worth 188, and no other section up to HCMG-841-A: nothing '
+    + 'else can come to it. So at most 188, less than the 260 of the bundle.');
+  assert.match(told[13], /2,989 tokens bring 109 \(its rating 100, and 9 more by pairs: two sections that were said to/);
+  assert.match(told[13], /together\): 0\.036 points a token, rounded down\. With all that is left at that rate/);
+  assert.match(told[13], / = 260\.508\. Worth is a whole number, so at most 260, as much as the bundle; and a tie goes/);
+  assert.match(told[13], /tie goes to the bundle, which alone has FNCE-601-A: the first section, in the order of the/);
+  assert.match(told[14], / = 247\.429\. Worth is a whole number, so at most 247, less than the 260 of the bundle\.$/);
+  assert.match(told[15], /was looked at or ruled out, and none is better/);
 });
 
-test('each place that a sign speaks of has its section beside it', () => {
+test('a sign says that a section is taken or left out, and no number of a place stands beside it', () => {
+  const words = [...stepsOf(...treeOfJones())].map(it => `${it.back} ${it.section} ${it.words}`).join(' ');
+  assert.doesNotMatch(words, /may (not )?be taken|[Pp]lace \d/);
+  assert.deepEqual([...words.matchAll(/number (\d+)/g)].map(it => it[1]), ['5', '1']);
+});
+
+test('the key has the signs that occur and no others, each bound with its own section', () => {
+  const [walk, tree] = treeOfJones(), key = meanings(tree, walk);
+  assert.deepEqual(key.map(it => it.sign), ['+', '-', '*', 'n', 'b5', 'b1']);
+  assert.equal(key[4].words, 'stop: even with the tokens left spent as well as on MGMT-690-A (number 5), or better where a '
+    + 'section brings more for a token, the bundle is not beaten');
+  assert.equal(key[5].words, 'the same with FNCE-601-A (number 1)');
+  assert.match(key[1].words, /left out: it is of the same course as one that is taken, or .* too little is left for it$/);
+  assert.match(meanings('-', { ...walk, allowed: new Set() })[0].words, /, or it had no free seat$/);
+  assert.equal(waysWords(tree), 'Each + opens two ways, with the section and without it, and each way ends in * or n or '
+    + 'b: so no bundle was missed.');
+  assert.equal(waysWords('*'), '');
+  const bounds = boundsMean('m0m1m2m3m4m5m6m7m7', 'm', walk.menu);
+  assert.deepEqual(bounds.map(it => it.sign), ['m0', 'm1', 'm2', 'm3', 'm4', 'm5', 'm..']);
+  assert.match(bounds[6].words, /^the same with \S+ \(number 6\) and \S+ \(number 7\)$/);
+});
+
+/** The second stage of n.jones: how its tree is walked, and the tree. @returns {[Walk, string]} */
+function treeOfJones() {
   const market = /** @type {any} */ (term());
   const student = market.roll.findIndex((/** @type {any} */ it) => it.name === 'n.jones');
-  const { names, tree } = bundleOf(market, student), walk = walkOf(market, student, { budget: 4542, champion: names });
-  const words = [...stepsOf(walk, tree)].map(it => it.words);
-  assert.match(words[5], /^With ACCT-611-B and FNCE-601-A, worth 188, and no other section up to place 10, HCMG-/);
-  assert.match(words[6], /^With ACCT-611-B, worth 88, and no other section up to place 1, FNCE-601-A:/);
-  assert.match(words[7], /^Without the sections up to place 0, ACCT-611-B: nothing is chosen yet\./);
+  const { names, tree } = bundleOf(market, student);
+  return [walkOf(market, student, { budget: 4542, champion: names }), tree];
+}
+
+test('each place that a sign speaks of has its section beside it', () => {
+  const [walk, tree] = treeOfJones(), words = [...stepsOf(walk, tree)].map(it => it.words);
+  assert.match(words[13], /^With ACCT-611-B, worth 88, and no other section up to FNCE-601-A: 3,691 tokens are left\./);
+  assert.match(words[14], /^Without ACCT-611-B nothing is taken yet: 4,542 tokens are left\. At FNCE-601-A \(number 1\)/);
   assert.equal(beginsWith(walk, [0, 1], 2, 188), 'With ACCT-611-B and FNCE-601-A, worth 188:');
-  assert.equal(beginsWith(walk, [], 0, 0), 'Nothing is chosen yet.');
-  assert.equal(numberedBy(tree, 'b', walk.menu), '. Here 1 is FNCE-601-A and 5 is MGMT-690-A');
-  assert.deepEqual(boundMeans(tree, 'b', walk.menu), { sign: 'b5', words: 'even if all tokens left brought as much '
-    + 'worth each as section 5 (MGMT-690-A) does, and better sections what they bring above that, it would not be '
-    + 'better than the bundle. Here 1 is FNCE-601-A and 5 is MGMT-690-A' });
-  assert.match(boundMeans('m3', 'm', walk.menu).words, /^even if all sections that may still come brought .* bundle$/);
-  assert.deepEqual([pairedWorth(5, 5), pairedWorth(5, 2)], ['5', '2 (its rating 5 - 3 with its pairs)']);
-  assert.deepEqual(['c', 'n', '+'].map(it => numberedBy(tree, it, walk.menu)), ['', '', '']);
+  assert.equal(beginsWith(walk, [], 0, 0), 'At first nothing is taken yet:');
+  assert.equal(beginsWith(walk, [], 2, 0), 'Without the sections up to FNCE-601-A nothing is taken yet:');
+  assert.deepEqual([pairedWorth(5, 5), pairedWorth(5, 2)], ['5', '2 (its rating 5, and 3 less by pairs: two sections that '
+    + 'were said to be worth more, or less, together)']);
+  assert.deepEqual([36, 260508, 1260000].map(points), ['0.036', '260.508', '1,260']);
 });
 
 test('sections are spelt as the school spells them', () => {
@@ -114,7 +144,7 @@ test('sections are spelt as the school spells them', () => {
   const market = /** @type {any} */ ({ ...term(), spelling: { shown } });
   const student = market.roll.findIndex((/** @type {any} */ it) => it.name === 'n.jones');
   const { names, tree } = bundleOf(market, student), walk = walkOf(market, student, { budget: 4542, champion: names });
-  const words = [...stepsOf(walk, tree)].map(it => it.words).join(' ');
+  const words = [...stepsOf(walk, tree)].map(it => `${it.back} ${it.section} ${it.words}`).join(' ');
   assert.ok(words.includes('<ACCT-611-B>') && !/[^<]ACCT-611-B/.test(words) && !/[^<]FNCE-601-B/.test(words));
 });
 
