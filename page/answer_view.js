@@ -3,9 +3,9 @@
 
 import { code, el, opening, p } from './elements.js';
 import { demandedWith, linesInText } from './one_student.js';
-import { priceOf, raisedBudget } from './reckoning.js';
+import { menuOf, priceOf, raisedBudget, worthOf } from './reckoning.js';
 import { CAUSES } from './signs.js';
-import { sections, stageName, studentName } from './stage_words.js';
+import { changeWords, sections, stageName, studentName } from './stage_words.js';
 import { linesOf } from './texts.js';
 import { weekView } from './week_view.js';
 import { grouped, shortList, tokens } from './wording.js';
@@ -13,31 +13,57 @@ import { findingWords } from './words.js';
 import { work } from './work.js';
 
 /**
- * What a student holds in the end, with its prices, and its week.
+ * What a student holds in the end, with its worth and prices, how it came to that, and its week.
  * @param {Market} market
  * @param {number} student
+ * @param {Stage[]} stages
  */
-export function heldWeek(market, student) {
+export function heldWeek(market, student, stages) {
   const held = market.text.finals[student], name = studentName(market, student);
   const shown = (/** @type {string} */ it) => market.spelling.shown('section', it);
+  const way = wayWords(market, student, stages);
   return el('div', { class: 'held' },
     el('p', { class: 'holds' }, `In the end ${name} holds `, el('b', {}, sections(market, held)),
-      heldPrices(market, student)),
+      heldPrices(market, student), way ? ` ${way}` : ''),
     held.length ? weekView(held.map(it => market.sectionOf.get(it)), `The week of ${name}`, shown) : null);
 }
 
 /**
- * The prices of what a student holds in the end, and of which budget they are: of the raised one, where the aftermarket
- * changed what it holds.
+ * What a bundle is worth by the student's ratings; nothing where it has a section that they do not name.
+ * @param {Market} market @param {number} student @param {string[]} names
+ */
+function ratedWorth(market, student, names) {
+  const menu = menuOf(market, student);
+  return names.every(it => menu.of.has(it)) ? grouped(worthOf(menu, names.map(it => menu.of.get(it)))) : '';
+}
+
+/**
+ * What is held in the end is worth, its prices, and of which budget they are: of the raised one, where the aftermarket
+ * changed what is held.
  * @param {Market} market @param {number} student
  */
 export function heldPrices(market, student) {
-  const held = market.text.finals[student], budget = market.text.budgets[student], { raise } = market.settings;
+  const held = market.text.finals[student], budget = market.text.budgets[student];
   if (!held.length) return '.';
   const isChanged = held.join() !== market.text.bundles[student].names.join();
-  const of = isChanged ? `${tokens(raisedBudget(market, student))} in the aftermarket (${grouped(budget)} raised by `
-    + `${raise} percent)` : tokens(budget);
-  return `, prices together ${grouped(priceOf(market, held))} of ${of}.`;
+  const of = isChanged ? `the raised ${tokens(raisedBudget(market, student))}` : tokens(budget);
+  const worth = ratedWorth(market, student, held);
+  return `${worth ? `, worth ${worth} by the ratings of ${studentName(market, student)}` : ''}, prices together `
+    + `${grouped(priceOf(market, held))} of ${of}.`;
+}
+
+/**
+ * What was bought first, and what each turn changed; nothing where none did.
+ * @param {Market} market @param {number} student @param {Stage[]} stages
+ */
+export function wayWords(market, student, [first, ...turns]) {
+  const name = studentName(market, student), worth = ratedWorth(market, student, first.names);
+  const turned = turns.map(it => ({ pass: it.pass, change: changeWords(market, it.before, it.names) }));
+  const told = turned.filter(it => it.change).map(({ change, pass }) => `${change} (pass ${pass})`);
+  const given = first.names.filter(it => !market.text.finals[student].includes(it));
+  const bundle = `a bundle${given.length ? ` with ${sections(market, given)}` : ''}${worth ? `, worth ${worth}` : ''}`;
+  return told.length ? `First ${name} bought ${first.names.length ? bundle : 'nothing'}; at turns in the aftermarket `
+    + `${name} ${told.join('; ')}.` : '';
 }
 
 /**
@@ -64,8 +90,11 @@ const lead = (kind, ...children) => el('p', { class: `lead ${kind}` }, ...childr
 export function yesWords(market, student, hasTurns) {
   const budget = tokens(market.text.budgets[student]), wishes = market.wishes.get(market.roll[student].name);
   const hasRated = [...wishes?.ratings.values() ?? []].some(it => it > 0);
-  if (!hasRated) return `${studentName(market, student)} rated nothing, so nothing was to be had for its ${budget}.`;
-  const later = hasTurns ? `, nor at its turns in the aftermarket for ${grouped(raisedBudget(market, student))}` : '';
+  const name = studentName(market, student), { raise } = market.settings;
+  if (!hasRated) return `${name} rated nothing, so nothing was to be had for ${budget}.`;
+  const before = grouped(market.text.budgets[student]), after = grouped(raisedBudget(market, student));
+  const later = hasTurns ? `, nor at the turns of ${name} in the aftermarket for ${after}, which is ${before} `
+    + `raised by ${raise} percent` : '';
   return `Yes: at these prices nothing better was to be had for ${budget}${later}.`;
 }
 
@@ -88,7 +117,7 @@ function basisPart(market, student, judged) {
 
 /** @param {Market} market @param {number} student @param {JudgedStage[]} judged */
 function saidByProgram(market, student, judged) {
-  const turns = judged.length - 1, at = turns === 1 ? 'its turn' : `each of its ${turns} turns`;
+  const turns = judged.length - 1, at = turns === 1 ? 'its turn' : `each of its ${grouped(turns)} turns`;
   return [
     market.isOwn
       ? 'of the whole text: that each line has its due form, and that each budget is the one that the roll, the '
@@ -98,7 +127,7 @@ function saidByProgram(market, student, judged) {
       + `second stage is the best that ${tokens(judged[0].budget)} buy, and the signs beside it prove so;`,
     turns ? `at ${at} of the aftermarket: the bundle is the best that ${tokens(raisedBudget(market, student))} buy of `
       + 'what it held and what was free;' : '',
-    'below: why it has no seat in a section, and what it would take with another rating or budget.',
+    'below: why it has no seat in a section, and what it would take with a free seat, another rating or budget.',
   ].filter(Boolean);
 }
 

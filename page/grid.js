@@ -40,9 +40,13 @@ export function tableOf(caption, columns, rows, options = {}) {
   draw();
   const table = el('table', {},
     el('caption', { class: 'aside' }, caption), el('thead', {}, el('tr', {}, heads)), body);
+  const frame = el('div', { class: 'scrolls', role: 'region', 'aria-label': caption, tabindex: '0' }, table);
+  const more = el('p', { class: 'quiet on-screen', hidden: true }, 'More columns stand to the right: move the table '
+    + 'sideways.');
+  new ResizeObserver(() => { more.hidden = frame.scrollWidth <= frame.clientWidth + 1; }).observe(frame);
   return el('div', { class: 'table' },
     el('div', { class: 'tools' }, el('b', {}, caption), rows.length >= (options.filterAt ?? 8) && filter, copy, said),
-    el('div', { class: 'scrolls', role: 'region', 'aria-label': caption, tabindex: '0' }, table));
+    more, frame);
 }
 
 /** How many rows are drawn at once: as many as a table shows before it is scrolled. */

@@ -144,10 +144,30 @@ export async function demandedWith(ask, market, student, { section, points, budg
   const session = { ...room.sessions[0], bytes: joined(said.bytes, encoded(more)) };
   const call = callOf('demand', { ...room, sessions: [session] });
   const answer = await ask('Asking what would be taken', call);
-  const bundle = answer.status === 0 && answer.text.split('\n').find(it => it.startsWith('bundle '))?.split(' ')[2];
-  if (!bundle) return { answer, call };
-  const names = namesOf(bundle), menu = menuOf(withRating(market, name, section, points), student);
+  const names = answer.status === 0 ? demandedIn(answer.text) : null;
+  if (!names) return { answer, call };
+  const menu = menuOf(withRating(market, name, section, points), student);
   return { demanded: { names, worth: worthOf(menu, names.map(it => menu.of.get(it))), price: priceOf(market, names) } };
+}
+
+/**
+ * Asks what a student would have taken at a turn, had a section had a free seat then besides those that had one.
+ * @param {Ask} ask @param {Market} market @param {number} student @param {Stage} stage a turn @param {string} section
+ * @returns {Promise<string[] | null>} null where the program did not answer
+ */
+export async function takenIfFree(ask, market, student, stage, section) {
+  const allowed = new Set([...stage.allowed, section]), room = roomOfStage(market, student, { ...stage, allowed });
+  const answer = await ask(`Asking about ${section}`, callOf('demand', room));
+  return answer.status === 0 ? demandedIn(answer.text) : null;
+}
+
+/**
+ * The bundle that `demand` printed for the one student whom it was asked about; null where there is none.
+ * @param {string} text
+ */
+function demandedIn(text) {
+  const bundle = text.split('\n').find(it => it.startsWith('bundle '))?.split(' ')[2];
+  return bundle ? namesOf(bundle) : null;
 }
 
 /** @param {Uint8Array} one @param {Uint8Array} other */

@@ -143,8 +143,8 @@ function signWords(node, sign) {
  */
 export function leftWords(walk, chosen) {
   const left = leftOf(walk, chosen);
-  return `left are ${grouped(left.b)} of ${plural(walk.budget, 'token')}, ${left.c} of ${plural(walk.credits, 'credit')} and `
-    + `${left.m} of ${plural(walk.courses, 'section')}`;
+  return `left are ${grouped(left.b)} of ${plural(walk.budget, 'token')}, ${left.c} of `
+    + `${plural(walk.credits, 'credit')} and ${left.m} of ${plural(walk.courses, 'section')}`;
 }
 
 /**
@@ -210,7 +210,8 @@ export function beginsWith({ menu }, chosen, place, value) {
   const last = place ? menu.places[place - 1].shown : '', upTo = place > 1 ? `the sections up to ${last}` : last;
   if (!chosen.length) return `${place ? `Without ${upTo}` : 'At first'} nothing is taken yet:`;
   const names = listed(chosen.map(it => menu.places[it].shown));
-  return `With ${names}, worth ${grouped(value)}${chosen.length < place ? `, and no other section up to ${last}` : ''}:`;
+  const others = chosen.length < place ? `, and no other section up to ${last}` : '';
+  return `With ${names}, worth ${grouped(value)}${others}:`;
 }
 
 /**

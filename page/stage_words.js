@@ -41,7 +41,7 @@ export const stagesName = (first, last) => first.pass === last.pass ? stageName(
 export function changeWords(market, before, after) {
   const gave = before.filter(it => !after.includes(it)), took = after.filter(it => !before.includes(it));
   return [took.length ? `took ${sections(market, took)}` : '', gave.length ? `gave up ${sections(market, gave)}` : '']
-    .filter(Boolean).join(', ');
+    .filter(Boolean).join(' and ');
 }
 
 /**
@@ -61,6 +61,12 @@ const took = it => !it.isTurn ? 'bought' : it.isKept ? 'kept' : 'took';
 const leftBy = (it, left, all) => `what ${it.student} ${took(it)} left ${left ? grouped(left) : 'none'} of ${all}`;
 
 /**
+ * That a section is not to be had besides, in words.
+ * @param {Facts} it
+ */
+const givesUp = it => `${it.student} would have had to give something up for it`;
+
+/**
  * The reasons of `explain`, each short for a line.
  * @type {Record<string, (it: Facts) => string>}
  */
@@ -71,12 +77,13 @@ const SHORT = {
   'alone price': it => `its price is ${grouped(it.price)}, more than the whole budget of ${tokens(it.budget)}`,
   'alone credits': it => `it has ${plural(it.of.credits, 'credit')}, and the roll allows ${it.caps.credits} in all`,
   'alone courses': it => `the roll allows ${it.student} no section at all`,
-  'beside price': it => `its price is ${grouped(it.price)}; ${leftBy(it, it.left, tokens(it.budget))}`,
-  'beside credits': it => `it has ${plural(it.of.credits, 'credit')}; `
+  'beside price': it => `${givesUp(it)}: its price is ${grouped(it.price)}, and `
+    + leftBy(it, it.left, tokens(it.budget)),
+  'beside credits': it => `${givesUp(it)}: it has ${plural(it.of.credits, 'credit')}, and `
     + leftBy(it, it.caps.credits - it.credits, plural(it.caps.credits, 'credit')),
   'beside courses': it =>
-    `${it.student} ${took(it)} ${plural(it.caps.courses, 'section')}, and the roll allows no more`,
-  clash: it => `it ${it.clash} ${it.other}, which ${it.student} ${took(it)}`,
+    `${givesUp(it)}: ${it.student} ${took(it)} ${plural(it.caps.courses, 'section')}, and the roll allows no more`,
+  clash: it => `${givesUp(it)}: it ${it.clash} ${it.other}, which ${it.student} ${took(it)}`,
   less: it => `${it.student} could have had it too, but with it the bundle is worth no more, by its adjustments`,
 };
 
@@ -139,7 +146,7 @@ function isTieLater(market, student, stage, name) {
  * @param {Market} market @param {number} student @param {Stage} stage @param {string} name @param {Explanation} told
  */
 export const shortReason = (market, student, stage, name, told) =>
-  SHORT[told.reason](factsOf(market, student, stage, name, told)) + worthWords(told);
+  SHORT[told.reason](factsOf(market, student, stage, name, told)) + worthWords(told, studentName(market, student));
 
 /**
  * The same of a later stage, behind the reason of an earlier one: what is as it was is not said again.
@@ -152,17 +159,17 @@ export function laterReason(market, student, stage, name, told, before) {
   const it = factsOf(market, student, stage, name, told);
   const isWorth = told.worth === before.worth && told.lost === before.lost;
   return (told.reason === 'beside price' ? leftBy(it, it.left, tokens(it.budget)) : 'the same holds')
-    + (isWorth ? '' : worthWords(told));
+    + (isWorth ? '' : worthWords(told, it.student));
 }
 
 /**
  * What the best bundle with the section is worth, and what the best one without it; nothing where that was not said.
- * @param {Explanation} told
+ * @param {Explanation} told @param {string} student
  */
-function worthWords({ worth, lost }) {
+function worthWords({ worth, lost }, student) {
   if (lost === undefined) return '';
-  return lost ? ` (with it the best was worth ${worth}, without it ${worth + lost})`
-    : ' (a tie: with it the best is worth as much)';
+  return lost ? ` (by the ratings of ${student} the best with it was worth ${grouped(worth)}, without it `
+    + `${grouped(worth + lost)})` : ' (a tie: with it the best is worth as much)';
 }
 
 /**

@@ -169,11 +169,13 @@ export function studentView(market, student) {
     const parts = partsBelow(market, student, stages);
     ways.append(...parts.map(([words, it]) => button(words, () => goTo(it))));
     below.append(...parts.map(([, it]) => it));
+    for (const [, it] of parts) it.append(wayUp(head));
   };
+  const head = el('h2', { tabindex: '-1' }, shown, shown === name ? '' : el('span', { class: 'quiet' }, ` ${name}`));
   return [
-    el('h2', { tabindex: '-1' }, shown, shown === name ? '' : el('span', { class: 'quiet' }, ` ${name}`)),
+    head,
     answerPart(market, student, stages, () => setTimeout(drawBelow)),
-    heldWeek(market, student),
+    heldWeek(market, student, stages),
     ways,
     ...knownNodes(market),
     below,
@@ -197,6 +199,15 @@ function partsBelow(market, student, stages) {
     ['Print', part('On paper', ...sheetNodes(market))],
   ];
 }
+
+/**
+ * The line behind a part that leads back to the answer.
+ * @param {HTMLElement} head
+ */
+const wayUp = head => el('p', { class: 'up on-screen' }, button('To the top', () => {
+  head.focus({ preventScroll: true });
+  head.scrollIntoView();
+}, { class: 'link' }));
 
 /** @param {HTMLElement} shown */
 function goTo(shown) {

@@ -33,12 +33,17 @@ export function whatIfNodes(market, student) {
     p(`What would ${studentName(market, student)} have taken in the second stage at these prices, with another rating `
       + 'or another budget?'),
     el('form', { class: 'what-if', onsubmit },
-      el('label', { for: 'what-if-section' }, 'Section'), choice,
-      el('label', { for: 'what-if-rating' }, 'Its rating'), points,
-      el('label', { for: 'what-if-budget' }, 'Budget'), money, el('button', { class: 'main' }, 'Ask')),
+      labelled('Section', choice), labelled('Its rating', points), labelled('Budget', money),
+      el('button', { class: 'main' }, 'Ask')),
     told,
   ];
 }
+
+/**
+ * A field with its label, which stay on one line.
+ * @param {string} label @param {HTMLElement} of
+ */
+const labelled = (label, of) => el('span', { class: 'field' }, el('label', { for: of.id }, label), of);
 
 /** @param {Market} market @param {Map<string, number>} ratings */
 function sectionChoice(market, ratings) {

@@ -2,7 +2,7 @@
 
 import { drawingOf } from './drawing.js';
 import { button, el, opening, p } from './elements.js';
-import { explainedIn, explanationOf, unjudgedWords, unratedIn } from './one_student.js';
+import { explainedIn, explanationOf, takenIfFree, unjudgedWords, unratedIn } from './one_student.js';
 import { callOf } from './program.js';
 import { menuOf, walkOf } from './reckoning.js';
 import { turnOrder } from './seats_and_turns.js';
@@ -17,6 +17,12 @@ import { work } from './work.js';
  * The answer about a section in a stage, and in all that follow it up to `last` with the same bundle and the same
  * seats: what `explain` said, or why it said nothing, in words.
  * @typedef {{ stage: Stage, last: Stage, told?: Explanation, failed?: string }} Reply
+ */
+
+/**
+ * What a free seat in a section would have changed at turns at which it had none, by the program's `demand`: nothing at
+ * any of them, or that the section would have been taken; null where that is not known.
+ * @typedef {'nothing' | 'taken' | null} IfFree
  */
 
 /**
@@ -49,7 +55,7 @@ export function whyNodes(market, student, stages) {
     return questions.map(it => it.node);
   };
   return [
-    p(missedWords(name, market.text.finals[student], higher.length)),
+    p(missedWords(market, student, higher.length)),
     ...lines(higher),
     others.length
       ? opening(`${plural(others.length, 'section')} that ${name} rated no higher`, () => lines(others)) : null,
@@ -66,12 +72,20 @@ async function askAll(questions) {
   for (const it of questions) if (it.node.isConnected) await it.ask();
 }
 
-/** @param {string} name @param {string[]} end @param {number} higher */
-function missedWords(name, end, higher) {
+/**
+ * What of the sections that a student does not hold is told first.
+ * @param {Market} market @param {number} student @param {number} higher how many are rated higher than one that is held
+ */
+export function missedWords(market, student, higher) {
+  const name = studentName(market, student), end = market.text.finals[student];
+  const held = menuOf(market, student).places.filter(it => end.includes(it.name));
   if (!end.length && !higher) return `${name} rated nothing.`;
-  if (!end.length) return `${name} holds nothing in the end. It rated these sections:`;
-  return higher ? `${name} rated these sections higher than one that it holds in the end:`
-    : `${name} rated no other section higher than one that it holds in the end.`;
+  if (!end.length) return `${name} holds nothing in the end. These sections were rated:`;
+  const least = held.reduce((one, other) => other.rating < one.rating ? other : one, held[0]);
+  const of = least ? `${least.shown} (rated ${least.rating}), the lowest of those that ${name} holds in the end`
+    : 'one that is held in the end';
+  return higher ? `${name} rated these sections higher than ${of}:`
+    : `${name} rated no other section higher than ${of}.`;
 }
 
 /**
@@ -91,6 +105,27 @@ async function repliesAbout(market, student, stages, name) {
   }
   return [...replies.values()];
 }
+
+/**
+ * Asks what a free seat would have changed, of a section that had none at any turn of a student. Turns at which all was
+ * the same are asked about once.
+ * @param {Market} market @param {number} student @param {Stage[]} stages @param {string} name
+ * @returns {Promise<IfFree>}
+ */
+async function askedIfFree(market, student, stages, name) {
+  const turns = stages.filter(it => it.pass), isOpen = turns.some(it => it.allowed.has(name) || unjudgedWords(it));
+  if (!turns.length || isOpen || !isRated(market, student, name)) return null;
+  const keys = new Map(turns.map(it => [[...it.allowed].join(), it]));
+  for (const turn of keys.values()) {
+    const names = await takenIfFree(work, market, student, turn, name);
+    if (!names) return null;
+    if (names.includes(name)) return 'taken';
+  }
+  return 'nothing';
+}
+
+/** @param {Market} market @param {number} student @param {string} name */
+const isRated = (market, student, name) => menuOf(market, student).of.has(name);
 
 /**
  * @param {Market} market @param {number} student @param {Stage} stage @param {string} name
@@ -127,8 +162,9 @@ function questionOf(market, student, stages, name, isOpen) {
   const fill = async () => {
     short.textContent = '..';
     const replies = await repliesAbout(market, student, stages, name), failed = replies.find(it => it.failed);
-    short.textContent = failed ? failed.failed : shortAnswer(market, student, stages, name, replies);
-    answer.replaceChildren(...longAnswer(market, student, stages, name, replies));
+    const ifFree = failed ? null : await askedIfFree(market, student, stages, name);
+    short.textContent = failed ? failed.failed : shortAnswer(market, student, stages, name, replies, ifFree);
+    answer.replaceChildren(...longAnswer(market, student, stages, name, replies, ifFree));
     if (!failed) return;
     asked = null;
     answer.append(button('Ask again', ask, { class: 'small' }));
@@ -149,13 +185,14 @@ const isWithoutSeats = ({ told }) => told && ['held', 'unrated'].includes(told.r
  * Why a student has no seat in a section, in a line: the reason of the second stage, and what was of the section in the
  * aftermarket.
  * @param {Market} market @param {number} student @param {Stage[]} stages @param {string} name @param {Reply[]} replies
+ * @param {IfFree} ifFree
  */
-export function shortAnswer(market, student, stages, name, replies) {
+export function shortAnswer(market, student, stages, name, replies, ifFree) {
   const [first, ...later] = replies, taken = later.find(it => it.told.reason === 'held'), last = later.at(-1);
   const words = (/** @type {Reply} */ it) => shortReason(market, student, it.stage, name, it.told);
   if (isWithoutSeats(first) || stages.length < 2) return `${words(first)}.`;
   if (taken) return `${words(first)}. ${stageName(taken.stage)}: ${words(taken)}.`;
-  if (!last) return `${words(first)}. Aftermarket: ${noneFree(market, student, stages, name)}.`;
+  if (!last) return `${words(first)}. Aftermarket: ${noneFree(market, student, stages, name, ifFree)}.`;
   const why = laterReason(market, student, last.stage, name, last.told, first.told);
   return `${words(first)}. ${stageName(last.last)}: ${freeAt(market, student, last.last, name)}, but ${why}.`;
 }
@@ -172,23 +209,33 @@ const freeAt = (market, student, stage, name) =>
   `${freeOf(market, name, stage.free.get(name))} at the turn of ${studentName(market, student)}`;
 
 /**
- * Of a section that had no free seat at any turn of a student: whether it had some before.
- * @param {Market} market @param {number} student @param {Stage[]} stages @param {string} name
+ * What a free seat would have changed, in words; nothing where that is not known.
+ * @param {Market} market @param {number} student @param {IfFree} ifFree
  */
-function noneFree(market, student, stages, name) {
-  const free = market.sectionOf.get(name).seats - market.counts.get(name);
-  const at = `at the ${stages.length > 2 ? 'turns' : 'turn'} of ${studentName(market, student)}`;
-  return free > 0 ? `${freeOf(market, name, free)} when it began, and gone ${at}`
-    : `no seat was free when it began, nor ${at}`;
+const ifFreeWords = (market, student, ifFree) => ifFree === null ? '' : ifFree === 'nothing'
+  ? `With a free seat too ${studentName(market, student)} would not have taken it`
+  : `With a free seat ${studentName(market, student)} would have taken it`;
+
+/**
+ * Of a section that had no free seat at any turn of a student: whether it had some before, and what one would have
+ * changed.
+ * @param {Market} market @param {number} student @param {Stage[]} stages @param {string} name @param {IfFree} ifFree
+ */
+function noneFree(market, student, stages, name, ifFree) {
+  const free = market.sectionOf.get(name).seats - market.counts.get(name), more = ifFreeWords(market, student, ifFree);
+  const at = `at ${stages.length > 2 ? 'any' : 'the'} turn of ${studentName(market, student)}`;
+  return (free > 0 ? `${freeOf(market, name, free)} when it began, and none ${at}`
+    : `no seat was free when it began, nor ${at}`) + (more ? `. ${more}` : '');
 }
 
 /**
  * @param {Market} market @param {number} student @param {Stage[]} stages @param {string} name @param {Reply[]} replies
+ * @param {IfFree} ifFree
  */
-function longAnswer(market, student, stages, name, replies) {
+function longAnswer(market, student, stages, name, replies, ifFree) {
   const [first, ...later] = replies.map(it => replyNodes(market, student, it, name));
-  const free = isWithoutSeats(replies[0]) && !later.length ? [] : freeNodes(market, student, stages, name);
-  return [...first, ...free, ...later.flat()];
+  const isBeside = isWithoutSeats(replies[0]) && !later.length;
+  return [...first, ...isBeside ? [] : freeNodes(market, student, stages, name, ifFree), ...later.flat()];
 }
 
 /** @param {Market} market @param {number} student @param {Reply} reply @param {string} name */
@@ -211,9 +258,9 @@ function treeNode(market, student, { budget, allowed }, name, { best, tree }) {
 
 /**
  * How many seats of a section were free when.
- * @param {Market} market @param {number} student @param {Stage[]} stages @param {string} name
+ * @param {Market} market @param {number} student @param {Stage[]} stages @param {string} name @param {IfFree} ifFree
  */
-function freeNodes(market, student, stages, name) {
+function freeNodes(market, student, stages, name, ifFree) {
   const { seats } = market.sectionOf.get(name), who = studentName(market, student);
   const count = (/** @type {number} */ it) => it > 0 ? it : 'none', after = seats - market.counts.get(name);
   const runs = freeRuns(stages, name), isTaken = runs.length && !runs.some(it => it.free > 0 || it.isHeld);
@@ -224,15 +271,20 @@ function freeNodes(market, student, stages, name) {
       runs.map(it => el('li', {}, `${stagesName(it.first, it.last).toLowerCase()}, at the turn of ${who}`
         + `${it.isHeld ? `, besides the seat of ${who}` : ''}: ${count(it.free)}`)),
       el('li', {}, `in the end: ${count(seats - market.endCounts.get(name))}`)),
-    isTaken ? p(turnWords(market, student, after > 0)) : '',
+    isTaken ? p(turnWords(market, student, ifFree)) : '',
   ];
 }
 
-/** @param {Market} market @param {number} student @param {boolean} wasFree */
-function turnWords(market, student, wasFree) {
-  const number = turnOrder(market.text.budgets).indexOf(student) + 1;
+/**
+ * When the turns of a student come, and what a free seat would have changed then.
+ * @param {Market} market @param {number} student @param {IfFree} ifFree
+ */
+export function turnWords(market, student, ifFree) {
+  const number = turnOrder(market.text.budgets).indexOf(student) + 1, more = ifFreeWords(market, student, ifFree);
+  const by = ifFree === 'nothing' ? ': at each of these turns the program finds another bundle better'
+    : ' at one of these turns, by the program';
   return `In each pass turns go by budget, the greatest first, and the turn of ${studentName(market, student)} is `
-    + `number ${number} of ${market.roll.length}.${wasFree ? ' Others had taken the free seats before it.' : ''}`;
+    + `number ${grouped(number)} of ${grouped(market.roll.length)}.${more ? ` ${more}${by}.` : ''}`;
 }
 
 /**

@@ -13,7 +13,8 @@ from common import PAGE, PICTURES, TERM, open_page
 PUBLISHED = ["catalogue.csv", "roll.csv", "settings.json", "published.txt"]
 HEAD = "# What n.jones said, in the order in which the desk took it.\n"
 YES = (
-    "Yes: at these prices nothing better was to be had for 4,542 tokens, nor at its turns in the aftermarket for 4,996."
+    "Yes: at these prices nothing better was to be had for 4,542 tokens, nor at the turns of n.jones in the aftermarket for"
+    " 4,996, which is 4,542 raised by 10 percent."
 )
 FURTHER = "[...document.querySelectorAll('button')].find(it => it.textContent === 'Further signs')"
 # What is pressed and stands on the page, with its size; a checkbox counts with its label.
@@ -99,8 +100,9 @@ class Own(unittest.TestCase):
         self.tab.picture(PICTURES / "own-phone.png", False)
         self.assertIn("Who says so", told)
         self.assertEqual(
-            "In the end n.jones holds ACCT-611-B, FNCE-601-A and MGMT-691-B, prices together 4,930 of 4,996 tokens in the"
-            " aftermarket (4,542 raised by 10 percent).",
+            "In the end n.jones holds ACCT-611-B, FNCE-601-A and MGMT-691-B, worth 262 by the ratings of n.jones, prices"
+            " together 4,930 of the raised 4,996 tokens. First n.jones bought a bundle with HCMG-841-A, worth 260; at"
+            " turns in the aftermarket n.jones took MGMT-691-B and gave up HCMG-841-A (pass 2).",
             self.words(".holds"),
         )
         ends = self.tab.evaluate(
@@ -183,6 +185,42 @@ class Own(unittest.TestCase):
                 self.assertEqual(title, self.tab.evaluate("document.activeElement.textContent"))
                 self.assertTrue(-1 < self.tab.evaluate("document.activeElement.getBoundingClientRect().top") < 60)
 
+    def test_each_part_leads_back_to_the_top(self) -> None:
+        self.give()
+        self.answer("Yes")
+        self.tab.wait("document.querySelectorAll('.up').length === document.querySelectorAll('.ways button').length")
+        self.tab.evaluate("[...document.querySelectorAll('.up button')].at(-1).click()")
+        self.assertEqual("H2", self.tab.evaluate("document.activeElement.tagName"))
+        self.assertTrue(-1 < self.tab.evaluate("document.activeElement.getBoundingClientRect().top") < 60)
+
+    def test_week_and_fields_and_tables_keep_within_their_frames_on_a_phone(self) -> None:
+        self.give()
+        self.answer("Yes")
+        self.tab.wait("$('what-if-rating') && document.querySelector('.table .on-screen') && !isWorking()")
+        border = "getComputedStyle(document.querySelector('.week tr:last-child td')).borderBottomWidth"
+        self.assertEqual("1px", self.tab.evaluate(border))
+        for width in 390, 320:
+            with self.subTest(width=width):
+                self.tab.look(width, 844)
+                rooms = self.tab.evaluate(
+                    "[...document.querySelectorAll('.week tbody th')].map(it => it.getBoundingClientRect().right -"
+                    " Math.max(...[...it.children].map(that => { const range = document.createRange();"
+                    " range.selectNodeContents(that); return range.getBoundingClientRect().right; })))"
+                )
+                self.assertTrue(min(rooms) >= 2, rooms)
+                lines = self.tab.evaluate(
+                    "[...document.querySelectorAll('.what-if .field')].map(it => [...it.children].map(that =>"
+                    " (box => (box.top + box.bottom) / 2)(that.getBoundingClientRect())))"
+                )
+                self.assertEqual(3, len(lines))
+                for label, field in lines:
+                    self.assertLess(abs(label - field), 8)
+        hint = "document.querySelector('.table .on-screen').checkVisibility()"
+        self.tab.wait(hint)
+        self.tab.look(1200, 844)
+        self.tab.wait(f"!{hint}")
+        self.tab.look(390, 844)
+
     def test_lines_of_nobody_on_the_roll_are_told_and_answer_nothing(self) -> None:
         self.give({"n.jones.session": HEAD.encode() + b"rate nobody FNCE-601-A 5\n"})
         told = self.verdict("Whose lines are these?")
@@ -197,18 +235,21 @@ class Own(unittest.TestCase):
             "document.querySelectorAll('.question').length === 7 && ![...document.querySelectorAll('.short')].slice(0,"
             " 7).some(it => it.textContent.length < 3)"
         )
+        self.assertIn("rated these sections higher than MGMT-691-B (rated 74), the lowest", self.words("#student-answer"))
         stages = self.tab.evaluate("[...document.querySelectorAll('#student-answer section')][0].innerText")
         for words in (
             "Budget: 4,542 tokens, and 4,996 in the aftermarket",
             "Second stage: bought ACCT-611-B, FNCE-601-A and HCMG-841-A",
-            "Aftermarket, pass 2: took MGMT-691-B, gave up HCMG-841-A",
+            "Aftermarket, pass 2: took MGMT-691-B and gave up HCMG-841-A",
             "Aftermarket, passes 3 to 5: no change",
         ):
             self.assertIn(words, stages)
         lines = self.tab.evaluate("[...document.querySelectorAll('.question summary')].map(it => it.textContent)")
         self.assertEqual(
-            "Why not FNCE-717-A? its price is 3,252; what n.jones bought left 628 of 4,542 tokens (with it the best was worth 188,"
-            " without it 260). Aftermarket: 8 of 12 seats were free when it began, and gone at the turns of n.jones.",
+            "Why not FNCE-717-A? n.jones would have had to give something up for it: its price is 3,252, and what n.jones"
+            " bought left 628 of 4,542 tokens (by the ratings of n.jones the best with it was worth 188, without it 260)."
+            " Aftermarket: 8 of 12 seats were free when it began, and none at any turn of n.jones. With a free seat too"
+            " n.jones would not have taken it.",
             lines[0],
         )
         lgst = next(it for it in lines if "LGST-806-A" in it)
@@ -216,9 +257,10 @@ class Own(unittest.TestCase):
         # 851 + 1,942 + 2,137 = 4,930
         self.assertRegex(
             lgst,
-            r"what n.jones bought left 628 of 4,542 tokens \(with it the best was worth \d+, without it 260\)\. Aftermarket, pass 2:"
+            r"and what n.jones bought left 628 of 4,542 tokens \(by the ratings of n.jones the best with it was worth \d+,"
+            r" without it 260\)\. Aftermarket, pass 2:"
             r" 1 of 9 seats was free at the turn of n.jones, but what n.jones took left 66 of 4,996 tokens"
-            r" \(with it the best was worth \d+, without it 262\)\.$",
+            r" \(by the ratings of n.jones the best with it was worth \d+, without it 262\)\.$",
         )
         self.click("Why not FNCE-717-A")
         told = self.words(".question")
@@ -233,11 +275,12 @@ class Own(unittest.TestCase):
             ),
             "at the end of the second stage: 8",
             "aftermarket, passes 1 to 5, at the turn of n.jones: none",
-            "is number 100 of 100",
+            "is number 100 of 100. With a free seat too n.jones would not have taken it: at each of these turns the program"
+            " finds another bundle better.",
         ):
             self.assertIn(words, told)
         fnce = next(it for it in lines if "FNCE-601-B" in it)
-        self.assertRegex(fnce, r"2 of 20 seats were free at the turn of n\.jones, but the same holds( \(with it .*\))?\.$")
+        self.assertRegex(fnce, r"2 of 20 seats were free at the turn of n\.jones, but the same holds( \(by the ratings .*\))?\.$")
         self.click("Why not LGST-806-A")
         told = self.tab.evaluate(
             "[...document.querySelectorAll('.question')].find(it => it.open &&"
@@ -445,7 +488,7 @@ class Own(unittest.TestCase):
         self.assertIn("other.session has lines of nobody, whom the roll does not have: they are left out.", told)
         self.assertIn("1 line of other.session names no student, and is left out.", told)
         self.fill("student-name", "s.adler")
-        self.answer(YES.replace("4,542", "5,018").replace("4,996", "5,519"))
+        self.answer(YES.replace("4,542", "5,018").replace("4,996", "5,519").replace("n.jones", "s.adler"))
         self.fill("student-name", "k.abara")
         self.tab.evaluate("document.querySelector('.chooser').requestSubmit()")
         self.assertIn("No lines of a student of this name were given.", self.words("#student-said"))
@@ -576,7 +619,7 @@ class Own(unittest.TestCase):
         names = '\ufeffkind,original,name\nsection,ACCT 611 (é),ACCT-611-B\nstudent,"Jones, Nora",n.jones\n'.encode()
         self.give({"names.csv": names})
         self.answer("Yes")
-        self.assertIn("In the end Jones, Nora holds ACCT 611 (é), FNCE-601-A and MGMT-691-B, prices", self.words(".holds"))
+        self.assertIn("In the end Jones, Nora holds ACCT 611 (é), FNCE-601-A and MGMT-691-B, worth 262", self.words(".holds"))
         self.assertEqual("Jones, Nora n.jones", self.words("#student-answer h2"))
         self.tab.wait("$('signs-told')")
         self.assertIn("0 ACCT 611 (é), 1 FNCE-601-A", self.words("#signs-told"))

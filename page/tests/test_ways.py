@@ -354,9 +354,9 @@ class Ways(unittest.TestCase):
         self.tab.wait("!isWorking()")
         told = self.words("#student-answer")
         for words in (
-            "nothing better was to be had for 4,542 tokens, nor at its turns in the aftermarket for 4,996.",
+            "nothing better was to be had for 4,542 tokens, nor at the turns of n.jones in the aftermarket for 4,996,",
             "of the whole text, with all sessions: it holds;",
-            "In the end n.jones holds ACCT-611-B, FNCE-601-A and MGMT-691-B, prices together 4,930 of 4,996 tokens",
+            "In the end n.jones holds ACCT-611-B, FNCE-601-A and MGMT-691-B, worth 262 by the ratings of n.jones, prices together",
             "4,542 tokens: 4,500 by the roll, and 42 by the draw",
             "The price of FNCE-717-A is 3,252. n.jones bought ACCT-611-B, FNCE-601-A and HCMG-841-A, whose prices "
             "together are 3,914. "
@@ -366,8 +366,8 @@ class Ways(unittest.TestCase):
             "at the end of the second stage: 8",
             "aftermarket, passes 1 to 5, at the turn of n.jones: none",
             "in the end: none",
-            "the turn of n.jones is number 100 of 100. Others had taken the free seats before it.",
-            "s.adler, whose budget is 5018",
+            "the turn of n.jones is number 100 of 100. With a free seat too n.jones would not have taken it: at each",
+            "s.adler, whose budget is 5,018",
             "ACCT-611-B, FNCE-601-A and MGMT-691-B, which are worth more",
             "Without ACCT-611-B it would not envy s.adler.",
         ):
@@ -451,7 +451,7 @@ class Ways(unittest.TestCase):
         row = self.tab.evaluate(
             f"[...{rows}.find(it => it.textContent.startsWith('n.jones')).children].map(it => it.textContent)"
         )
-        self.assertEqual(["n.jones", "4542", "0", "2", "s.adler, but for ACCT-611-B"], row[:5])
+        self.assertEqual(["n.jones", "4,542", "0", "2", "s.adler, but for ACCT-611-B"], row[:5])
         self.pictures("auditor")
 
     def test_finding_has_its_place(self) -> None:

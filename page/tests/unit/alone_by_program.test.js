@@ -8,6 +8,7 @@ import { join } from 'node:path';
 import { after, before, test } from 'node:test';
 
 import { blankSessions, roomOf } from '../../alone.js';
+import { stagesOf as stagesShown, takenIfFree } from '../../one_student.js';
 import { treeAt, turnsOf } from '../../texts.js';
 import { TOP, cases, marketOfCase, term } from './vectors.js';
 
@@ -82,6 +83,22 @@ test('demand at the printed prices takes the printed bundle', options, () => {
   const words = ['demand', '1', 'CATALOGUE', 'ROLL', 'SETTINGS', 'PRICES', 'SESSION0'];
   const { text } = ask(words, roomOf(market.catalogue, second));
   assert.match(text, /^bundle n\.jones \[ACCT-611-B,FNCE-601-A,HCMG-841-A\]$/m);
+});
+
+test('what would be taken with a free seat is the best of that and of what was free', options, async () => {
+  const market = /** @type {any} */ (term());
+  const at = market.roll.findIndex((/** @type {Student} */ it) => it.name === 'n.jones');
+  const stages = stagesShown(market, at), by = async (/** @type {string} */ _, /** @type {Call} */ call) => {
+    for (const [name, bytes] of call.files) writeFileSync(join(room, name), bytes);
+    const ran = spawnSync(PROGRAM, call.words, { cwd: room, encoding: 'utf8' });
+    return /** @type {any} */ ({ status: ran.status, text: ran.stdout });
+  };
+  assert.ok(!stages[1].allowed.has('MGMT-691-B') && !stages[1].allowed.has('FNCE-717-A'));
+  assert.deepEqual(await takenIfFree(by, market, at, stages[1], 'MGMT-691-B'), stages[2].names);
+  assert.deepEqual(await takenIfFree(by, market, at, stages[1], 'FNCE-717-A'), stages[1].names);
+  assert.deepEqual(await takenIfFree(by, market, at, stages[2], 'FNCE-717-A'), stages[2].names);
+  const stopped = async () => /** @type {any} */ ({ status: 'stopped', text: '' });
+  assert.equal(await takenIfFree(stopped, market, at, stages[1], 'FNCE-717-A'), null);
 });
 
 test('with blank sessions check judges form and budgets, and then the first bundle that is not empty', options, () => {

@@ -1,7 +1,7 @@
 import assert from 'node:assert/strict';
 import { test } from 'node:test';
 
-import { heldPrices, lineOf, yesWords } from '../../answer_view.js';
+import { heldPrices, lineOf, wayWords, yesWords } from '../../answer_view.js';
 import { explainedIn, explanationOf, judgedStages, linesInText, stagesOf, unjudgedWords } from '../../one_student.js';
 import { menuOf } from '../../reckoning.js';
 import { AS_NAMED } from '../../spelling.js';
@@ -9,13 +9,15 @@ import { longReason, shortReason, stagesName } from '../../stage_words.js';
 import { countsOf } from '../../texts.js';
 import { heldSince, signRuns } from '../../signs_view.js';
 import { triedOf } from '../../what_if_view.js';
-import { missedSections, shortAnswer } from '../../why_view.js';
+import { missedSections, missedWords, shortAnswer, turnWords } from '../../why_view.js';
 import { grouped, plural, tokens } from '../../wording.js';
 import { term } from './vectors.js';
 
 const market = /** @type {any} */ ({ ...term(), spelling: AS_NAMED });
 const student = market.roll.findIndex((/** @type {Student} */ it) => it.name === 'n.jones');
 const stages = stagesOf(market, student);
+
+const GIVES = 'n.jones would have had to give something up for it:';
 
 test('stages are the second one and each turn as it stood', () => {
   assert.deepEqual(stages.map(it => it.pass), [0, 1, 2, 3, 4, 5]);
@@ -44,14 +46,26 @@ test('the stage since which the bundle of the end is held', () => {
 
 test('the first line says each budget, and what is held says of which one its prices are', () => {
   assert.equal(yesWords(market, student, true), 'Yes: at these prices nothing better was to be had for 4,542 tokens, '
-    + 'nor at its turns in the aftermarket for 4,996.');
-  assert.equal(heldPrices(market, student),
-    ', prices together 4,930 of 4,996 tokens in the aftermarket (4,542 raised by 10 percent).');
+    + 'nor at the turns of n.jones in the aftermarket for 4,996, which is 4,542 raised by 10 percent.');
+  assert.equal(yesWords(market, student, false), 'Yes: at these prices nothing better was to be had for 4,542 tokens.');
+  const held = ', worth 262 by the ratings of n.jones, prices together 4,930 of the raised 4,996 tokens.';
+  assert.equal(heldPrices(market, student), held);
   const second = market.text.bundles.map((/** @type {Bundle} */ it) => it.names);
   const same = { ...market, text: { ...market.text, finals: second } };
-  assert.equal(heldPrices(same, student), ', prices together 3,914 of 4,542 tokens.');
+  assert.match(heldPrices(same, student), /^, worth 260 by the .* prices together 3,914 of 4,542 tokens\.$/);
+  const silent = { ...market, wishes: new Map() };
+  assert.equal(heldPrices(silent, student), ', prices together 4,930 of the raised 4,996 tokens.');
   const nothing = { ...market, text: { ...market.text, finals: market.text.finals.map(() => []) } };
   assert.equal(heldPrices(nothing, student), '.');
+});
+
+test('what was bought first stands beside what the turns made of it', () => {
+  assert.equal(wayWords(market, student, stages), 'First n.jones bought a bundle with HCMG-841-A, worth 260; at turns '
+    + 'in the aftermarket n.jones took MGMT-691-B and gave up HCMG-841-A (pass 2).');
+  const again = { ...stages[3], before: stages[3].names, names: ['ACCT-611-B'] };
+  assert.match(wayWords(market, student, [...stages.slice(0, 3), again]),
+    /gave up HCMG-841-A \(pass 2\); gave up FNCE-601-A and MGMT-691-B \(pass 3\)\.$/);
+  assert.equal(wayWords(market, student, stages.slice(0, 2)), '');
 });
 
 test('each stage is judged by the finding of its own market, and a stopped call judges nothing', async () => {
@@ -89,8 +103,8 @@ test('what explain prints is read, and where it refuses the answer is handed on'
 test('reasons are short for a line and long below it; a tie is said to be one', () => {
   const told = { reason: 'beside price', best: ['ACCT-611-B', 'FNCE-717-A'], worth: 188, lost: 72, tree: '' };
   assert.equal(shortReason(market, student, stages[0], 'FNCE-717-A', told), 
-    'its price is 3,252; what n.jones bought left 628 of 4,542 tokens (with it the best was worth 188, without it '
-      + '260)');
+    'n.jones would have had to give something up for it: its price is 3,252, and what n.jones bought left 628 of 4,542 '
+      + 'tokens (by the ratings of n.jones the best with it was worth 188, without it 260)');
   const [why, best] = longReason(market, student, stages[0], 'FNCE-717-A', told);
   assert.match(why, /whose prices together are 3,914\. Of its budget of 4,542 that leaves 628/);
   assert.match(best, /prices together 4,103\), worth 188 by the ratings of n\.jones.*worth 260, 72 more\./);
@@ -102,7 +116,8 @@ test('reasons are short for a line and long below it; a tie is said to be one', 
 test('of a turn the reason speaks of the raised budget and of what was held', () => {
   const told = { reason: 'beside price', best: ['LGST-806-A'], worth: 88, lost: 174, tree: '' };
   assert.equal(shortReason(market, student, stages[2], 'LGST-806-A', told), 
-    'its price is 2,670; what n.jones took left 66 of 4,996 tokens (with it the best was worth 88, without it 262)');
+    'n.jones would have had to give something up for it: its price is 2,670, and what n.jones took left 66 of 4,996 '
+      + 'tokens (by the ratings of n.jones the best with it was worth 88, without it 262)');
   const [why, best] = longReason(market, student, stages[2], 'LGST-806-A', told);
   assert.match(why, /n\.jones took ACCT-611-B, FNCE-601-A and MGMT-691-B, whose prices together are 4,930/);
   assert.match(best, /of what was held and what was free/);
@@ -111,10 +126,12 @@ test('of a turn the reason speaks of the raised budget and of what was held', ()
 test('what was left is of something, and a reason names who is spoken of', () => {
   const short = (/** @type {string} */ reason, /** @type {string} */ name, other = '') =>
     shortReason(market, student, stages[0], name, { reason, other });
-  assert.equal(short('beside credits', 'FNCE-717-A'), 'it has 2 credits; what n.jones bought left 2 of 8 credits');
-  assert.equal(short('beside courses', 'FNCE-717-A'), 'n.jones bought 5 sections, and the roll allows no more');
+  assert.equal(short('beside credits', 'FNCE-717-A'),
+    `${GIVES} it has 2 credits, and what n.jones bought left 2 of 8 credits`);
+  assert.equal(short('beside courses', 'FNCE-717-A'),
+    `${GIVES} n.jones bought 5 sections, and the roll allows no more`);
   assert.equal(short('clash', 'FNCE-601-B', 'FNCE-601-A'),
-    'it is of the same course as FNCE-601-A, which n.jones bought');
+    `${GIVES} it is of the same course as FNCE-601-A, which n.jones bought`);
   assert.equal(short('alone price', 'FNCE-717-A'), 'its price is 3,252, more than the whole budget of 4,542 tokens');
   assert.equal(short('held', 'HCMG-841-A'), 'n.jones bought it, and gave it up later for a better bundle');
   const turns = [1, 2].map(it => shortReason(market, student, stages[it], 'HCMG-841-A', { reason: 'held' }));
@@ -138,35 +155,46 @@ test('why not says what was free when the aftermarket began, and what at the tur
   const counted = { ...market, counts }, told = { reason: 'beside price' };
   const reply = (/** @type {Stage} */ stage, last = stage, of = told) => ({ stage, last, told: of });
   const short = (/** @type {string} */ name, /** @type {any[]} */ ...later) =>
-    shortAnswer(counted, student, stages, name, [reply(stages[0]), ...later]);
-  assert.equal(short('FNCE-717-A'), 'its price is 3,252; what n.jones bought left 628 of 4,542 tokens. '
-    + 'Aftermarket: 8 of 12 seats were free when it began, and gone at the turns of n.jones.');
+    shortAnswer(counted, student, stages, name, [reply(stages[0]), ...later], null);
+  assert.equal(short('FNCE-717-A'), `${GIVES} its price is 3,252, and what n.jones bought left 628 of 4,542 tokens. `
+    + 'Aftermarket: 8 of 12 seats were free when it began, and none at any turn of n.jones.');
+  const ifFree = (/** @type {'nothing' | 'taken'} */ it) => shortAnswer(counted, student, stages, 'FNCE-717-A',
+    [reply(stages[0])], it);
+  assert.match(ifFree('nothing'), / any turn of n\.jones\. With a free seat too n\.jones would not have taken it\.$/);
+  assert.match(ifFree('taken'), /none at any turn of n\.jones\. With a free seat n\.jones would have taken it\.$/);
+  assert.match(turnWords(market, student, 'nothing'), / 100 of 100\. With a free seat too n\.jones would not have /);
+  assert.match(turnWords(market, student, 'taken'), / would have taken it at one of these turns, by the program\.$/);
+  assert.match(turnWords(market, student, null), /is number 100 of 100\.$/);
   const full = { ...counted, counts: new Map([['FNCE-717-A', 12]]) };
-  assert.match(shortAnswer(full, student, stages, 'FNCE-717-A', [reply(stages[0])]),
-    /Aftermarket: no seat was free when it began, nor at the turns of n\.jones\.$/);
+  assert.match(shortAnswer(full, student, stages, 'FNCE-717-A', [reply(stages[0])], null),
+    /Aftermarket: no seat was free when it began, nor at any turn of n\.jones\.$/);
   const one = { ...counted, counts: new Map([['FNCE-717-A', 11]]) };
-  assert.match(shortAnswer(one, student, stages.slice(0, 2), 'FNCE-717-A', [reply(stages[0])]),
-    /1 of 12 seats was free when it began, and gone at the turn of n\.jones\.$/);
+  assert.match(shortAnswer(one, student, stages.slice(0, 2), 'FNCE-717-A', [reply(stages[0])], null),
+    /1 of 12 seats was free when it began, and none at the turn of n\.jones\.$/);
   assert.match(short('LGST-806-A', reply(stages[1]), reply(stages[2], stages[5])),
-    /^its price is 2,670; .* pass 5: \d of 9 seats were free at the turn of n\.jones, but what n\.jones took left 66/);
+    /its price is 2,670, .* pass 5: \d of 9 seats were free at the turn of n\.jones, but what n\.jones took left 66/);
   assert.match(short('MGMT-691-B', reply(stages[2], stages[2], { reason: 'held' }), reply(stages[3])),
     / Aftermarket, pass 2: n\.jones took it, and gave it up later for a better bundle\.$/);
   const [first, later] = [[188, 72], [190, 72]].map(([worth, lost]) => ({ ...told, worth, lost }));
   const line = (/** @type {any} */ one, /** @type {any} */ other) => shortAnswer(counted, student, stages, 'LGST-806-A',
-    [reply(stages[0], stages[0], one), reply(stages[2], stages[5], other)]);
+    [reply(stages[0], stages[0], one), reply(stages[2], stages[5], other)], null);
   assert.match(line(first, later),
     /left 628 of .* 188, without it 260\)\..* left 66 of .* \(.* 190, without it 262\)\.$/);
   assert.match(line(first, first), /left 628 of .* 188, without it 260\)\..* left 66 of 4,996 tokens\.$/);
   const clash = { reason: 'clash', other: 'FNCE-601-A' };
   const both = [reply(stages[0], stages[0], clash), reply(stages[3], stages[5], clash)];
-  assert.equal(shortAnswer(counted, student, stages, 'FNCE-601-B', both), 'it is of the same course as FNCE-601-A, '
-    + 'which n.jones bought. Aftermarket, pass 5: 2 of 20 seats were free at the turn of n.jones, but the same holds.');
+  assert.equal(shortAnswer(counted, student, stages, 'FNCE-601-B', both, null), `${GIVES} it is of the same course as `
+    + 'FNCE-601-A, which n.jones bought. '
+    + 'Aftermarket, pass 5: 2 of 20 seats were free at the turn of n.jones, but the same holds.');
 });
 
 test('sections that are missed stand by rating, those above the least of the held first', () => {
   const { higher, others } = missedSections(market, student);
   assert.deepEqual(higher.map(it => it.rating), [100, 100, 100, 98, 88, 86, 76]);
   assert.deepEqual(others.map(it => it.name), ['HCMG-841-A']);
+  assert.equal(missedWords(market, student, 7), 'n.jones rated these sections higher than MGMT-691-B (rated 74), the '
+    + 'lowest of those that n.jones holds in the end:');
+  assert.match(missedWords(market, student, 0), /^n\.jones rated no other section higher than MGMT-691-B \(rated 74\)/);
 });
 
 test('the lines of the text have their numbers', () => {

@@ -79,8 +79,8 @@ test('the signs of n.jones are read as the guide reads them', () => {
   const steps = [...stepsOf(walkOf(market, student, { budget: 4542, champion: names }), tree)];
   assert.deepEqual(steps.map(it => it.sign), ['+', '+', ...'--------', '+', '*', 'n', 'b5', 'b1', '']);
   const told = steps.map(it => `${it.section} ${it.words}`.trim());
-  assert.equal(told[0], 'ACCT-611-B is taken (rating 88, price 851): left are 3,691 of 4,542 tokens, 6 of 8 credits and '
-    + '4 of 5 sections.');
+  assert.equal(told[0], 'ACCT-611-B is taken (rating 88, price 851): left are 3,691 of 4,542 tokens, 6 of 8 credits '
+    + 'and 4 of 5 sections.');
   assert.deepEqual(told.slice(2, 4), ['FNCE-601-B is left out: it is of the same course as FNCE-601-A.',
     'FNCE-717-A is left out: it has the price 3,252, and 1,749 tokens are left.']);
   assert.equal(told[11], 'This is the bundle: ACCT-611-B, FNCE-601-A and HCMG-841-A, worth 260. Nothing is left to '
@@ -89,9 +89,9 @@ test('the signs of n.jones are read as the guide reads them', () => {
     'Back at FNCE-601-A, now without it:', 'Back at ACCT-611-B, now without it:', '']);
   assert.equal(told[12], 'With ACCT-611-B and FNCE-601-A, worth 188, and no other section up to HCMG-841-A: nothing '
     + 'else can come to it. So at most 188, less than the 260 of the bundle.');
-  assert.match(told[13], /2,989 tokens bring 109 \(its rating 100, and 9 more by pairs: two sections that were said to/);
+  assert.match(told[13], /2,989 tokens bring 109 \(its rating 100, and 9 more by pairs: two sections that were said/);
   assert.match(told[13], /together\): 0\.036 points a token, rounded down\. With all that is left at that rate/);
-  assert.match(told[13], / = 260\.508\. Worth is a whole number, so at most 260, as much as the bundle; and a tie goes/);
+  assert.match(told[13], / = 260\.508\. Worth is a whole number, so at most 260, as much as the bundle; and a tie/);
   assert.match(told[13], /tie goes to the bundle, which alone has FNCE-601-A: the first section, in the order of the/);
   assert.match(told[14], / = 247\.429\. Worth is a whole number, so at most 247, less than the 260 of the bundle\.$/);
   assert.match(told[15], /was looked at or ruled out, and none is better/);
@@ -106,13 +106,13 @@ test('a sign says that a section is taken or left out, and no number of a place 
 test('the key has the signs that occur and no others, each bound with its own section', () => {
   const [walk, tree] = treeOfJones(), key = meanings(tree, walk);
   assert.deepEqual(key.map(it => it.sign), ['+', '-', '*', 'n', 'b5', 'b1']);
-  assert.equal(key[4].words, 'stop: even with the tokens left spent as well as on MGMT-690-A (number 5), or better where a '
-    + 'section brings more for a token, the bundle is not beaten');
+  assert.equal(key[4].words, 'stop: even with the tokens left spent as well as on MGMT-690-A (number 5), or better '
+    + 'where a section brings more for a token, the bundle is not beaten');
   assert.equal(key[5].words, 'the same with FNCE-601-A (number 1)');
-  assert.match(key[1].words, /left out: it is of the same course as one that is taken, or .* too little is left for it$/);
+  assert.match(key[1].words, /left out: it is of the same course as one that is taken, .* too little is left for it$/);
   assert.match(meanings('-', { ...walk, allowed: new Set() })[0].words, /, or it had no free seat$/);
-  assert.equal(waysWords(tree), 'Each + opens two ways, with the section and without it, and each way ends in * or n or '
-    + 'b: so no bundle was missed.');
+  assert.equal(waysWords(tree), 'Each + opens two ways, with the section and without it, and each way ends in * or n '
+    + 'or b: so no bundle was missed.');
   assert.equal(waysWords('*'), '');
   const bounds = boundsMean('m0m1m2m3m4m5m6m7m7', 'm', walk.menu);
   assert.deepEqual(bounds.map(it => it.sign), ['m0', 'm1', 'm2', 'm3', 'm4', 'm5', 'm..']);
@@ -130,12 +130,12 @@ function treeOfJones() {
 test('each place that a sign speaks of has its section beside it', () => {
   const [walk, tree] = treeOfJones(), words = [...stepsOf(walk, tree)].map(it => it.words);
   assert.match(words[13], /^With ACCT-611-B, worth 88, and no other section up to FNCE-601-A: 3,691 tokens are left\./);
-  assert.match(words[14], /^Without ACCT-611-B nothing is taken yet: 4,542 tokens are left\. At FNCE-601-A \(number 1\)/);
+  assert.match(words[14], /^Without ACCT-611-B nothing is taken yet: 4,542 tokens are left\. At FNCE-601-A \(/);
   assert.equal(beginsWith(walk, [0, 1], 2, 188), 'With ACCT-611-B and FNCE-601-A, worth 188:');
   assert.equal(beginsWith(walk, [], 0, 0), 'At first nothing is taken yet:');
   assert.equal(beginsWith(walk, [], 2, 0), 'Without the sections up to FNCE-601-A nothing is taken yet:');
-  assert.deepEqual([pairedWorth(5, 5), pairedWorth(5, 2)], ['5', '2 (its rating 5, and 3 less by pairs: two sections that '
-    + 'were said to be worth more, or less, together)']);
+  assert.deepEqual([pairedWorth(5, 5), pairedWorth(5, 2)], ['5', '2 (its rating 5, and 3 less by pairs: two sections '
+    + 'that were said to be worth more, or less, together)']);
   assert.deepEqual([36, 260508, 1260000].map(points), ['0.036', '260.508', '1,260']);
 });
 
