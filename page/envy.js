@@ -60,9 +60,9 @@ function envyWords(market, student, stage, when) {
     : `It would envy ${sees.other} without any one of these sections too.`;
   const more = beyond && sees.but
     ? ` (${beyond} of them it would envy without any one of their sections too.)` : '';
-  return p(`${when} ${name} envies ${listed(of)}. ${first} ${sees.other}, whose budget is ${grouped(budget)}: of the sections `
-    + `of ${sees.other} ${name} could use ${listed(sees.names)}, which are worth more to ${name} than its own bundle. `
-    + `${end}${more}`);
+  return p(`${when} ${name} envies ${listed(of)}. ${first} ${sees.other}, whose budget is ${grouped(budget)}: of `
+    + `the sections of ${sees.other} ${name} could use ${listed(sees.names)}, which are worth more to ${name} than its `
+    + `own bundle. ${end}${more}`);
 }
 
 const ENVY = 'A student envies another if what it can use of the other\'s bundle is worth more to it, by its own '

@@ -78,7 +78,8 @@ class Strange(unittest.TestCase):
                 final = next(it for it in text.splitlines() if it.startswith(f"final {name} "))
                 held = [it for it in final.split(" ")[2].strip("[]").split(",") if it]
                 told = self.tab.evaluate("document.querySelector('.holds').textContent")
-                self.assertEqual(held, [it for it in SECTIONS if it in told.split(" holds ")[1].replace(",", "").rstrip(".").split()])
+                named = told.split(" holds ")[1].split(", worth ")[0].replace(",", "").rstrip(".").split()
+                self.assertEqual(held, [it for it in SECTIONS if it in named])
         rated = self.tab.evaluate("[...shown.market.wishes.get('total').ratings]")
         self.assertEqual([[it, 90 - 7 * at] for at, it in enumerate(SECTIONS)], rated)
         pairs = self.tab.evaluate("shown.market.wishes.get('__proto__').pairs")

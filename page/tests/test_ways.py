@@ -384,20 +384,20 @@ class Ways(unittest.TestCase):
         self.open_all("#student-answer")
         told = self.words("#student-answer")
         for words in (
-            "3691 of 4542 tokens, 6 of 8 credits and 4 of 5 sections",
-            "1749 of 4542 tokens",
+            "3,691 of 4,542 tokens, 6 of 8 credits and 4 of 5 sections",
+            "1,749 of 4,542 tokens",
             "FNCE-601-B is of the same course as FNCE-601-A",
             "What is chosen is worth 188. Nothing else can come to it.",
-            "109 (its rating 100 + 9 with its pairs) for 2989 tokens, 0.036 points a token",
-            "+ 31.644 (HCMG-841-A: 72 less 0.036 · 1121)",
+            "109 (its rating 100, and 9 more by pairs: two sections that were said to be worth more, or less, together) for 2,989",
+            "+ 31.644 (HCMG-841-A: 72 less 0.036 · 1,121)",
             "+ 6.592 (FNCE-601-B",
             "+ 1.396 (MGMT-690-A",
             "= 260.508",
-            "So at most 260, no more than the 260 of the bundle",
+            "Worth is a whole number, so at most 260, as much as the bundle; and a tie goes to the bundle, which alone has",
             "= 247.429",
-            "439 of 4542 tokens",
-            "FNCE-717-A can no more be taken: it has the price 3252, and 1749 tokens are left",
-            "! the section that is asked for comes next, and has to be taken",
+            "439 of 4,542 tokens",
+            "FNCE-717-A can no more be taken: it has the price 3,252, and 1,749 tokens are left",
+            "! the section that is asked for: it has to be taken",
             "72 (HCMG-841-A)",
             "So at most 172, less than the 188 of the bundle",
         ):
@@ -652,7 +652,7 @@ class Ways(unittest.TestCase):
         )
         self.tab.wait(
             f"{told}.includes('The price of FNCE-717-A is 3,252') && $('student').textContent.includes('s.adler, whose "
-            f"budget is 5018') && $('answer').textContent.startsWith('Yes')"
+            f"budget is 5,018') && $('answer').textContent.startsWith('Yes')"
         )
 
     def test_back_leads_to_what_was_looked_at(self) -> None:
