@@ -8,7 +8,7 @@ import { tableOf } from './grid.js';
 import { errorOf, priceOf } from './reckoning.js';
 import { meetingWords } from './tables.js';
 import { changesOf } from './texts.js';
-import { plural, timed } from './wording.js';
+import { grouped, plural, timed } from './wording.js';
 
 /**
  * Shows one student, by its name.
@@ -25,9 +25,11 @@ function figuresPart(market) {
   const lines = [
     ['Checked in', timed(market.ms)],
     ['Students, sections, sessions', `${roll.length}, ${catalogue.length}, ${market.parts.sessions.length}`],
-    ['Seats taken', `${sum(counts)} in the second stage, ${sum(endCounts)} in the end, of ${seats}`],
+    ['Seats taken', `${grouped(sum(counts))} in the second stage, ${grouped(sum(endCounts))} in the end, of `
+      + grouped(seats)],
     ['Students without a section', `${without[0]} in the second stage, ${without[1]} in the end`],
-    ['Turns of the aftermarket', `${text.turns.length} in ${passes}; ${changes.length} changed something`],
+    ['Turns of the aftermarket', `${grouped(text.turns.length)} in ${passes}; ${grouped(changes.length)} changed `
+      + 'something'],
   ];
   return el('dl', { class: 'figures' },
     lines.map(([name, value]) => el('div', {}, el('dt', {}, name), el('dd', {}, value))));
@@ -47,7 +49,7 @@ function errorsPart({ text, catalogue, counts, settings }) {
       errorFigure('After the search',
         `${text.error} by the text, which the check does not judge (the settings accept ${settings.accept})`,
         'At these prices some sections may have more students than seats, and others free ones.'),
-      errorFigure('In the second stage', `${errorOf(counts, catalogue, text.prices)} by the page's sum`,
+      errorFigure('In the second stage', `${grouped(errorOf(counts, catalogue, text.prices))} by the page's sum`,
         'Prices were raised until no section had more students than seats, so it counts free seats alone: '
         + `${plural(seats, 'seat')} of ${plural(free.length, 'section')} with a price. It can be the greater of the `
         + 'two, since with a higher price more students may leave a section than were too many.')),
@@ -67,7 +69,7 @@ function sectionTable(market) {
   }));
   const taken = (/** @type {number} */ of, /** @type {number} */ seats) => el('span', { class: 'with-bar' },
     `${of} of ${seats}`, bar(seats ? of / seats : 0, of >= seats ? 'full' : ''));
-  const priced = (/** @type {number} */ it) => el('span', { class: 'with-bar' }, String(it), bar(it / top));
+  const priced = (/** @type {number} */ it) => el('span', { class: 'with-bar' }, grouped(it), bar(it / top));
   return tableOf('Sections: prices and seats', [
     { head: 'Section', of: it => it.name, isText: true },
     { head: 'Price', of: it => it.price, show: it => priced(it.price) },

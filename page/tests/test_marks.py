@@ -88,7 +88,7 @@ class Marks(unittest.TestCase):
         files = [self.room / it for it in ("CAT", "STU", "SET", "published.txt", "S1", "S2")]
         with self.tab.tasks() as tasks:
             self.tab.choose("#choose", files)
-            self.tab.wait("$('verdict').textContent.includes('2000 students') && $('student-name') && !isWorking()")
+            self.tab.wait("$('verdict').textContent.includes('2,000 students') && $('student-name') && !isWorking()")
         self.assert_short(tasks[-1], LONGEST_TASK, "while the text is checked and read")
         with self.tab.tasks() as tasks:
             for name in STUDENTS:

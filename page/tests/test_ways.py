@@ -416,7 +416,7 @@ class Ways(unittest.TestCase):
                 f"[...{sections}.querySelectorAll('button')].find(it => it.textContent === 'Price').click()"
             )
         self.assertEqual(
-            "FNCE-717-A3252",
+            "FNCE-717-A3,252",
             self.tab.evaluate(
                 f"[...{sections}.querySelector('tbody tr').children].slice(0, 2).map(it => it.textContent).join('')"
             ),
