@@ -201,6 +201,7 @@ module _ {B A : Type 0} (rules : Rules B A) (lasting : IsLasting rules) (board :
         settled = subst (λ t. AreSettled rules t marks) (sym same) (subst (λ m. AreSettled rules board.base m) (sym stand) all_settled);
         by_seats = known;
         own = own;
+        seen = seen;
         tasks = all_tasks;
         taken = subst (λ m. (task : ℕ) → IsSome (answer_in (mark_at m task)) → IsWorked rules IsTaken board.base history task) (sym stand) all_taken;
       }

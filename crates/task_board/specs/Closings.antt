@@ -1,5 +1,6 @@
 -- A board that has come to its end.
 use Rattle.std.specs.Prelude.{ℕ, ◌≡◌, ◌⊎◌, List, [], IsSome, All, Any, length}
+use Rattle.market_units.specs.Beginnings.{BeginsWith}
 use Rattle.chronicle.specs.declared.journal.StepOf.{StepOf}
 use Rattle.chronicle.specs.History.{IsLegal, state_after, calls_by}
 use Rattle.task_board.specs.declared.calls.Call.{Call}
@@ -14,7 +15,7 @@ use Rattle.task_board.specs.Shared.{is_sound, reply_to, progress_after, progress
 
 module _ {B A : Type 0} (rules : Rules B A) (board : BoardOf B A) (seats : List (SeatOf B A)) where
   -- the answers of a board that these seats worked: they are read from one legal history of all
-  -- their calls, and each task is answered or over
+  -- their calls, which begins with what each has seen, and each task is answered or over
   pub record IsEndOf (end : AnswersData B A) : Type 0 where
     pub terms : end.terms ≡ board.base
     pub each : length end.marks ≡ rules.count board.base
@@ -26,6 +27,8 @@ module _ {B A : Type 0} (rules : Rules B A) (board : BoardOf B A) (seats : List 
     pub by_seats : All (λ (step : StepOf (Call A) Reply). Any (λ (s : SeatOf B A). s.number
         ≡ step.seat) seats) end.history
     pub own : All (λ (s : SeatOf B A). calls_by s.number end.history ≡ s.own) seats
+    -- the history begins with what each seat has seen
+    pub seen : All (λ (s : SeatOf B A). BeginsWith end.history s.seen) seats
     -- each task that was drawn was posted once, by the seat that drew it
     pub tasks : (task : ℕ)
         → (calls_on task end.history ≡ [])
