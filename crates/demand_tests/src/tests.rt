@@ -6,6 +6,7 @@ mod driver;
 mod held_workers;
 mod menus;
 mod one_by_one;
+mod passes;
 mod plain_demands;
 mod rivals;
 mod trees;

@@ -74,9 +74,9 @@ pub(crate) fn at(alloc: Global, price: u32) -> Result<Vec<Tokens>, NoMemory> {
     Ok(vec![in alloc; Tokens(price); 1]?)
 }
 
-// How many of the four take the section at 104, 102, 103 and 0, asked in one call of so many
-// workers.
-fn counts_by<R: Abort + Threads + Wait + Sync>(
+/// How many of the four take the section at 104, 102, 103 and 0, asked in one call of so many
+/// workers.
+pub(crate) fn counts_by<R: Abort + Threads + Wait + Sync>(
     rt: &R,
     alloc: Global,
     workers: u16,
@@ -190,16 +190,6 @@ fn counts_of_four_students(rt: HostRuntime) -> Result<(), Fail> {
         let found = counts_by(&rt, rt.alloc(), workers, &OpenGate)?;
         assert_eq!(rt; found, [0, 2, 1, 4], "{workers} workers");
     }
-    Ok(())
-}
-
-// All four are asked at the first version, then all at the three cheaper ones: each worker starts
-// once for either round, and each task is posted once.
-#[test]
-fn each_worker_passes_the_gate(rt: HostRuntime) -> Result<(), Fail> {
-    let gate = CountingGate::new();
-    counts_by(&rt, rt.alloc(), 3, &gate)?;
-    assert_eq!(rt; gate.take(), (6, 16));
     Ok(())
 }
 
