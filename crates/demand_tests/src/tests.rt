@@ -9,6 +9,7 @@ mod one_by_one;
 mod passes;
 mod plain_demands;
 mod rivals;
+mod threads;
 mod trees;
 mod two_sections;
 mod two_versions;
