@@ -4,6 +4,7 @@ mod explanations;
 mod gates;
 mod halls;
 mod opened_halls;
+mod passes;
 mod tables;
 mod told_audits;
 mod told_reasons;

@@ -335,6 +335,19 @@ fn are_of_four<R: Abort>(rt: &R, rows: &[EnvyRow]) -> bool {
     rows == [envious, envious, envious, content].as_slice()
 }
 
+/// Has so many workers audit four students who want the one section that the last has.
+pub(crate) fn audit_four<R: Abort + Threads + Wait + Sync, G: Gate + Sync>(
+    rt: &R,
+    alloc: Global,
+    workers: u16,
+    gate: &G,
+) -> Result<(), Fail> {
+    let crowd = crowd_of(rt, alloc, &FOUR_STUDENTS, 1)?;
+    let rows = rows_of(rt, alloc, &crowd, &THE_LAST, workers, gate)?;
+    assert!(rt; are_of_four(rt, &rows));
+    Ok(())
+}
+
 // The stops of two workers that met, and of nobody else.
 fn try_gate<R: Abort>(rt: &R, gate: &MeetingGate) {
     assert_eq!(rt; gate.missed(), 0);
@@ -350,10 +363,8 @@ fn try_gate<R: Abort>(rt: &R, gate: &MeetingGate) {
 // Two workers, neither of whom can post all rows before the other has posted one.
 #[test]
 fn two_workers_meet(rt: HostRuntime) -> Result<(), Fail> {
-    let crowd = crowd_of(&rt, rt.alloc(), &FOUR_STUDENTS, 1)?;
     let gate = MeetingGate::new();
-    let rows = rows_of(&rt, rt.alloc(), &crowd, &THE_LAST, 2, &gate)?;
-    assert!(rt; are_of_four(&rt, &rows));
+    audit_four(&rt, rt.alloc(), 2, &gate)?;
     try_gate(&rt, &gate);
     Ok(())
 }
