@@ -1,10 +1,10 @@
-// What one worker does in a round.
+// What a worker of a round answers.
 ghost use Rattle.std.specs.Prelude.{◌≡◌, ◌≤◌, ◌<◌, ℕ, IfSome, length, nat_lt};
 ghost use Rattle.std.specs.FinSet as set;
 ghost use Rattle.bundle_rules.specs.{Bundles.sections_of, Demand.price_in};
 ghost use Rattle.demand_api.specs.{Asking.ArePricesFor, Crowds.demand_of, Views.data_of};
 ghost use Rattle.price_board.specs.{Openings.terms_of, Tasks.IsTask, Tasks.taken_at};
-ghost use Rattle.price_board.specs.Seats.{IsFree, IsFinished};
+ghost use Rattle.price_board.specs.contracts.terms.Terms as terms;
 ghost use Rattle.demand_workers.specs.{Answering.answer_to, Notes.IsNoted, Views.crowd_of};
 ghost use Rattle.demand_workers.specs.Rounds.{AreVersionsFor, prices_of};
 ghost use Rattle.std.proofs.Props.{props};
@@ -20,10 +20,10 @@ use crate::trial::{ROOM, raised_prices};
 use bundle_rules::Bundle;
 use demand_api::Crowd;
 use demand_oracle::{Workspace, demand};
-use market_edge::{Gate, Stop};
-use market_units::{MAX_WORKERS, SectionSet, StudentNo, Tokens};
-use price_board::{Board, BoardSeat, Draw, Round, Task};
+use market_units::{SectionSet, StudentNo, Tokens};
+use price_board::{Board, Round, RoundTasks, Task};
 use std::sync::{Mutex, Wait};
+use task_board::Answerer;
 
 /// What the workers of a round are lent: the crowd, the round, and what is remembered of the crowd,
 /// if anything is.
@@ -42,33 +42,28 @@ pub(crate) struct Lent<'a> {
     pub ghost some: { (1 ≤ kept) × (kept ≤ 8) },
 }
 
-/// Draws one task after another, and posts what its student takes, until no task is left. The
-/// worker passes the gate before its first draw and after each of its posts. What it finds of the
-/// last student that is asked at a raised price it leaves behind as a note: no post tells it.
-pub(crate) fn work<R: Wait>(
-    rt: &R,
-    board: &Board,
-    seat: &mut BoardSeat,
-    workspace: &Mutex<Workspace>,
-    lent: &Lent,
-    gate: &(dyn Gate + Sync),
-    left: &mut Option<Note>,
-)
-    requires board { board.now.base ≡ terms_of lent.now.crowd.now lent.now.round.now }
-    requires number { seat.old.number < MAX_WORKERS }
-    requires free { IsFree board.now seat.old }
-    requires noted { IfSome left.old (IsNoted (data_of lent.now.crowd.now)) }
-    ensures finished { IsFinished board.now seat.new }
-    ensures number { seat.new.number ≡ seat.old.number }
-    ensures noted { IfSome left.new (IsNoted (data_of lent.now.crowd.now)) }
-{
-    let mut workspace = workspace.lock(rt);
-    let number = seat.number() + 1;
-    gate.pass(Stop::WorkerStart(number));
-    'tasks: while let Draw::Task(drawn) = board.draw(rt, seat) {
-        let bundle = taken_at(&mut workspace, lent, drawn.task, left);
-        board.post(rt, seat, drawn, bundle);
-        gate.pass(Stop::WorkerCall(number));
+/// A worker of a round: its board, the workspaces, of which it takes that of its seat, and what it is
+/// lent. What it finds of the last student that is asked at a raised price it leaves behind as a
+/// note: no post tells it.
+#[derive(Clone, Copy)]
+pub(crate) struct Asker<'a> {
+    pub board: &'a Board,
+    pub workspaces: &'a [Mutex<Workspace>],
+    pub lent: &'a Lent<'a>,
+    pub left: Option<Note>,
+    pub ghost asked: { board.now.base ≡ terms_of lent.now.crowd.now lent.now.round.now } by { Prim.hlevel (codes, terms.the_row.coded) },
+    pub ghost noted: { IfSome left (IsNoted (data_of lent.now.crowd.now)) } by { Prim.hlevel props },
+}
+
+impl Answerer<RoundTasks> for Asker<'_> {
+    ghost terms = { λ asker. asker.board.now.base };
+
+    ghost seats = { λ asker. length asker.workspaces.now };
+
+    fn answer<R: Wait>(&mut self, rt: &R, seat: u16, number: u32) -> Bundle {
+        let task = self.board.task_at(number);
+        let mut workspace = self.workspaces[usize::from(seat)].lock(rt);
+        taken_at(&mut workspace, self.lent, task, &mut self.left)
     }
 }
 

@@ -1,7 +1,7 @@
 // Rows of all students, by workers.
 ghost use Rattle.std.specs.Prelude.{◌≡◌, ◌≤◌, ◌<◌, ℕ, IfOk, length, map, slice_index_or};
 ghost use Rattle.std.specs.Arc.{arc_value};
-ghost use Rattle.task_board.specs.{Kept.AreSettled, Seats.AreBack, Seats.HasBegun, Seats.IsFree};
+ghost use Rattle.task_board.specs.{Kept.AreSettled, Seats.HasBegun};
 ghost use Rattle.fairness_audit.specs.Allocations.{IsAllocation, allocation_of, student_count};
 ghost use Rattle.fairness_audit.specs.{Asked.audit_rules, Rows.row, Rows.rows, Texts.AreRowsAmong};
 ghost use Rattle.fairness_audit.specs.Views.{row_of};
@@ -9,7 +9,6 @@ ghost use Rattle.fairness_audit.specs.Views.{row_of};
 use crate::allocation::Allocated;
 use crate::row::EnvyRow;
 use crate::tasks::AuditTasks;
-use crate::worker::work;
 use bundle_rules::Bundle;
 use demand_api::Crowd;
 use market_edge::Gate;
@@ -17,8 +16,7 @@ use market_units::{MAX_STUDENTS, MAX_WORKERS, NoMemory};
 use std::alloc::Global;
 use std::sync::{Arc, Wait};
 use std::thread::Threads;
-use task_board::{Answers, Board, BoardSeat};
-use worker_threads::for_each_mut;
+use task_board::{Answers, Board, BoardSeat, work_all};
 
 /// Whom each student of a crowd envies, where the students have these bundles: one for each, in
 /// file order, which it may take. The rows are in file order, found by 1 to 16 workers in threads
@@ -51,7 +49,7 @@ pub fn audit<R: Threads + Wait + Sync, G: Gate + Sync>(
         crowd: &crowd,
         bundles: &bundles,
     };
-    work_and_write(rt, board, seats, &allocated, &mut found, gate);
+    work_and_write(rt, board, seats, allocated, &mut found, gate);
     Ok(found)
 }
 
@@ -61,12 +59,12 @@ fn work_and_write<R: Threads + Wait + Sync, G: Gate + Sync>(
     rt: &R,
     board: Board<AuditTasks>,
     mut seats: Vec<BoardSeat<AuditTasks>>,
-    allocated: &Allocated,
+    mut allocated: Allocated,
     rows: &mut [EnvyRow],
     gate: &G,
 )
     requires board { board.base.allocation
-        ≡ allocation_of allocated.now.crowd.now allocated.now.bundles.now }
+        ≡ allocation_of allocated.crowd.now allocated.bundles.now }
     requires begun { HasBegun audit_rules board seats.items (length seats.items) }
     requires enough { (1 ≤ length seats.items) × (length seats.items ≤ MAX_WORKERS) }
     requires rows { length rows.old ≡ student_count board.base.allocation }
@@ -75,37 +73,9 @@ fn work_and_write<R: Threads + Wait + Sync, G: Gate + Sync>(
     ensures each { (i : ℕ) (d : EnvyRow) → i < length rows.new
         → row_of (slice_index_or rows.new i d) ≡ row board.base.allocation i }
 {
-    work_all(rt, &board, seats.as_mut_slice(), allocated, gate);
+    work_all(rt, &board, seats.as_mut_slice(), &mut allocated, gate);
     let answers = board.close(seats);
     write_rows(&answers, rows);
-}
-
-// Each worker works at its seat, in a thread of its own where one can be started.
-fn work_all<R: Threads + Wait + Sync, G: Gate + Sync>(
-    rt: &R,
-    board: &Board<AuditTasks>,
-    seats: &mut [BoardSeat<AuditTasks>],
-    allocated: &Allocated,
-    gate: &G,
-)
-    requires board { board.now.base.allocation
-        ≡ allocation_of allocated.now.crowd.now allocated.now.bundles.now }
-    requires begun { HasBegun audit_rules board.now seats.old (length seats.old) }
-    requires enough { (1 ≤ length seats.old) × (length seats.old ≤ MAX_WORKERS) }
-    ensures count { length seats.new ≡ length seats.old }
-    ensures back { AreBack audit_rules board.now seats.new }
-{
-    let threads = seats.len();
-    for_each_mut(
-        rt,
-        seats,
-        threads,
-        &|n, seat|
-            requires { (seat.now.number < MAX_WORKERS) × IsFree audit_rules board.now seat.now
-                × (board.now.base.allocation
-                ≡ allocation_of allocated.now.crowd.now allocated.now.bundles.now) }
-        { work(rt, board, seat, allocated, gate) },
-    );
 }
 
 // Writes the rows of all students, each of which is posted.

@@ -5,6 +5,7 @@
 #![tactic(auto)]
 
 mod allocation;
+mod answering;
 mod auditing;
 mod counting;
 mod counts;
@@ -17,7 +18,6 @@ mod tasks;
 mod terms;
 mod text;
 mod weights;
-mod worker;
 
 pub use allocation::is_allocation;
 pub use auditing::audit;

@@ -12,6 +12,7 @@ mod mark;
 mod shared;
 mod state;
 mod tasks;
+mod worker;
 
 pub use answers::Answers;
 pub use board::{Board, BoardSeat};
@@ -20,3 +21,4 @@ pub use data::{AnswersData, Progress, StateData};
 pub use mark::Mark;
 pub use state::BoardState;
 pub use tasks::Tasks;
+pub use worker::{Answerer, work_all};
