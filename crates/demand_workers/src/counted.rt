@@ -52,6 +52,30 @@ impl PooledDemands<AnyGate<'_>> {
               list = None;
             }) }
     {
+        let answers = self.closed_board(rt, alloc, prices, ask)?;
+        self.inquiries.add(&answers);
+        Ok(answers)
+    }
+
+    // The same, whose students are not counted yet.
+    fn closed_board<R: Threads + Wait + Sync>(
+        &self,
+        rt: &R,
+        alloc: Global,
+        prices: &[Tokens],
+        ask: Ask,
+    ) -> Result<Answers, NoMemory>
+        requires prices { ArePricesFor (data_of (arc_value self.now.crowd)) prices.now }
+        requires section { IsAskOf (arc_value self.now.crowd).sections ask }
+        ensures { IfOk result
+            (λ answers. answers.terms
+            ≡ record {
+              crowd = data_of (arc_value self.now.crowd);
+              versions = prices.now ∷ [];
+              asks = ask ∷ [];
+              list = None;
+            }) }
+    {
         let version = prices.to_vec(alloc)?;
         let mut versions = Vec::with_capacity(alloc, 1)?;
         versions.push(version)?;
@@ -84,8 +108,6 @@ impl PooledDemands<AnyGate<'_>> {
             &lent,
             self.gate,
         );
-        let students = self.crowd.menus.len();
-        self.inquiries = self.inquiries.saturating_add(students as u64);
         Ok(answers)
     }
 
@@ -104,8 +126,8 @@ impl PooledDemands<AnyGate<'_>> {
             self.new.inquiries) }
         ensures found { IfOk result (λ found. found.inquiries ≡ inquiries) }
     {
-        let found = ask(rt, alloc, &self.pool, self.gate, inquiries)?;
-        self.inquiries = self.inquiries.saturating_add(found.bundles.len() as u64);
+        let (found, answers) = ask(rt, alloc, &self.pool, self.gate, inquiries)?;
+        self.inquiries.add(&answers);
         Ok(found)
     }
 

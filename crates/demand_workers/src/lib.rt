@@ -18,6 +18,7 @@ mod leaving;
 mod note;
 mod notes;
 mod pool;
+mod pooled;
 mod pooled_demands;
 mod question;
 mod remembered;
@@ -30,4 +31,4 @@ mod walks;
 mod worker;
 
 pub use pool::Pool;
-pub use pooled_demands::PooledDemands;
+pub use pooled::PooledDemands;

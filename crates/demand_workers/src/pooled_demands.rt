@@ -1,5 +1,5 @@
-// Demands of a crowd that workers find.
-ghost use Rattle.std.specs.Prelude.{◌≡◌, ◌≤◌, ◌+◌, ◌*◌, [], IfOk, IfSome, length};
+// How the demands of a crowd are found: from what is remembered, or by rounds of workers.
+ghost use Rattle.std.specs.Prelude.{◌≡◌, ◌≤◌, ◌+◌, ◌*◌, [], IfOk, length};
 ghost use Rattle.std.specs.Arc.{arc_value};
 ghost use Rattle.demand_api.specs.Asking.{ArePricesFor, RoseAtMost};
 ghost use Rattle.demand_api.specs.Views.{data_of};
@@ -7,11 +7,8 @@ ghost use Rattle.demand_workers.specs.{Foreseen.AreNext, Rounds.AreVersionsFor};
 ghost use Rattle.demand_workers.specs.Rounds.{prices_of};
 ghost use Rattle.demand_workers.specs.Remembered.{AreTaken};
 ghost use Rattle.demand_workers.specs.Views.{crowd_of};
-ghost use Rattle.std.proofs.Props.{props};
-ghost use Rattle.std.specs.Coded.{codes};
-ghost use Rattle.bundle_rules.specs.contracts.menu.Rated as rated;
 
-use crate::Pool;
+use crate::PooledDemands;
 use crate::allowance::walks_for;
 use crate::answering::read_all;
 use crate::foreseen::Foreseen;
@@ -24,7 +21,7 @@ use crate::unsettled::inquiries_at;
 use bundle_rules::Bundle;
 use demand_api::{Crowd, Demands};
 use demand_oracle::MOST_KEPT;
-use market_edge::{AnyGate, Gate};
+use market_edge::AnyGate;
 use market_units::{
     MAX_STUDENTS, MAX_VERSIONS, NoMemory, SectionNo, SectionSet, StudentNo, Tokens,
 };
@@ -37,59 +34,7 @@ use std::thread::Threads;
 // can ask. The list of those that would have to be asked is made before, however long it is.
 const MOST_AHEAD: usize = 2 * MAX_VERSIONS * MAX_STUDENTS as usize;
 
-/// A crowd that is asked by the workers of a pool, each with a workspace of its own. What each
-/// student takes at some prices is remembered. Whom that does not settle at the versions of a call,
-/// or at all that several workers are told of before, is asked in one round: a list of students,
-/// each at a version, which workers draw from a price board, each in a thread of its own where one
-/// can be started, or the first worker alone, in the caller's thread, where the list is short. Where
-/// nothing is remembered, and in `exceeds`, each student is a task of such a board. Workers pass the
-/// gate before their first draw and after each post. On a walk to a least price the holder who
-/// leaves next is asked, alone. What is found is noted, and serves wherever no section of the
-/// student's menu costs less and a noted bundle is affordable. Where a call asked as many as it may,
-/// the rest of a walk is found by halving. The one form of this type is `PooledDemands<AnyGate>`,
-/// which `make` gives.
-#[derive(Drop)]
-pub struct PooledDemands<G> {
-    pub(crate) crowd: Arc<Crowd>,
-    pub(crate) pool: Pool,
-    pub(crate) gate: G,
-    asked: u64,
-    // At least how many students were asked: each task of a round.
-    pub(crate) inquiries: u64,
-    pub(crate) remembered: Option<Arc<Remembered>>,
-    notes: Option<Notes>,
-    // The last survey that counts were asked of, or will be where they were foreseen.
-    foreseen: Option<Foreseen>,
-    ghost same: { IfSome remembered (λ memory. crowd_of (arc_value memory) ≡ data_of (arc_value crowd)) } by { Prim.hlevel (props, codes, rated.the_row.coded) },
-    ghost surveyed: { IfSome foreseen (λ foreseen. crowd_of (arc_value foreseen.survey.found.inquiries.remembered) ≡ data_of (arc_value crowd)) } by { Prim.hlevel (props, codes, rated.the_row.coded) },
-    ghost noted: { IfSome notes (λ noted. crowd_of (arc_value noted.remembered) ≡ data_of (arc_value crowd)) } by { Prim.hlevel (props, codes, rated.the_row.coded) },
-}
-
-impl<'g> PooledDemands<AnyGate<'g>> {
-    /// The demands of this crowd, of which nothing was asked, for the workers of a pool. It takes
-    /// no memory.
-    pub fn make(
-        pool: Pool,
-        crowd: Arc<Crowd>,
-        gate: &'g (dyn Gate + Sync),
-    ) -> PooledDemands<AnyGate<'g>>
-        ensures crowd { ⟦<PooledDemands<AnyGate<'g>> as Demands>⟧.crowd result
-            ≡ data_of (arc_value crowd) }
-        ensures asked { ⟦<PooledDemands<AnyGate<'g>> as Demands>⟧.asked result ≡ 0 }
-        ensures inquiries { ⟦<PooledDemands<AnyGate<'g>> as Demands>⟧.inquiries result ≡ 0 }
-    {
-        PooledDemands {
-            crowd,
-            pool,
-            gate,
-            asked: 0,
-            inquiries: 0,
-            remembered: None,
-            notes: None,
-            foreseen: None,
-        }
-    }
-
+impl PooledDemands<AnyGate<'_>> {
     // What each student takes at these prices, as it will be remembered.
     fn memory_at<R: Threads + Wait + Sync>(
         &mut self,

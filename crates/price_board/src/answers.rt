@@ -4,7 +4,7 @@ use bundle_rules::Bundle;
 use chronicle::Journal;
 use market_units::StudentNo;
 use std::marker::Model;
-use task_board::{Answers as TaskAnswers, BoardState};
+use task_board::{Answers as TaskAnswers, BoardState, Tasks};
 
 /// The answers of a round whose versions are all settled, with the history that they are read from.
 #[derive(Drop)]
@@ -85,6 +85,13 @@ impl Answers {
             return None;
         }
         tasks.exceeds(usize::from(version))
+    }
+
+    /// How many tasks the round had.
+    pub fn count(&self) -> u32
+        ensures { result ≡ task_count self.now.terms }
+    {
+        self.answers.tasks().count()
     }
 
     /// The history of all calls on the board.

@@ -3,7 +3,7 @@ ghost use Rattle.std.specs.Prelude.{◌≡◌, ◌≤◌, ◌<◌, ◌^◌, IfOk
 ghost use Rattle.bundle_rules.specs.Bundles.{sections_of};
 ghost use Rattle.price_board.specs.Asked.{task_at};
 ghost use Rattle.price_board.specs.Terms.{demand_at, task_count};
-ghost use Rattle.demand_workers.specs.Found.{AreRead};
+ghost use Rattle.demand_workers.specs.Found.{AreRead, tasks_of};
 
 use super::round::work_and_close;
 use crate::found::Found;
@@ -23,16 +23,18 @@ use std::thread::Threads;
 const WORTHWHILE: usize = 3;
 
 /// What the students of these inquiries take, found by as many workers of a pool as the inquiries
-/// are worth, or by its first alone, in the caller's thread, where they are few. All memory is taken
-/// before the first worker starts, and the only error is that it was not given.
+/// are worth, or by its first alone, in the caller's thread, where they are few; and the closed board
+/// that it was read of, which is not counted yet. All memory is taken before the first worker starts,
+/// and the only error is that it was not given.
 pub(super) fn ask<R: Threads + Wait + Sync>(
     rt: &R,
     alloc: Global,
     pool: &Pool,
     gate: &(dyn Gate + Sync),
     inquiries: Inquiries,
-) -> Result<Found, NoMemory>
-    ensures { IfOk result (λ found. found.inquiries ≡ inquiries) }
+) -> Result<(Found, Answers), NoMemory>
+    ensures found { IfOk result (λ asked. asked.0.inquiries ≡ inquiries) }
+    ensures tasks { IfOk result (λ asked. task_count asked.1.terms ≡ length (tasks_of inquiries)) }
 {
     let remembered: &Remembered = &inquiries.remembered;
     let asked = inquiries.list().len();
@@ -50,11 +52,12 @@ pub(super) fn ask<R: Threads + Wait + Sync>(
     };
     let (answers, note) = work_and_close(rt, board, seats, pool.workspaces(), &lent, gate);
     read_list(&answers, &mut bundles);
-    Ok(Found {
+    let found = Found {
         inquiries,
         bundles,
         note,
-    })
+    };
+    Ok((found, answers))
 }
 
 // How many workers are started: one for each three inquiries, but one at least, and all where there

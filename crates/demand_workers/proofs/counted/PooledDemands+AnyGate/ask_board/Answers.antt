@@ -1,55 +1,18 @@
-use Rattle.std.proofs.Common.{ℕ, ◌≡◌, ◌+◌, ◌-◌, ◌^◌, ◌∙◌, ◌++◌, [], ◌∷◌, List, Vec, Global, length, map, min, None, ap, sym, subst, arith}
+use Rattle.std.proofs.Common.{ℕ, ◌≡◌, ◌+◌, ◌-◌, ◌^◌, ◌∙◌, length, min, ap, subst, arith}
 use Rattle.std.specs.Arc.{arc_value}
-use Rattle.market_units.specs.declared.units.Tokens.{Tokens}
-use Rattle.demand_api.specs.declared.crowd.Crowd.{Crowd}
-use Rattle.demand_api.specs.Views.{data_of}
 use Rattle.demand_api.proofs.Halving.{rose_by}
-use Rattle.demand_api.proofs.Parts.{students_length}
-use Rattle.price_board.specs.declared.round.Ask.{Ask}
-use Rattle.price_board.specs.declared.round.Round.{Round}
-use Rattle.price_board.specs.Openings.{IsRound, terms_of}
-use Rattle.demand_workers.proofs.Rounds.{one_is_round}
+use Rattle.demand_api.specs.Views.{data_of}
+use Rattle.price_board.specs.Terms.{task_count}
 use Rattle.demand_workers.proofs.counted.PooledDemands+AnyGate.ask_board.Goals as goal
-
-pub start-requires-clause-round : goal.start-requires-clause-round
-start-requires-clause-round g c =
-    let crowd = arc_value c.args.self.now.crowd in
-    let version_is : c.in_ok-version.version.items ≡ c.args.prices.now = c.in_ok-version.ensures.items_if_clones_equal (λ x y is. is) in
-    let listed : map (λ (w : Vec Tokens Global). w.items) c.push.new.self.items ≡ c.args.prices.now ∷ [] =
-    ap (map (λ (w : Vec Tokens Global). w.items))
-    (c.in_ok-push.ensures.items ∙ ap (λ (l : List (Vec Tokens Global)). l ++ c.in_ok-version.version ∷ []) c.in_ok-versions.ensures.items)
-    ∙ ap (λ (p : List Tokens). p ∷ []) version_is in
-    let asked : c.in_ok-asks.asks.items ≡ c.args.ask ∷ [] = c.in_ok-asks.ensures.items_if_clones_equal (λ y is. is) in
-    let versions = map (λ (v : Vec Tokens Global). v.items) c.push.new.self.items in
-    let made : Round = record { versions = c.push.new.self; asks = c.in_ok-asks.asks; list = None } in
-    let is : arc_value c.in_ok-shared.shared ≡ made = c.in_ok-shared.ensures ∙ c.in_ok-round.ensures.ok in
-    subst (λ (r : Round). IsRound (terms_of (arc_value c.in_ok-crowd.crowd) r)) (sym is)
-    (subst (λ (w : Crowd). IsRound (record { crowd = data_of w; versions = versions; asks = c.in_ok-asks.asks.items; list = None })) (sym c.in_ok-crowd.ensures)
-    (subst (λ (l : List (List Tokens)). IsRound (record { crowd = data_of crowd; versions = l; asks = c.in_ok-asks.asks.items; list = None })) (sym listed)
-    (subst (λ (a : List Ask). IsRound (record { crowd = data_of crowd; versions = c.args.prices.now ∷ []; asks = a; list = None })) (sym asked)
-    (one_is_round crowd c.args.prices.now c.args.ask c.requires.prices c.requires.section))))
-
-pub invariant_of-self-2 : goal.invariant_of-self-2
-invariant_of-self-2 g c = record { same = c.args.self.now.same; surveyed = c.args.self.now.surveyed; noted = c.args.self.now.noted }
-
-pub invariant_of-self-in-Break-branch-7 : goal.invariant_of-self-in-Break-branch-7
-invariant_of-self-in-Break-branch-7 g c = record { same = c.args.self.now.same; surveyed = c.args.self.now.surveyed; noted = c.args.self.now.noted }
-
-pub invariant_of-self-in-Break-branch-8 : goal.invariant_of-self-in-Break-branch-8
-invariant_of-self-in-Break-branch-8 g c = record { same = c.args.self.now.same; surveyed = c.args.self.now.surveyed; noted = c.args.self.now.noted }
-
--- each student of the crowd is counted
-students_are : (crowd lent : Crowd) (n : ℕ) → n ≡ lent.menus.len → lent ≡ crowd → n ≡ length (data_of crowd).students
-students_are crowd lent n is same = is ∙ ap (λ (w : Crowd). w.menus.len) same ∙ crowd.menus.ok.0 ∙ sym (students_length crowd)
 
 pub returns-clause-inquiries : goal.returns-clause-inquiries
 returns-clause-inquiries g c =
-    let crowd = arc_value c.args.self.now.crowd in
-    let all = students_are crowd c.deref-5.result.now c.len-students.result c.len-students.ensures c.deref-5.ensures in
-    rose_by (length (data_of crowd).students) c.len-students.result c.args.self.now.inquiries c.saturating_add-self.result c.saturating_add-self.ensures
-    (omega (arith, all))
+    let all = ap task_count c.in_ok-answers.ensures in
+    rose_by (length (data_of (arc_value c.args.self.now.crowd)).students) (task_count c.in_ok-answers.answers.terms) c.args.self.now.inquiries
+    c.add.new.self c.add.ensures (omega (arith, all))
 
 pub returns-clause-counted : goal.returns-clause-counted
 returns-clause-counted g c =
-    let all = students_are (arc_value c.args.self.now.crowd) c.deref-5.result.now c.len-students.result c.len-students.ensures c.deref-5.ensures in
-    subst (λ (n : ℕ). c.saturating_add-self.result ≡ min (c.args.self.now.inquiries + n) (2 ^ 64 - 1)) all c.saturating_add-self.ensures
+    let n : ℕ = length (data_of (arc_value c.args.self.now.crowd)).students in
+    let all : task_count c.in_ok-answers.answers.terms ≡ n = ap task_count c.in_ok-answers.ensures ∙ omega arith in
+    subst (λ (k : ℕ). c.add.new.self ≡ min (c.args.self.now.inquiries + k) (2 ^ 64 - 1)) all c.add.ensures
