@@ -75,6 +75,16 @@ export function savedAs(bytes) {
 }
 
 /**
+ * Whether a line has two words, the one behind the other, in capital letters or small ones. (A pattern would look anew
+ * for the second behind each of the first, which takes seconds where a line of 64 KiB has nothing else.)
+ * @param {string} line @param {string} one @param {string} other
+ */
+function hasInTurn(line, one, other) {
+  const small = line.toLowerCase(), at = small.indexOf(one);
+  return at >= 0 && small.includes(other, at + one.length);
+}
+
+/**
  * The kind of a file, by its first lines, and where these tell nothing by its name.
  * @param {string} name @param {Uint8Array} bytes
  * @returns {Kind}
@@ -85,10 +95,10 @@ export function kindOf(name, bytes) {
   if (head.startsWith('course-match ')) return 'text';
   if (OWN_LINES.test(first)) return 'own';
   if (/^\s*\{/.test(head)) return entriesIn(bytes) ? 'manifest' : 'settings';
-  if (/section.*course/i.test(first)) return 'catalogue';
-  if (/student.*budget/i.test(first)) return 'roll';
+  if (hasInTurn(first, 'section', 'course')) return 'catalogue';
+  if (hasInTurn(first, 'student', 'budget')) return 'roll';
   if (/^kind,original,name\b/.test(first)) return 'names';
-  if (/^section.*price/i.test(first) || OF_TOOLS.test(first)) return 'other';
+  if (/^section/i.test(first) && hasInTurn(first, 'section', 'price') || OF_TOOLS.test(first)) return 'other';
   const word = /^[ \t]*([a-z]+)[ \t\r\n]/m.exec(head.replace(/^[ \t]*#.*$/gm, ''))?.[1];
   if (OF_SESSIONS.includes(word)) return 'session';
   if (OF_OTHERS.includes(word)) return 'other';

@@ -41,6 +41,14 @@ test('a file is known by its first lines, and then by its name', () => {
   assert.equal(kindOf('roll.csv', new Uint8Array([0x50, 0x4b, 3, 4])), 'unknown');
 });
 
+test('a file is known at once, also one whose first line has a word of a header again and again', () => {
+  const begun = performance.now();
+  for (const it of ['section', 'student', 'SECTION']) assert.equal(kindOf('a', encoded(it.repeat(9000))), 'unknown');
+  assert.equal(kindOf('a', encoded(`${'section'.repeat(9000)},course`)), 'catalogue');
+  assert.equal(kindOf('a', encoded('Section,Price\n')), 'other');
+  assert.ok(performance.now() - begun < 2000);
+});
+
 test('of a market there is one file of each kind, and a manifest goes before what the files tell', async () => {
   const given = (name, kind, text = name) => ({ name, kind, bytes: encoded(text) });
   const all = [given('c.csv', 'catalogue'), given('r.csv', 'roll'), given('s.json', 'settings'), given('t', 'text')];
