@@ -1,6 +1,7 @@
 // Reads the catalogue and the roll, to show what stands in them. Whether they are in order the program says.
 
 import { decoded } from './bytes.js';
+import { visible } from './wording.js';
 
 /**
  * The records of a text of comma-separated fields, as the program reads them (FORMATS, "The catalogue"), one after the
@@ -99,10 +100,10 @@ export function firstRecords(text, most) {
   return found;
 }
 
-/** @type {Record<string, string>} */
-const DAYS = { M: 'Mon', T: 'Tue', W: 'Wed', R: 'Thu', F: 'Fri', S: 'Sat', U: 'Sun' };
-/** @type {Record<string, string>} */
-const HALVES = { 1: ', first half', 2: ', second half' };
+const DAYS = new Map([
+  ['M', 'Mon'], ['T', 'Tue'], ['W', 'Wed'], ['R', 'Thu'], ['F', 'Fri'], ['S', 'Sat'], ['U', 'Sun'],
+]);
+const HALVES = new Map([['1', ', first half'], ['2', ', second half']]);
 
 /** @param {string} it four digits */
 export const clock = it => `${it.slice(0, 2)}:${it.slice(2)}`;
@@ -113,17 +114,18 @@ function meetingsOf(text) {
 }
 
 /**
- * `Tue Thu 10:30-12:00`, with the half of the term where it is not the whole.
+ * `Tue Thu 10:30-12:00`, with the half of the term where it is not the whole; also of a catalogue that the program did
+ * not see yet.
  * @param {Section} section
  */
 export function meetingWords(section) {
   const times = new Map();
   for (const it of section.meetings) {
     const time = `${clock(it.from)}-${clock(it.to)}`;
-    times.set(time, [...times.get(time) ?? [], DAYS[it.day] ?? it.day]);
+    times.set(time, [...times.get(time) ?? [], DAYS.get(it.day) ?? it.day]);
   }
   const words = [...times].map(([time, days]) => `${days.join(' ')} ${time}`).join(', ') || 'no meetings';
-  return words + (HALVES[section.parts] ?? '');
+  return visible(words) + (HALVES.get(section.parts) ?? '');
 }
 
 /**

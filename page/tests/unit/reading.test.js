@@ -26,6 +26,13 @@ test('tables are read by their columns', () => {
     [{ at: 0, name: 'ann', base: 100, credits: 5, courses: 4, carry: 0 }]);
 });
 
+test('of a catalogue that the program did not see no word is taken for another, and no sign stays hidden', () => {
+  const words = (/** @type {string} */ meetings, /** @type {string} */ parts) =>
+    meetingWords(catalogueOf(`section,course,seats,credits,meetings,parts\nA,B,3,2,${meetings},${parts}\n`)[0]);
+  for (const it of ['constructor', '__proto__', 'toString']) assert.equal(words('', it), 'no meetings');
+  assert.equal(words('\u202eT1030-1200', '2'), '‹right-to-left override› T1:03--1:20, second half');
+});
+
 test('a file is known by its first lines, and then by its name', () => {
   for (const [name, first, kind] of [
     ['students.csv', '\ufeffstudent,sections,credits,spent,left', 'other'],
