@@ -68,11 +68,14 @@ export function visible(text) {
   return RIGHT_TO_LEFT.test(written) ? `\u2068${written}\u2069` : written;
 }
 
-/** @param {string} it */
-const shortened = it => it.length > 80 ? it.slice(0, 77) + '..' : it;
-
 /**
- * What stands in a file, in quotes, and shortened where it is long.
+ * What stands in a file, as it can be shown in a sentence, and shortened where it is long.
  * @param {string} it
  */
-export const quoted = it => `“${visible(shortened(it))}”`;
+export const brief = it => visible(it.length > 80 ? it.slice(0, 77) + '..' : it);
+
+/**
+ * The same in quotes.
+ * @param {string} it
+ */
+export const quoted = it => `“${brief(it)}”`;

@@ -7,7 +7,7 @@ import { savedAs } from './files.js';
 import { jsonPlace, settingsWords } from './settings.js';
 import { catalogueIn, recordAt, rollIn } from './tables.js';
 import { linesOf, turnCount } from './texts.js';
-import { plural, quoted, shortList, visible } from './wording.js';
+import { brief, grouped, plural, quoted, shortList, visible } from './wording.js';
 import { WISH_LINE, orderOf, sessionsWords, silentAmong } from './wishes.js';
 
 /**
@@ -191,13 +191,20 @@ function formWords(finding, parts) {
   ];
   const [word, from, table] = named.find(([, first, all]) => number >= first && number < first + all.length) ?? [];
   const due = word && `${word} ${table[number - from].name} `;
-  const [, bundle = ''] = /\[([^\]]*)\]/.exec(text) ?? [];
-  const strange = bundle.split(',').filter(it => it && !catalogue.some(that => that.name === it));
+  const known = new Set(catalogue.map(it => it.name)), bundle = text.slice(text.indexOf('[') + 1 || text.length);
+  const names = bundle.slice(0, LONGEST_BUNDLE).split(']', 1)[0].split(',');
+  const strange = names.slice(0, 20).filter(it => it && !known.has(it));
   return [
     due && !text.startsWith(due) ? `The line that is due there begins with “${due.trim()}”.` : '',
-    strange.length ? `${parts.catalogue.name} has no section ${shortList(strange.slice(0, 20).map(visible))}.` : '',
+    strange.length ? `${parts.catalogue.name} has no section ${shortList(strange.map(brief))}.` : '',
   ];
 }
+
+/** How much of what is to be a bundle is looked at: one of eight sections is shorter. */
+const LONGEST_BUNDLE = 2000;
+
+/** Of how many names of a text's lines it is told how they differ from a table's: no market has so many. */
+const MOST_NAMED = 4000;
 
 /**
  * How the names of a text's lines differ from those of a table, in words; nothing where they do not.
@@ -205,12 +212,16 @@ function formWords(finding, parts) {
  */
 function strangersIn(text, word, table, one, name) {
   const found = text.matchAll(new RegExp(`^${word} ([^ \\r\\n]*)`, 'gm')), named = new Set();
-  for (const it of found) named.add(it[1]);
+  for (const it of found) {
+    if (named.size === MOST_NAMED) break;
+    named.add(it[1]);
+  }
+  const all = named.size === MOST_NAMED ? `first ${plural(MOST_NAMED, one)}` : plural(named.size, one);
   const known = new Set(table.map(it => it.name));
   const strange = [...named].filter(it => !known.has(it)), lacking = [...known].filter(it => !named.has(it));
   return [
-    strange.length ? `Of the ${plural(named.size, one)} of the text ${name} lacks ${strange.length} `
-      + `(${shortList(strange.slice(0, 20).map(visible))}).` : '',
+    strange.length ? `Of the ${all} of the text ${name} lacks ${grouped(strange.length)} `
+      + `(${shortList(strange.map(brief))}).` : '',
     lacking.length && named.size
       ? `Of the ${plural(known.size, one)} of ${name} the text has no ${word} for ${lacking.length} `
         + `(${shortList(lacking)}).`

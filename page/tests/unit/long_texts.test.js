@@ -91,3 +91,23 @@ test('a finding is shown in its line', () => {
   assert.equal(excerpt.before, 'budget \\0bob 100');
   assert.match(causes.join(' '), /begins with “budget ann”.*lacks 1 \(\\0bob\)/);
 });
+
+test('what is said of a refused text is said at once, and is short, whatever stands in the text', () => {
+  const parts = {
+    catalogue: given('c', 'catalogue', 'section,course,seats,credits,meetings\nX,X,1,1,\n'),
+    roll: given('r', 'roll', 'student,budget,credits,courses\nann,100,5,5\n'), sessions: [],
+  };
+  const answer = { status: 8, text: 'finding: line 3 form\n' }, call = { inputs: [] };
+  const names = Array.from({ length: 5000 }, (_, at) => `budget a${at}`).join('\n');
+  for (const [line, words] of [
+    ['['.repeat(2 ** 19), /begins with “budget ann”/], [`budget ${'n'.repeat(2 ** 22)}`, /lacks 1 \(n{77}\.\.\)/],
+    [`budget ann [${'ab,'.repeat(2 ** 20)}]`, /c has no section ab, ab/],
+    [names, /Of the first 4,000 students of the text r lacks 4,000 \(a0, a1, .* a11 and 3988 more\)/],
+  ]) {
+    const text = given('t', 'text', `course-match 1\norder 1\n${line}`), begun = performance.now();
+    const { causes } = refusalOf({ answer, call, parts: { ...parts, text } });
+    assert.ok(performance.now() - begun < 5000, line.slice(0, 20));
+    assert.match(causes.join(' '), words);
+    assert.ok(causes.join(' ').length < 1000, line.slice(0, 20));
+  }
+});
