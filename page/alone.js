@@ -136,13 +136,21 @@ function filled(students, each) {
 }
 
 /**
+ * The greatest number of a session in an order, 0 where there is none. An order as it stands in a text may have
+ * anything between its blanks: what no session has for its number is passed over.
+ * @param {number[]} order
+ */
+export const lastIn = order =>
+  order.reduce((most, it) => Number.isInteger(it) && it > most ? Math.min(it, LAST_SESSION) : most, 0);
+
+/**
  * Sessions of as many commands as an order takes of each, none of which is readable. With these `check` judges of a
  * text what stands before the bundles: its form, and everybody's budget.
  * @param {number[]} order
  * @returns {GivenFile[]}
  */
 export function blankSessions(order) {
-  const counts = new Array(Math.min(LAST_SESSION, Math.max(1, ...new Set(order)))).fill(0);
+  const counts = new Array(Math.max(1, lastIn(order))).fill(0);
   for (const it of order) if (it >= 1 && it <= counts.length) counts[it - 1]++;
   return counts.map((count, at) =>
     fileOf('session', `session ${at + 1}, without what it says`, encoded('x\n'.repeat(count))));

@@ -1,7 +1,7 @@
 // What the students said. The desk itself is the program's: what all have said, in the text's order, is put into one
 // session, and `prefer` tells how it ends.
 
-import { namedIn } from './alone.js';
+import { lastIn, namedIn } from './alone.js';
 import { decoded, encoded, isSame } from './bytes.js';
 import { LINE_FEED, commandCount, commandsIn, eachCommand, hasMark } from './lines.js';
 import { plural, shortList, visible } from './wording.js';
@@ -101,8 +101,7 @@ function strayAmong(sessions, order) {
  * @returns {string[]}
  */
 export function sessionsWords(sessions, order) {
-  const counts = countsIn(order), many = Math.max(0, ...counts.keys());
-  const wanted = Array.from({ length: many }, (_, at) => counts.get(at + 1) ?? 0);
+  const counts = countsIn(order), wanted = Array.from({ length: lastIn(order) }, (_, at) => counts.get(at + 1) ?? 0);
   const here = sessions.map(it => ({ name: it.name, size: commandCount(it.bytes) }));
   const left = [...here], lacking = [];
   for (const size of wanted) {

@@ -393,6 +393,11 @@ class Own(unittest.TestCase):
                 "This text does not hold",
                 "This is line 2 of published.txt",
             ),
+            (
+                {"published.txt": text.replace(b"order 2", b"order x,2", 1)},
+                "This text does not hold",
+                "This is line 2 of published.txt",
+            ),
             ({"settings.json": b"[]"}, "A file is refused", "settings.json: It is JSON, but no object"),
         )
         for changed, title, words in cases:

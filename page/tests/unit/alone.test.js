@@ -3,6 +3,7 @@ import { test } from 'node:test';
 
 import { blankSessions, commandLines, namedIn, pricesWithin, roomOf, saidByAll, saidIn } from '../../alone.js';
 import { firstWords } from '../../lines.js';
+import { sessionsWords } from '../../wishes.js';
 
 const bytes = (/** @type {string} */ it) => new TextEncoder().encode(it);
 const text = (/** @type {Uint8Array} */ it) => new TextDecoder().decode(it);
@@ -48,6 +49,15 @@ test('blank sessions have as many commands as the order takes', () => {
   assert.deepEqual(blankSessions([3, 1, 3]).map(it => text(it.bytes)), ['x\n', '', 'x\nx\n']);
   assert.deepEqual(blankSessions([]).map(it => text(it.bytes)), ['']);
   assert.equal(blankSessions([64, 1]).length, 64);
+});
+
+test('an order that is none has sessions too, so that the program can say what is wrong with it', () => {
+  const distinct = Array.from({ length: 150000 }, (_, at) => 100000 + at);
+  for (const it of [[1, NaN], [NaN], [1.5, -3, 0], distinct]) assert.ok([1, 64].includes(blankSessions(it).length));
+  const given = { name: 'a', kind: 'session', bytes: bytes('rate ann A 1\n') };
+  for (const it of [[NaN, 1, 1], [...distinct, 1, 1], [1, 1, 9e15]]) {
+    assert.match(sessionsWords([given], it)[0], /^The order of the text takes 2 commands of session 1/);
+  }
 });
 
 test('what is not to be had costs more than the budget', () => {
