@@ -8,7 +8,7 @@ import { findingWithoutRatings } from './seats_and_turns.js';
 import { catalogueIn, rollIn } from './tables.js';
 import { countsOf, publishedOf } from './texts.js';
 import { REPLIES, orderOf, repliesOf, wishedLines } from './wishes.js';
-import { listed, plural, shortList, visible } from './wording.js';
+import { brief, listed, plural, shortList } from './wording.js';
 
 /** The findings that `check` tells before it looks at a bundle: with these a text is refused, whoever said what. */
 const BEFORE_BUNDLES = /^finding: (?:line|journal|budget)/;
@@ -44,7 +44,7 @@ export function ownLines(files, roll) {
       said.set(it, saidIn(bytes, it));
     }
     if (strange.length) {
-      notes.push(`${file} has lines of ${shortList(strange.map(visible))}, whom the roll does not have: they are left `
+      notes.push(`${file} has lines of ${shortList(strange.map(brief))}, whom the roll does not have: they are left `
         + 'out.');
     }
     const [name, is] = others > 1 ? ['name', 'are'] : ['names', 'is'];

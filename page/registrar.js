@@ -11,7 +11,7 @@ import {
   NAMES, RANGES, settingsFile, settingsIn, settingsNotes, settingsText, usual, wrongField,
 } from './settings.js';
 import { REPLIES } from './wishes.js';
-import { listed, plural, quoted, shortList, timed } from './wording.js';
+import { brief, listed, plural, quoted, shortList, timed } from './wording.js';
 import { STOPPED_WORDS } from './words.js';
 import { read, toldOf, work } from './work.js';
 
@@ -255,7 +255,7 @@ function lookPart({ replies, all, silent, unwanted, several }) {
     unwanted.length ? `Nobody wants ${shortList(unwanted)}.` : 'Each section is wanted by somebody.',
     several.length
       ? `${plural(several.length, 'student is', 'students are')} named in more than one session `
-        + `(${shortList(several)}): what `
+        + `(${shortList(several.map(brief))}): what `
         + 'they want at the end may depend on which session is heard first.' : '',
   ].filter(Boolean);
   const table = replies.length ? tableOf('Commands that the desk did not carry out', [

@@ -70,6 +70,18 @@ class Long(unittest.TestCase):
         """Whose words are as long as it."""
         self.assertIn("more.session", self.told({"more.session": b"clear " + b"n" * (15 << 20)}))
 
+    def test_name_that_is_as_long_as_its_line(self) -> None:
+        """Among one student's own lines: it is told, and shortened."""
+        own = b"# What n.jones said, in the order in which the desk took it.\nclear n.jones\nclear " + b"n" * (15 << 20)
+        for it in "desk.session", "web.session":
+            (self.room / it).unlink()
+        with self.tab.tasks() as tasks:
+            self.give({"n.jones.session": own})
+            self.tab.wait("document.querySelector('.note') && !isWorking()")
+        self.assertLess(tasks[-1], self.longest)
+        told = self.tab.evaluate("document.querySelector('.note').textContent")
+        self.assertEqual(f"n.jones.session has lines of {'n' * 77}.., whom the roll does not have: they are left out.", told)
+
     def test_quote_that_is_not_closed(self) -> None:
         """In the catalogue, of which the form shows nothing then, and in the roll."""
         quote = b'"' + b"x,y\n" * (15 << 18)
