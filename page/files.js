@@ -1,7 +1,7 @@
 // Tells files by what stands in them, and puts those of one market together.
 
 import { decoded } from './bytes.js';
-import { listed, shortList, visible } from './wording.js';
+import { brief, listed, plural, shortList, visible } from './wording.js';
 
 /**
  * What a file can be taken for, in words.
@@ -186,11 +186,12 @@ function byManifest(manifest, files) {
     faults.push(`${manifest.name} is taken for a manifest and is none: remove it, or choose in the list what it is.`);
   }
   for (const { role, file, sha256 } of entries ?? []) {
-    const base = visible(baseName(file));
+    const path = baseName(file), base = visible(path);
     const named = files.find(it => it.name === base) ?? files.find(it => baseName(it.name) === base);
     if (!named && role === 'session' && hasOwn) continue;
     if (!named) {
-      faults.push(`${manifest.name} names ${base}, which is not among the files: give it, or remove ${manifest.name}.`);
+      faults.push(`${manifest.name} names ${brief(path)}, which is not among the files: give it, or remove `
+        + `${manifest.name}.`);
       continue;
     }
     const { sum } = named;
@@ -202,8 +203,15 @@ function byManifest(manifest, files) {
     if (role === 'session') found.sessions.push(named);
     else found[/** @type {'text'} */ (role)] = named;
   }
-  return { found, faults };
+  return { found, faults: fewOf(faults) };
 }
+
+/** How many faults of a manifest are told: the list of one may be as long as it likes. */
+const MOST_FAULTS = 12;
+
+/** @param {string[]} faults */
+const fewOf = faults => faults.length <= MOST_FAULTS ? faults
+  : [...faults.slice(0, MOST_FAULTS), `${plural(faults.length - MOST_FAULTS, 'more fault')} of it stand behind these.`];
 
 /**
  * The parts of the market among the files; faults and lacks are in words. What a manifest names, by the sums that the

@@ -69,6 +69,15 @@ test('of a market there is one file of each kind, and a manifest goes before wha
   assert.deepEqual(named.unused.map(it => it.name), ['a.session']);
 });
 
+test('of a manifest of any length a few faults are told, each in brief', () => {
+  const inputs = Array.from({ length: 5000 }, (_, at) => ({ role: 'session', file: `${'x'.repeat(90)}${at}` }));
+  const manifest = { name: 'm.json', kind: 'manifest', bytes: encoded(JSON.stringify({ inputs })) };
+  const { faults } = partsOf([manifest]);
+  assert.equal(faults.length, 13);
+  assert.match(faults[0], /^m\.json names x{77}\.\., which is not among the files/);
+  assert.equal(faults[12], '4,988 more faults of it stand behind these.');
+});
+
 test('the sessions are put into the orders that have as many commands as the text says', () => {
   const given = (name, lines) => ({ name, kind: 'session', bytes: encoded('# none\n' + 'close\n'.repeat(lines)) });
   const sessions = [given('a', 2), given('b', 1), given('c', 1)];
