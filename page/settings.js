@@ -1,7 +1,7 @@
 // The settings of a market: what each is, and what stands in a file of them.
 
 import { decoded, encoded } from './bytes.js';
-import { listed, quoted } from './wording.js';
+import { listed, quoted, shortList } from './wording.js';
 
 /**
  * What each setting may be.
@@ -86,7 +86,7 @@ export function settingsWords(cause, text) {
   if (cause === 'not json') return 'It is not JSON (a comma, a quote or a bracket too many or too few).';
   if (cause === 'not an object') return 'It is JSON, but no object: the settings stand between { and }.';
   if (cause === 'unknown key') {
-    return `It has ${listed(settingsLacks(text).strange.map(quoted))}, which is no setting: the settings are `
+    return `It has ${shortList(settingsLacks(text).strange.map(quoted))}, which is no setting: the settings are `
       + `${listed(NAMES)}. Capital letters count.`;
   }
   if (cause.startsWith('missing')) return `The setting ${key} is missing.`;
@@ -95,18 +95,21 @@ export function settingsWords(cause, text) {
     + 'without point, exponent or sign.';
 }
 
+const JSON_STRING = /"(?:[^"\\]|\\.)*"/g;
+
 /**
  * The settings of a file as they stand in it, so that a seed of 64 bits keeps its digits; of a setting that is written
- * twice the last one counts. A text that is no JSON object has none.
+ * twice the last one counts, also where its name is written with escapes. A text that is no JSON object has none.
  * @param {string} text
  */
 export function settingsIn(text) {
   /** @type {Record<string, string>} */
   const found = {};
   if (!settingsLacks(text).isObject) return found;
+  const plain = text.replace(JSON_STRING, it => JSON.stringify(JSON.parse(it)));
   for (const name of NAMES) {
     const pattern = new RegExp(`"${name}"\\s*:\\s*(\\[[^\\]]*\\]|[^,}\\s]+)`, 'g');
-    const value = [...text.matchAll(pattern)].at(-1)?.[1];
+    const value = [...plain.matchAll(pattern)].at(-1)?.[1];
     if (value !== undefined) found[name] = value.replace(/[[\]]/g, '').trim().replace(/\s+/g, ' ');
   }
   return found;
@@ -121,7 +124,7 @@ export function settingsNotes({ name, bytes }) {
   if (!isObject) return [`${name} is no JSON object, so that the usual settings stand here.`];
   return [
     lacking.length ? `${name} does not say ${listed(lacking)}: what stands here is the usual.` : '',
-    strange.length ? `${name} has ${listed(strange.map(quoted))}, which is no setting and is not taken.` : '',
+    strange.length ? `${name} has ${shortList(strange.map(quoted))}, which is no setting and is not taken.` : '',
   ].filter(Boolean);
 }
 

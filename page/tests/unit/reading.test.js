@@ -102,12 +102,15 @@ test('a student may be named as the program names the sum of all', () => {
 test('settings keep their digits, and are refused where no number stands', () => {
   const values = settingsIn('{"seed": 18446744073709551615, "steps": [3,\n 12], "raise": 3, "raise": 10}');
   assert.deepEqual(values, { seed: '18446744073709551615', steps: '3, 12', raise: '10' });
+  assert.deepEqual(settingsIn('{"raise": 10, "\\u0072aise": 50, "x": "\\"raise\\": 1"}'), { raise: '50' });
   const all = { seed: '1', spread: '0', accept: '0', turns: '0', tabu: '1', patience: '1', steps: '3 12', raise: '0' };
   assert.equal(wrongField(all), undefined);
   assert.equal(wrongField({ ...all, turns: '1,000' }), 'turns');
   assert.equal(wrongField({ ...all, steps: '3; 12' }), 'steps');
   assert.equal(JSON.parse(new TextDecoder().decode(settingsFile(all).bytes)).steps.length, 2);
   assert.match(settingsWords('range of steps', '{}'), /a list of 1 to 16 numbers/);
+  const strange = `{${Array.from({ length: 9000 }, (_, at) => `"k${at}": 1`).join()}}`;
+  assert.match(settingsWords('unknown key', strange), /^It has “k0”, .*“k11” and 8988 more, which is no setting/);
 });
 
 test('findings are told in words', () => {
