@@ -47,15 +47,23 @@ const DIRECTIONS = new Map([
   ['\u202d', 'left-to-right override'], ['\u202e', 'right-to-left override'], ['\u2066', 'left-to-right isolate'],
   ['\u2067', 'right-to-left isolate'], ['\u2068', 'isolate'], ['\u2069', 'end of isolate'],
 ]);
-const HIDDEN = new RegExp(`[\\0-\\x1f\\x7f-\\x9f\\ufeff${[...DIRECTIONS.keys()].join('')}]`, 'g');
-const RIGHT_TO_LEFT = /[\u0590-\u08ff\ufb1d-\ufdff\ufe70-\ufeff]/;
+
+/**
+ * Signs that have no width, or end a line: two names that differ in them alone would look alike. (Joiners are not among
+ * them: names of some languages have these.)
+ */
+const WITHOUT_WIDTH = '\\xad\\u034f\\u115f\\u1160\\u17b4\\u17b5\\u180e\\u200b\\u2028\\u2029\\u2060-\\u2064'
+  + '\\u206a-\\u206f\\u3164\\ufeff\\uffa0\\ufff9-\\ufffb\\u{e0000}-\\u{e007f}';
+const HIDDEN = new RegExp(`[\\0-\\x1f\\x7f-\\x9f${WITHOUT_WIDTH}${[...DIRECTIONS.keys()].join('')}]`, 'gu');
+const RIGHT_TO_LEFT = /[\u0590-\u08ff\ufb1d-\ufdff\ufe70-\ufeff\u{10800}-\u{10fff}\u{1e800}-\u{1efff}]/u;
 
 /** @param {string} sign */
 const hiddenSign = sign => {
-  const direction = DIRECTIONS.get(sign), number = sign.charCodeAt(0).toString(16).padStart(2, '0');
+  const direction = DIRECTIONS.get(sign), number = sign.codePointAt(0).toString(16).padStart(2, '0');
   if (direction) return `‹${direction}›`;
   const known = { '\0': '\\0', '\t': '\\t', '\n': '\\n', '\r': '\\r' }[sign];
-  return known ?? (sign > '\xff' ? `\\u${number}` : `\\x${number}`);
+  if (number.length > 4) return `\\u{${number}}`;
+  return known ?? (number.length > 2 ? `\\u${number.padStart(4, '0')}` : `\\x${number}`);
 };
 
 /**

@@ -69,6 +69,9 @@ test('signs that no screen shows are written out, and a text from right to left 
   assert.equal(visible('a\0b\t\x1b\x7f\ufeff'), 'a\\0b\\t\\x1b\\x7f\\ufeff');
   assert.equal(visible('a\u202eb'), 'a‹right-to-left override›b');
   assert.equal(visible('\u05d0'), '\u2068\u05d0\u2069');
+  assert.equal(visible('\u{1e900}'), '\u2068\u{1e900}\u2069');
+  assert.equal(visible('a\u200bb\u2028c\xadd\u034fe\u{e0041}'), 'a\\u200bb\\u2028c\\xadd\\u034fe\\u{e0041}');
+  assert.equal(visible('Zo\u00eb \u{1f600} \u0646\u200c'), '\u2068Zo\u00eb \u{1f600} \u0646\u200c\u2069');
   assert.equal(quoted('x\r'), '“x\\r”');
 });
 
