@@ -78,7 +78,7 @@ async function check() {
   const tables = await tablesOf(parts);
   if (isOld()) return false;
   if (!tables || !areSummed) return refuse(stopped(parts), isOld);
-  spelling = tables.originals ? spellingBy(tables.originals) : AS_NAMED;
+  spelling = tables.originals ? spellingBy(tables.originals, tables) : AS_NAMED;
   $('registrar').replaceChildren(...registrar.view(list.files, tables.roll.length));
   $('rate').replaceChildren(...form.view(list.files, parts.catalogue, tables, spelling));
   if (!list.files.length) return false;

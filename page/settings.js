@@ -27,7 +27,7 @@ const USUAL = {
 export const usual = name => USUAL[name];
 
 /** How long a text is that is read for the form; no settings are longer. */
-const LONGEST_SETTINGS = 2 ** 20;
+const LONGEST_SETTINGS = 2 ** 18;
 
 /**
  * The text of settings, as far as any settings are long.

@@ -8,7 +8,7 @@ import { visible } from './wording.js';
  * The spelling where no school told one.
  * @type {Spelling}
  */
-export const AS_NAMED = { shown: (_, name) => name, meant: () => [], count: 0 };
+export const AS_NAMED = { shown: (_, name) => visible(name), meant: () => [], count: 0 };
 
 /** How many names are taken: a school has fewer. */
 const MOST_NAMES = 20000;
@@ -39,15 +39,44 @@ export function originalsIn(bytes) {
 }
 
 /**
- * How a school spells names.
+ * How a school spells names. Where two names have one spelling, or one is spelt as another is named, the name stands
+ * beside it: nobody is to take one section or student for another.
  * @param {Originals} kinds
+ * @param {ReadTables} [tables] what else has names
  * @returns {Spelling}
  */
-export const spellingBy = kinds => ({
-  shown: (kind, name) => visible(kinds.get(kind)?.get(name) ?? name),
-  meant: (kind, typed) => meantOf(kinds.get(kind) ?? new Map(), typed.trim()),
-  count: [...kinds.values()].reduce((sum, it) => sum + it.size, 0),
-});
+export function spellingBy(kinds, tables) {
+  /** @type {Record<string, { name: string }[]>} */
+  const named = { section: tables?.catalogue ?? [], student: tables?.roll ?? [] };
+  const doubtful = new Map([...kinds].map(([kind, originals]) =>
+    [kind, doubtfulIn(originals, new Set(Object.hasOwn(named, kind) ? named[kind].map(it => it.name) : []))]));
+  return {
+    shown: (kind, name) => {
+      const original = kinds.get(kind)?.get(name);
+      if (original === undefined) return visible(name);
+      return doubtful.get(kind).has(name) ? `${visible(original)} (${visible(name)})` : visible(original);
+    },
+    meant: (kind, typed) => meantOf(kinds.get(kind) ?? new Map(), typed.trim()),
+    count: [...kinds.values()].reduce((sum, it) => sum + it.size, 0),
+  };
+}
+
+/**
+ * The names that are not told from each other by their spellings: signs that look alike count as one.
+ * @param {Map<string, string>} originals by name @param {Set<string>} names that are there
+ * @returns {Set<string>}
+ */
+function doubtfulIn(originals, names) {
+  const folded = (/** @type {string} */ it) => it.normalize('NFKC').replace(/\s+/g, ' ').trim();
+  /** @type {Map<string, Set<string>>} */
+  const spelt = new Map([...names, ...originals.keys()].map(it => [it, new Set([it])]));
+  for (const [name, original] of originals) {
+    const as = folded(original);
+    if (spelt.has(as)) spelt.get(as).add(name);
+    else spelt.set(as, new Set([name]));
+  }
+  return new Set([...spelt.values()].filter(it => it.size > 1).flatMap(it => [...it]));
+}
 
 /**
  * The spelling that a `names.csv` tells.
