@@ -16,6 +16,7 @@ const ABOUT_RATING = 'Before the desk closes a student says here what it wants. 
 const SAVING = 'The file says all that you wish, and takes back what you said before. Give it to your school before '
   + 'its desk closes; give it to this page again to go on with it.';
 const NAME_WORDS = 'A name is 1 to 32 letters (A to Z, a to z), digits, dashes, underscores and dots.';
+const NOTHING_RATED = 'Nothing is rated yet.';
 const PLAIN = { autocomplete: 'off', autocapitalize: 'off', spellcheck: 'false' };
 
 /** The form of the student who rates, and what it has said so far; the files may change meanwhile. */
@@ -30,7 +31,11 @@ export class RatingForm {
     this.isUnsaved = false;
     /** How often earlier lines were looked for. */
     this.looks = 0;
-    /** Whether the best bundle is being asked for, and whether something was changed since. */
+    /**
+     * Whether the best bundle is being asked for, whether something was changed since, and of which catalogue the
+     * program has answered.
+     * @type {{ isBusy: boolean, isOld: boolean, of?: GivenFile }}
+     */
     this.asking = { isBusy: false, isOld: false };
     /**
      * What is drawn anew as something changes.
@@ -184,7 +189,8 @@ export class RatingForm {
     this.drawn.notes?.replaceChildren(...[
       p(`Rated: ${rated.length} of at most ${MOST_RATED} sections, ${plural(credits, 'credit')} together; you may hold `
         + `${plural(this.caps.credits, 'credit')} and ${plural(this.caps.courses, 'section')}.`),
-      left.length ? p(`The catalogue does not have ${shortList(left)}: they are not saved.`) : null,
+      left.length ? p(`The catalogue does not have ${shortList(left.map(it => this.shown(it)))}: they are not `
+        + 'saved.') : null,
       tooLarge.length ? p(`Alone more than your credits: ${shortList(tooLarge.map(it => this.shown(it)))}.`) : null,
       clashes.length ? el('details', {}, el('summary', {}, `${plural(clashes.length, 'pair')} of them cannot be held `
         + 'together'),
@@ -192,17 +198,22 @@ export class RatingForm {
     ].filter(Boolean));
   }
 
-  /** Asks the program for the best bundle where each price is 0; while it answers nothing else is asked. */
+  /**
+   * Asks the program for the best bundle where each price is 0; while it answers nothing else is asked. A catalogue is
+   * asked about also where nothing is rated: what the program refuses is not shown without saying so.
+   */
   async quote() {
     this.asking.isOld = true;
-    if (!this.list.ratings.size) this.drawn.best?.replaceChildren(p('Nothing is rated yet.'));
-    if (this.asking.isBusy || !this.list.ratings.size) return;
+    const isKnown = this.asking.of === this.given.file;
+    if (!this.list.ratings.size && isKnown) this.drawn.best?.replaceChildren(p(NOTHING_RATED));
+    if (this.asking.isBusy || !this.list.ratings.size && isKnown) return;
     this.asking.isBusy = true;
     while (this.asking.isOld && this.given.file && this.drawn.best) {
       this.asking.isOld = false;
       const name = isName(this.list.name) ? this.list.name : 'you';
-      const call = quoteCall(this.given.file, this.lines(name), name, this.caps);
+      const { file } = this.given, call = quoteCall(file, this.lines(name), name, this.caps);
       const answer = await work('Asking for the best bundle', call);
+      if (answer.status === 0) this.asking.of = file;
       if (!this.asking.isOld && answer.status !== 'stopped') await this.drawBest(answer, call);
     }
     this.asking.isBusy = false;
@@ -212,6 +223,7 @@ export class RatingForm {
   async drawBest(answer, call) {
     const to = this.drawn.best;
     if (answer.status !== 0) return to.replaceChildren(p((await toldOf(answer, call)).words));
+    if (!this.list.ratings.size) return to.replaceChildren(p(NOTHING_RATED));
     const { names, worth } = quoteOf(answer.text), shown = (/** @type {string} */ it) => this.shown(it);
     if (!names.length) return to.replaceChildren(p('With these ratings and caps the best bundle has no section.'));
     const sections = names.map(it => this.given.catalogue.find(that => that.name === it));

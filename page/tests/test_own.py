@@ -796,6 +796,23 @@ class Own(unittest.TestCase):
         )
         self.assertTrue(self.tab.evaluate("form.mayLose()"))
 
+    def test_catalogue_that_the_program_refuses_is_told_before_anything_is_rated(self) -> None:
+        rows = (
+            "section,course,seats,credits,meetings,parts\nA\u202eB,A,1,x,,constructor\n"
+            '"<img src=x onerror=""document.title=1"">",A,1,1,,12\n'
+        )
+        self.give({"n.jones.session": None, "catalogue.csv": rows.encode()}, ["catalogue.csv"])
+        self.open_form()
+        best = "document.querySelector('.beside').textContent"
+        self.tab.wait(f"{best}.includes('catalogue.csv, row 2')")
+        self.assertIn("“A‹right-to-left override›B” stands there. Expected: a name.", self.tab.evaluate(best))
+        names = self.tab.evaluate("[...document.querySelectorAll('#rate tbody th')].map(it => it.textContent)")
+        self.assertEqual(["A‹right-to-left override›B", '<img src=x onerror="document.title=1">'], names)
+        self.assertNotIn("function", self.words("#rate"))
+        self.assertEqual("Course Match", self.tab.evaluate("document.title"))
+        self.give({"n.jones.session": None}, ["catalogue.csv"])
+        self.tab.wait(f"{best}.includes('Nothing is rated yet.') && !isWorking()")
+
     def test_sections_are_searched(self) -> None:
         self.give({"n.jones.session": None, "published.txt": None, "settings.json": None, "roll.csv": None})
         self.open_form()
