@@ -3,7 +3,7 @@
 import {
   TAKES, boundOf, closedBy, firstDifference, leftOf, losesTies, openPlaces, worthOf,
 } from './reckoning.js';
-import { grouped, listed, plural } from './wording.js';
+import { grouped, listed, plural, visible } from './wording.js';
 
 const SIGN = /[*nx!+-]|[bcm](?:0|[1-9]\d?)(?!\d)/y;
 const BOUNDS = [['b', 'token', 'tokens'], ['c', 'credit', 'credits'], ['m', 'section', 'sections']];
@@ -236,12 +236,13 @@ export const CAUSES = [
 ];
 
 /**
- * The signs in what somebody pasted: a whole line of the text or of `explain`, or the signs alone.
+ * The signs in what somebody pasted, as they can be shown: a whole line of the text or of `explain`, or the signs
+ * alone.
  * @param {string} pasted
  * @returns {{ tree: string, bundle?: string[], student?: string, pass?: number }}
  */
 export function pastedSigns(pasted) {
-  const words = pasted.trim().split(/\s+/), at = words.findIndex(it => /^\[.*\]$/.test(it));
+  const words = pasted.trim().split(/\s+/).map(visible), at = words.findIndex(it => /^\[.*\]$/.test(it));
   if (at < 0) return { tree: words.length > 1 && words[0] === 'tree' ? words.slice(1).join('') : words.join('') };
   const bundle = words[at].slice(1, -1).split(',').filter(Boolean);
   const pass = words[0] === 'turn' ? Number(words[1]) : undefined;

@@ -168,4 +168,6 @@ test('what is pasted is a line of the text, of explain, or signs alone', () => {
   assert.deepEqual(pastedSigns('turn 2 ann [] *'), { tree: '*', bundle: [], student: 'ann', pass: 2 });
   assert.deepEqual(pastedSigns('tree ++x+x!n'), { tree: '++x+x!n' });
   assert.deepEqual(pastedSigns(' ++*\nnn '), { tree: '++*nn' });
+  const turned = pastedSigns('bundle a\u202eb [A\0] +\u200b*');
+  assert.deepEqual([turned.student, turned.bundle, turned.tree], ['a‹right-to-left override›b', ['A\\0'], '+\\u200b*']);
 });
