@@ -44,6 +44,12 @@ export const code = it => el('code', {}, it);
 export const button = (words, onclick, properties) => el('button', { type: 'button', onclick, ...properties }, words);
 
 /**
+ * A field with its label, which stay on one line where it has room for both.
+ * @param {string} label @param {HTMLElement} of
+ */
+export const labelled = (label, of) => el('span', { class: 'field' }, el('label', { for: of.id }, label), of);
+
+/**
  * A part of a view, with its title.
  * @param {string} title @param {...any} children
  */

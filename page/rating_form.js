@@ -1,6 +1,6 @@
 // The form before the desk closes: a student rates sections, sees its best bundle at prices of 0, and saves its lines.
 
-import { button, el, p, save, suggestions } from './elements.js';
+import { button, el, labelled, p, save, suggestions } from './elements.js';
 import { RatedSections } from './rated_sections.js';
 import { AS_NAMED } from './spelling.js';
 import { weekView } from './week_view.js';
@@ -88,10 +88,9 @@ export class RatingForm {
     name.addEventListener('input', named);
     for (const it of [credits, courses]) it.addEventListener('input', capped);
     named();
-    return el('div', { class: 'who' }, el('label', { for: 'rate-name' }, 'Your name, as on the roll'), name,
+    return el('div', { class: 'who' }, labelled('Your name, as on the roll', name),
       suggestions(name, 'rate-names', () => roll.map(it => [it.name, spelling.shown('student', it.name)])),
-      el('label', { for: 'rate-credits' }, 'Most credits'), credits,
-      el('label', { for: 'rate-courses' }, 'Most sections'), courses, told, earlier);
+      labelled('Most credits', credits), labelled('Most sections', courses), told, earlier);
   }
 
   /** @param {string} typed @param {any} credits @param {any} courses @param {any} told */
@@ -257,8 +256,8 @@ export class RatingForm {
       p('Two sections together may be worth more to you than apart, or less: -200 to 200 points, for at most '
         + `${MOST_PAIRS} pairs.`),
       el('form', { class: 'pair', onsubmit },
-        el('label', { for: 'rate-one' }, 'Section'), one, el('label', { for: 'rate-other' }, 'with'), other,
-        el('label', { for: 'rate-points' }, 'Points'), points, el('button', {}, 'Adjust')), told, list);
+        labelled('Section', one), labelled('with', other), labelled('Points', points), el('button', {}, 'Adjust')),
+      told, list);
   }
 
   /**

@@ -1,7 +1,7 @@
 // "What if": what a student would take at these prices with another rating or budget, by the program's `demand`.
 
 import { MOST_BASE } from './alone.js';
-import { el, p } from './elements.js';
+import { el, labelled, p } from './elements.js';
 import { demandedWith } from './one_student.js';
 import { menuOf, priceOf, worthOf } from './reckoning.js';
 import { section, sections, studentName } from './stage_words.js';
@@ -38,12 +38,6 @@ export function whatIfNodes(market, student) {
     told,
   ];
 }
-
-/**
- * A field with its label, which stay on one line.
- * @param {string} label @param {HTMLElement} of
- */
-const labelled = (label, of) => el('span', { class: 'field' }, el('label', { for: of.id }, label), of);
 
 /** @param {Market} market @param {Map<string, number>} ratings */
 function sectionChoice(market, ratings) {

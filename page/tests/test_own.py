@@ -221,6 +221,23 @@ class Own(unittest.TestCase):
         self.tab.wait(f"!{hint}")
         self.tab.look(390, 844)
 
+    def test_fields_of_the_form_stand_beside_their_labels_on_a_phone(self) -> None:
+        self.give({"n.jones.session": None, "published.txt": None, "settings.json": None})
+        self.open_form()
+        for width in 390, 320:
+            with self.subTest(width=width):
+                self.tab.look(width, 844)
+                boxes = self.tab.evaluate(
+                    "[...document.querySelectorAll('.who .field, .pair .field')].map(it => [...it.children].map(that =>"
+                    " (box => [box.left, box.right, box.top, box.bottom])(that.getBoundingClientRect())))"
+                )
+                self.assertEqual(6, len(boxes))
+                for (_, end, top, bottom), (start, right, above, below) in boxes:
+                    self.assertLessEqual(right, width)
+                    is_beside = end <= start and above < (top + bottom) / 2 < below
+                    self.assertTrue(is_beside or bottom <= above + 1 and above - bottom < 16, boxes)
+        self.tab.look(390, 844)
+
     def test_lines_of_nobody_on_the_roll_are_told_and_answer_nothing(self) -> None:
         self.give({"n.jones.session": HEAD.encode() + b"rate nobody FNCE-601-A 5\n"})
         told = self.verdict("Whose lines are these?")
