@@ -35,7 +35,8 @@ TOP = HERE.parents[1]
 TERM, MARKET = TOP / "examples/term", TOP / "examples/market"
 PAGE = TOP / "page/out/course-match.html"
 PICTURES = TOP / "page/out/pictures"
-PROGRAM = Path(os.environ.get("PROGRAM", TOP / "crates/market_program/out/market_program"))
+NAMED = os.environ.get("PROGRAM") or os.environ.get("COURSE_MATCH_PROGRAM")
+PROGRAM = Path(NAMED or TOP / "crates/market_program/out/market_program")
 VECTORS = Path(os.environ.get("VECTORS", TOP.parent / "shared/vectors"))
 
 

@@ -1,4 +1,4 @@
-// The market of one student, asked of the native program: COURSE_MATCH_PROGRAM or what `rt ci` left.
+// The market of one student, asked of the native program: COURSE_MATCH_PROGRAM, PROGRAM, or what `rt ci` left.
 
 import assert from 'node:assert/strict';
 import { spawnSync } from 'node:child_process';
@@ -12,7 +12,8 @@ import { stagesOf as stagesShown, takenIfFree } from '../../one_student.js';
 import { treeAt, turnsOf } from '../../texts.js';
 import { TOP, cases, marketOfCase, term } from './vectors.js';
 
-const PROGRAM = process.env.COURSE_MATCH_PROGRAM ?? join(TOP, 'crates/market_program/out/market_program');
+const { PROGRAM: NAMED, COURSE_MATCH_PROGRAM = NAMED } = process.env;
+const PROGRAM = COURSE_MATCH_PROGRAM ?? join(TOP, 'crates/market_program/out/market_program');
 const options = { skip: existsSync(PROGRAM) ? false : 'there is no native program' };
 /** @type {string} */
 let room;
