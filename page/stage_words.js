@@ -87,6 +87,27 @@ const SHORT = {
   less: it => `${it.student} could have had it too, but with it the bundle is worth no more, by its adjustments`,
 };
 
+/** @type {Record<string, string>} */
+const PAST = { bought: 'bought', kept: 'kept', took: 'taken' };
+
+/**
+ * The same in the few words of a line that unfolds.
+ * @type {Record<string, (it: Facts) => string>}
+ */
+const BRIEF = {
+  held: it => `${PAST[took(it)]}, and given up later for `
+    + (it.isTie ? 'one as good, by the tie rule' : 'a better bundle'),
+  unrated: () => 'not rated above 0',
+  'alone price': it => `its price of ${grouped(it.price)} is above the whole budget`,
+  'alone credits': it => `its credits, ${it.of.credits}, are more than the roll allows`,
+  'alone courses': () => 'the roll allows no section at all',
+  'beside price': () => 'too dear with the rest',
+  'beside credits': () => 'too many credits with the rest',
+  'beside courses': () => 'one section too many with the rest',
+  clash: it => `${it.clash.replace(/^.* the /, '')} ${it.other}`,
+  less: () => 'worth no more with it, by the adjustments',
+};
+
 /**
  * The same at length.
  * @type {Record<string, (it: Facts) => string>}
@@ -147,6 +168,24 @@ function isTieLater(market, student, stage, name) {
  */
 export const shortReason = (market, student, stage, name, told) =>
   SHORT[told.reason](factsOf(market, student, stage, name, told)) + worthWords(told, studentName(market, student));
+
+/**
+ * The same in the few words of a line that unfolds.
+ * @param {Market} market @param {number} student @param {Stage} stage @param {string} name @param {Explanation} told
+ */
+export const briefReason = (market, student, stage, name, told) =>
+  BRIEF[told.reason](factsOf(market, student, stage, name, told));
+
+/**
+ * What the best bundle with a section is worth, and what the best one without it, in such a line; nothing where that
+ * was not said.
+ * @param {Explanation} told
+ */
+export function briefWorth({ worth, lost }) {
+  if (lost === undefined) return '';
+  return lost ? `: worth ${grouped(worth)} with it, ${grouped(worth + lost)} without`
+    : ': a tie, worth as much with it';
+}
 
 /**
  * The same of a later stage, behind the reason of an earlier one: what is as it was is not said again.

@@ -7,7 +7,7 @@ import { callOf } from './program.js';
 import { menuOf, walkOf } from './reckoning.js';
 import { turnOrder } from './seats_and_turns.js';
 import {
-  laterReason, longReason, section, shortReason, stageName, stagesName, studentName,
+  briefReason, briefWorth, laterReason, longReason, section, shortReason, stageName, stagesName, studentName,
 } from './stage_words.js';
 import { grouped, plural } from './wording.js';
 import { answerWords } from './words.js';
@@ -161,11 +161,11 @@ function questionOf(market, student, stages, name, isOpen) {
   const ask = () => asked ??= fill();
   const fill = async () => {
     short.textContent = '..';
-    const replies = await repliesAbout(market, student, stages, name), failed = replies.find(it => it.failed);
-    const ifFree = failed ? null : await askedIfFree(market, student, stages, name);
-    short.textContent = failed ? failed.failed : shortAnswer(market, student, stages, name, replies, ifFree);
-    answer.replaceChildren(...longAnswer(market, student, stages, name, replies, ifFree));
-    if (!failed) return;
+    const replies = await repliesAbout(market, student, stages, name), isFailed = replies.some(it => it.failed);
+    const ifFree = isFailed ? null : await askedIfFree(market, student, stages, name);
+    short.textContent = isFailed ? 'The program gave no answer.' : briefAnswer(market, student, name, replies, ifFree);
+    answer.replaceChildren(...unfoldedNodes(market, student, stages, name, replies, ifFree));
+    if (!isFailed) return;
     asked = null;
     answer.append(button('Ask again', ask, { class: 'small' }));
   };
@@ -176,25 +176,55 @@ function questionOf(market, student, stages, name, isOpen) {
 }
 
 /**
- * Whether a stage's answer is one on which free seats have no bearing.
- * @param {Reply} reply
+ * Whether an answer is one on which free seats have no bearing: the section was held, or is not rated, and no turn was
+ * asked about.
+ * @param {Reply[]} replies
  */
-const isWithoutSeats = ({ told }) => told && ['held', 'unrated'].includes(told.reason);
+const isWithoutSeats = ([{ told }, ...later]) => !later.length && told && ['held', 'unrated'].includes(told.reason);
 
 /**
- * Why a student has no seat in a section, in a line: the reason of the second stage, and what was of the section in the
- * aftermarket.
+ * Why a student has no seat in a section, in the sentence that stands on the line: the reason of the second stage, or
+ * what became of the section in the aftermarket, where it was taken then or a free seat would have been.
+ * @param {Market} market @param {number} student @param {string} name @param {Reply[]} replies @param {IfFree} ifFree
+ */
+export function briefAnswer(market, student, name, replies, ifFree) {
+  const [first] = replies, taken = replies.find(it => it.told.reason === 'held');
+  const words = (/** @type {Reply} */ it) => briefReason(market, student, it.stage, name, it.told);
+  if (taken && taken !== first) return `${stageName(taken.stage)}: ${words(taken)}.`;
+  const brief = words(first) + (ifFree === 'taken' ? '; in the aftermarket no seat was free' : briefWorth(first.told));
+  return `${brief[0].toUpperCase()}${brief.slice(1)}.`;
+}
+
+/**
+ * The reason of the second stage, in a paragraph.
+ * @param {Market} market @param {number} student @param {string} name @param {Reply[]} replies
+ */
+export const firstAnswer = (market, student, name, [{ stage, told }]) =>
+  `${shortReason(market, student, stage, name, told)}.`;
+
+/**
+ * What was of a section in the aftermarket: the line that unfolds, and the paragraph below it; null where there was no
+ * turn, or seats have no bearing.
  * @param {Market} market @param {number} student @param {Stage[]} stages @param {string} name @param {Reply[]} replies
  * @param {IfFree} ifFree
+ * @returns {{ title: string, brief: string, words: string } | null}
  */
-export function shortAnswer(market, student, stages, name, replies, ifFree) {
+export function laterAnswer(market, student, stages, name, replies, ifFree) {
+  if (stages.length < 2 || isWithoutSeats(replies)) return null;
   const [first, ...later] = replies, taken = later.find(it => it.told.reason === 'held'), last = later.at(-1);
-  const words = (/** @type {Reply} */ it) => shortReason(market, student, it.stage, name, it.told);
-  if (isWithoutSeats(first) || stages.length < 2) return `${words(first)}.`;
-  if (taken) return `${words(first)}. ${stageName(taken.stage)}: ${words(taken)}.`;
-  if (!last) return `${words(first)}. Aftermarket: ${noneFree(market, student, stages, name, ifFree)}.`;
-  const why = laterReason(market, student, last.stage, name, last.told, first.told);
-  return `${words(first)}. ${stageName(last.last)}: ${freeAt(market, student, last.last, name)}, but ${why}.`;
+  const told = (/** @type {Stage | null} */ at, /** @type {string} */ brief, /** @type {string} */ words) => {
+    const title = at ? stageName(at) : 'Aftermarket';
+    return { title, brief: `${brief}.`, words: `${title}: ${words}.` };
+  };
+  const brief = (/** @type {Reply} */ it) => briefReason(market, student, it.stage, name, it.told);
+  if (taken) return told(taken.stage, brief(taken), shortReason(market, student, taken.stage, name, taken.told));
+  if (!last) {
+    const none = `no seat was free ${atTurns(market, student, stages)}`;
+    return told(null, none, noneFree(market, student, stages, name, ifFree));
+  }
+  const why = laterReason(market, student, last.stage, name, last.told, first.told), free = last.last.free.get(name);
+  return told(last.last, `${freeOf(market, name, free)}; ${brief(last)}`,
+    `${freeAt(market, student, last.last, name)}, but ${why}`);
 }
 
 /**
@@ -207,6 +237,10 @@ const freeOf = (market, name, free) =>
 /** @param {Market} market @param {number} student @param {Stage} stage @param {string} name */
 const freeAt = (market, student, stage, name) =>
   `${freeOf(market, name, stage.free.get(name))} at the turn of ${studentName(market, student)}`;
+
+/** @param {Market} market @param {number} student @param {Stage[]} stages */
+const atTurns = (market, student, stages) =>
+  `at ${stages.length > 2 ? 'any' : 'the'} turn of ${studentName(market, student)}`;
 
 /**
  * What a free seat would have changed, in words; nothing where that is not known.
@@ -223,19 +257,27 @@ const ifFreeWords = (market, student, ifFree) => ifFree === null ? '' : ifFree =
  */
 function noneFree(market, student, stages, name, ifFree) {
   const free = market.sectionOf.get(name).seats - market.counts.get(name), more = ifFreeWords(market, student, ifFree);
-  const at = `at ${stages.length > 2 ? 'any' : 'the'} turn of ${studentName(market, student)}`;
+  const at = atTurns(market, student, stages);
   return (free > 0 ? `${freeOf(market, name, free)} when it began, and none ${at}`
     : `no seat was free when it began, nor ${at}`) + (more ? `. ${more}` : '');
 }
 
 /**
+ * What unfolds below a question: the reason of the second stage, first in a paragraph and then at length, and the line
+ * of the aftermarket, which unfolds to the same of it.
  * @param {Market} market @param {number} student @param {Stage[]} stages @param {string} name @param {Reply[]} replies
  * @param {IfFree} ifFree
  */
-function longAnswer(market, student, stages, name, replies, ifFree) {
+function unfoldedNodes(market, student, stages, name, replies, ifFree) {
   const [first, ...later] = replies.map(it => replyNodes(market, student, it, name));
-  const isBeside = isWithoutSeats(replies[0]) && !later.length;
-  return [...first, ...isBeside ? [] : freeNodes(market, student, stages, name, ifFree), ...later.flat()];
+  const free = isWithoutSeats(replies) ? [] : freeNodes(market, student, stages, name, ifFree);
+  if (replies.some(it => it.failed)) return [...first, ...free, ...later.flat()];
+  const after = laterAnswer(market, student, stages, name, replies, ifFree);
+  return [
+    p(firstAnswer(market, student, name, replies)), ...first,
+    ...after ? [opening([el('b', {}, `${after.title}: `), el('span', { class: 'short' }, after.brief)],
+      () => [p(after.words), ...free, ...later.flat()], false, { class: 'paper' })] : free,
+  ];
 }
 
 /** @param {Market} market @param {number} student @param {Reply} reply @param {string} name */

@@ -249,8 +249,8 @@ class Own(unittest.TestCase):
         self.give()
         self.answer("Yes")
         self.tab.wait(
-            "document.querySelectorAll('.question').length === 7 && ![...document.querySelectorAll('.short')].slice(0,"
-            " 7).some(it => it.textContent.length < 3)"
+            "document.querySelectorAll('.question').length === 7 && ![...document.querySelectorAll('.question > summary"
+            " .short')].some(it => it.textContent.length < 3)"
         )
         self.assertIn("rated these sections higher than MGMT-691-B (rated 74), the lowest", self.words("#student-answer"))
         stages = self.tab.evaluate("[...document.querySelectorAll('#student-answer section')][0].innerText")
@@ -261,23 +261,51 @@ class Own(unittest.TestCase):
             "Aftermarket, passes 3 to 5: no change",
         ):
             self.assertIn(words, stages)
-        lines = self.tab.evaluate("[...document.querySelectorAll('.question summary')].map(it => it.textContent)")
         self.assertEqual(
-            "Why not FNCE-717-A? n.jones would have had to give something up for it: its price is 3,252, and what n.jones"
-            " bought left 628 of 4,542 tokens (by the ratings of n.jones the best with it was worth 188, without it 260)."
-            " Aftermarket: 8 of 12 seats were free when it began, and none at any turn of n.jones. With a free seat too"
-            " n.jones would not have taken it.",
+            [
+                "Why not FNCE-717-A? Too dear with the rest: worth 188 with it, 260 without.",
+                "Why not FNCE-601-B? Same course as FNCE-601-A: worth 164 with it, 260 without.",
+            ],
+            self.tab.evaluate(
+                "[...document.querySelectorAll('.question > summary')].map(it => it.textContent).filter(it =>"
+                " /FNCE-717-A|FNCE-601-B/.test(it))"
+            ),
+        )
+        self.tab.evaluate(
+            "document.querySelectorAll('.question > .answer > details.paper > summary').forEach(it => it.click());"
+            " new Promise(done => setTimeout(done, 50))"
+        )
+        later = "details => [details.querySelector('summary').textContent, details.querySelector('p').textContent]"
+        lines = self.tab.evaluate(
+            "[...document.querySelectorAll('.question > .answer')].map(it => [it.firstChild.textContent,"
+            f" ...({later})(it.lastChild)])"
+        )
+        self.assertEqual(
+            [
+                "n.jones would have had to give something up for it: its price is 3,252, and what n.jones bought left 628 of"
+                " 4,542 tokens (by the ratings of n.jones the best with it was worth 188, without it 260).",
+                "Aftermarket: no seat was free at any turn of n.jones.",
+                "Aftermarket: 8 of 12 seats were free when it began, and none at any turn of n.jones. With a free seat too"
+                " n.jones would not have taken it.",
+            ],
             lines[0],
         )
-        lgst = next(it for it in lines if "LGST-806-A" in it)
+        first, brief, lgst = next(it for it in lines if "its price is 2,670" in it[0])
+        self.assertRegex(
+            first, r"and what n.jones bought left 628 of 4,542 tokens \(by .* was worth \d+, without it 260\)\.$"
+        )
+        self.assertEqual("Aftermarket, pass 2: 1 of 9 seats was free; too dear with the rest.", brief)
         # 4,542 raised by ten in a hundred is 4,996; the prices of ACCT-611-B, FNCE-601-A and MGMT-691-B are together
         # 851 + 1,942 + 2,137 = 4,930
         self.assertRegex(
             lgst,
-            r"and what n.jones bought left 628 of 4,542 tokens \(by the ratings of n.jones the best with it was worth \d+,"
-            r" without it 260\)\. Aftermarket, pass 2:"
-            r" 1 of 9 seats was free at the turn of n.jones, but what n.jones took left 66 of 4,996 tokens"
-            r" \(by the ratings of n.jones the best with it was worth \d+, without it 262\)\.$",
+            r"^Aftermarket, pass 2: 1 of 9 seats was free at the turn of n.jones, but what n.jones took left 66 of 4,996"
+            r" tokens \(by the ratings of n.jones the best with it was worth \d+, without it 262\)\.$",
+        )
+        fnce = next(it for it in lines if "same course as FNCE-601-A" in it[0])
+        self.assertEqual("Aftermarket, pass 5: 2 of 20 seats were free; same course as FNCE-601-A.", fnce[1])
+        self.assertRegex(
+            fnce[2], r"2 of 20 seats were free at the turn of n\.jones, but the same holds( \(by the ratings .*\))?\.$"
         )
         self.click("Why not FNCE-717-A")
         told = self.words(".question")
@@ -296,8 +324,6 @@ class Own(unittest.TestCase):
             " finds another bundle better.",
         ):
             self.assertIn(words, told)
-        fnce = next(it for it in lines if "FNCE-601-B" in it)
-        self.assertRegex(fnce, r"2 of 20 seats were free at the turn of n\.jones, but the same holds( \(by the ratings .*\))?\.$")
         self.click("Why not LGST-806-A")
         told = self.tab.evaluate(
             "[...document.querySelectorAll('.question')].find(it => it.open &&"
@@ -312,14 +338,47 @@ class Own(unittest.TestCase):
         )
         self.tab.evaluate("[...document.querySelectorAll('summary')].find(it => /rated no higher/.test(it.textContent)).click()")
         gone = "[...document.querySelectorAll('.question')].find(it => it.textContent.startsWith('Why not HCMG'))?.textContent"
-        self.tab.wait(f"{gone}?.includes('in the end: none') && !isWorking()")
+        unfold = ".querySelector('.answer > details.paper')"
+        self.tab.wait(f"{gone.removesuffix('?.textContent')}?{unfold} && !isWorking()")
+        self.tab.evaluate(f"{gone.removesuffix('?.textContent')}{unfold}.open = true")
+        self.tab.wait(f"{gone}.includes('in the end: none')")
         for words in (
             "aftermarket, passes 1 to 2, at the turn of n.jones, besides the seat of n.jones: none",
             "aftermarket, passes 3 to 5, at the turn of n.jones: none",
+            "Bought, and given up later for a better bundle.",
+            "Aftermarket, pass 1: kept, and given up later for a better bundle.",
             "Aftermarket, pass 1. n.jones kept HCMG-841-A, and gave it up later",
         ):
             self.assertIn(words, self.tab.evaluate(gone))
         self.assertNotIn("is number 100", self.tab.evaluate(gone))
+
+    def test_questions_take_two_lines_each_on_a_phone_and_unfold_by_the_keyboard(self) -> None:
+        self.give()
+        self.answer("Yes")
+        self.tab.evaluate("new Promise(done => setTimeout(done))")
+        self.tab.wait("document.querySelectorAll('.question').length === 7 && !isWorking()")
+        questions = "[...document.querySelectorAll('.question > summary')]"
+        for width, most in (390, 2), (320, 3):
+            with self.subTest(width=width):
+                self.tab.look(width, 844)
+                sizes = self.tab.evaluate(
+                    f"{questions}.map(it => [it.getBoundingClientRect().height, parseFloat(getComputedStyle(it).lineHeight),"
+                    " it.scrollWidth - it.clientWidth])"
+                )
+                self.assertEqual(7, len(sizes))
+                for height, line, over in sizes:
+                    self.assertTrue(44 <= height < (most + 1) * line and over <= 0, sizes)
+                self.assertLessEqual(self.tab.evaluate("document.documentElement.scrollWidth"), width)
+        self.tab.look(390, 844)
+        self.tab.evaluate(f"{questions}[0].focus()")
+        self.tab.press("Enter", "\r")
+        self.tab.wait(f"{questions}[0].parentElement.open")
+        self.tab.evaluate("document.querySelector('.question > .answer > details.paper > summary').focus()")
+        self.tab.press("Enter", "\r")
+        self.tab.wait("document.querySelector('.question').innerText.includes('8 of 12 seats were free when it began')")
+        later = "document.querySelector('.question > .answer > details.paper > summary').getBoundingClientRect().height"
+        self.assertTrue(44 <= self.tab.evaluate(later) < 72)
+        self.tab.picture(PICTURES / "own-why.png", False)
 
     def test_lines_that_are_not_those_of_the_desk_are_told_with_what_may_be_the_cause(self) -> None:
         self.give(

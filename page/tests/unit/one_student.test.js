@@ -5,17 +5,22 @@ import { heldPrices, lineOf, wayWords, yesWords } from '../../answer_view.js';
 import { explainedIn, explanationOf, judgedStages, linesInText, stagesOf, unjudgedWords } from '../../one_student.js';
 import { menuOf } from '../../reckoning.js';
 import { AS_NAMED } from '../../spelling.js';
-import { longReason, shortReason, stagesName } from '../../stage_words.js';
+import { briefReason, briefWorth, longReason, shortReason, stagesName } from '../../stage_words.js';
 import { countsOf } from '../../texts.js';
 import { heldSince, signRuns } from '../../signs_view.js';
 import { triedOf } from '../../what_if_view.js';
-import { missedSections, missedWords, shortAnswer, turnWords } from '../../why_view.js';
+import { briefAnswer, firstAnswer, laterAnswer, missedSections, missedWords, turnWords } from '../../why_view.js';
 import { grouped, plural, tokens } from '../../wording.js';
 import { term } from './vectors.js';
 
 const market = /** @type {any} */ ({ ...term(), spelling: AS_NAMED });
 const student = market.roll.findIndex((/** @type {Student} */ it) => it.name === 'n.jones');
 const stages = stagesOf(market, student);
+
+/** The paragraphs that unfold. */
+const shortAnswer = (/** @type {any} */ of, /** @type {any[]} */ ...[at, among, name, replies, ifFree]) =>
+  [firstAnswer(of, at, name, replies), laterAnswer(of, at, among, name, replies, ifFree)?.words]
+    .filter(Boolean).join(' ');
 
 const GIVES = 'n.jones would have had to give something up for it:';
 
@@ -186,6 +191,55 @@ test('why not says what was free when the aftermarket began, and what at the tur
   assert.equal(shortAnswer(counted, student, stages, 'FNCE-601-B', both, null), `${GIVES} it is of the same course as `
     + 'FNCE-601-A, which n.jones bought. '
     + 'Aftermarket, pass 5: 2 of 20 seats were free at the turn of n.jones, but the same holds.');
+});
+
+test('the line that unfolds is a short sentence, and has no more than the program said', () => {
+  const brief = (/** @type {string} */ reason, other = '', more = {}) =>
+    briefReason(market, student, stages[0], 'FNCE-601-B', { reason, other, ...more });
+  const reasons = ['beside price', 'beside credits', 'beside courses', 'unrated', 'alone courses', 'less',
+    'alone price', 'alone credits'];
+  assert.deepEqual(reasons.map(it => brief(it)), [
+    'too dear with the rest', 'too many credits with the rest', 'one section too many with the rest',
+    'not rated above 0', 'the roll allows no section at all', 'worth no more with it, by the adjustments',
+    'its price of 1,928 is above the whole budget', 'its credits, 2, are more than the roll allows',
+  ]);
+  assert.equal(brief('clash', 'FNCE-601-A'), 'same course as FNCE-601-A');
+  const other = market.catalogue.find((/** @type {Section} */ it) => it.name === 'FNCE-601-B');
+  const moved = { ...other, name: 'M', course: 'M' }, sectionOf = new Map(market.sectionOf).set('M', moved);
+  assert.equal(briefReason({ ...market, sectionOf }, student, stages[0], 'FNCE-601-B', { reason: 'clash', other: 'M' }),
+    'same time as M');
+  const held = [0, 1, 2].map(it => briefReason(market, student, stages[it], 'HCMG-841-A', { reason: 'held' }));
+  assert.deepEqual(held.map(it => it.split(',')[0]), ['bought', 'kept', 'taken']);
+  assert.equal(briefWorth({ reason: 'beside price', worth: 188, lost: 72 }), ': worth 188 with it, 260 without');
+  assert.equal(briefWorth({ reason: 'clash', worth: 260, lost: 0 }), ': a tie, worth as much with it');
+  assert.equal(briefWorth({ reason: 'alone price' }), '');
+});
+
+test('a question and its aftermarket have a line each, the question the one that decided', () => {
+  const counts = countsOf(market.text.bundles.map((/** @type {Bundle} */ it) => it.names), market.catalogue);
+  const counted = { ...market, counts }, told = { reason: 'beside price', worth: 188, lost: 72 };
+  const reply = (/** @type {Stage} */ stage, last = stage, /** @type {Explanation} */ of = told) =>
+    ({ stage, last, told: of });
+  const lines = (/** @type {string} */ name, /** @type {any[]} */ replies, /** @type {any} */ ifFree = null) => {
+    const later = laterAnswer(counted, student, stages, name, replies, ifFree);
+    return [briefAnswer(counted, student, name, replies, ifFree), later && `${later.title}: ${later.brief}`];
+  };
+  assert.deepEqual(lines('FNCE-717-A', [reply(stages[0])], 'nothing'), [
+    'Too dear with the rest: worth 188 with it, 260 without.',
+    'Aftermarket: no seat was free at any turn of n.jones.',
+  ]);
+  assert.equal(lines('FNCE-717-A', [reply(stages[0])], 'taken')[0],
+    'Too dear with the rest; in the aftermarket no seat was free.');
+  assert.deepEqual(lines('LGST-806-A', [reply(stages[0]), reply(stages[2])]), [
+    'Too dear with the rest: worth 188 with it, 260 without.',
+    'Aftermarket, pass 2: 1 of 9 seats was free; too dear with the rest.',
+  ]);
+  const held = { reason: 'held' }, gone = 'Aftermarket, pass 1: kept, and given up later for a better bundle.';
+  assert.deepEqual(lines('HCMG-841-A', [reply(stages[0]), reply(stages[1], stages[1], held)]), [gone, gone]);
+  const first = 'Bought, and given up later for a better bundle.';
+  assert.deepEqual(lines('HCMG-841-A', [reply(stages[0], stages[0], held), reply(stages[1], stages[1], held)]),
+    [first, gone]);
+  assert.deepEqual(lines('HCMG-841-A', [reply(stages[0], stages[0], held)]), [first, null]);
 });
 
 test('sections that are missed stand by rating, those above the least of the held first', () => {
