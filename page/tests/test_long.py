@@ -103,6 +103,29 @@ class Long(unittest.TestCase):
         self.tab.evaluate("document.querySelector('#rate tbody').fill()")
         self.assertEqual(400, self.tab.evaluate("document.querySelectorAll('#rate tbody tr').length"))
 
+    def test_many_files(self) -> None:
+        """Of 500 the first rows are drawn, and others as the last one comes into view; what has the focus keeps it, also
+        where its row is far below."""
+        rows = "document.querySelectorAll('#file-list li').length"
+        told = self.told({f"n{it:03}.session": b"clear n.jones\n" for it in range(500)})
+        self.assertIn("files are taken for sessions, and a market has at most", told)
+        self.assertEqual(500 + len(FILES), self.tab.evaluate("list.files.length"))
+        self.assertEqual(20, self.tab.evaluate(rows))
+        last = "document.querySelector('#file-list').lastElementChild"
+        with self.tab.tasks() as tasks:
+            for count in 40, 60, 80:
+                self.tab.evaluate(f"{last}.scrollIntoView()")
+                self.tab.wait(f"{rows} === {count}")
+            before = self.tab.evaluate(f"{last}.querySelector('.name').textContent")
+            self.tab.evaluate(f"{last}.querySelector('select').focus()")
+            self.tab.evaluate(
+                f"{{ const it = {last}.querySelector('select'); it.value = 'other';"
+                " it.dispatchEvent(new Event('change', { bubbles: true })) }"
+            )
+            self.tab.wait("document.activeElement.closest('li')?.className === 'other'")
+            self.assertEqual(f"What {before} is", self.tab.evaluate("document.activeElement.getAttribute('aria-label')"))
+        self.assertLess(tasks[-1], self.longest)
+
     def test_settings_of_blanks(self) -> None:
         told = self.told({"settings.json": b"{" + b" " * (15 << 20)}, "$('to-registrar').click()")
         self.assertIn("settings.json", told)
