@@ -138,23 +138,34 @@ export function leftOf(walk, chosen) {
 }
 
 /**
+ * What closes a place, which tells itself in words; null where it is open. (Trees have thousands of places, and few are
+ * told.)
+ * @param {Walk} walk @param {number[]} chosen @param {number} place @param {Left} left beside what is chosen
+ * @returns {(() => string) | null}
+ */
+function closingOf(walk, chosen, place, left) {
+  const { section, name, price } = walk.menu.places[place];
+  if (walk.allowed && !walk.allowed.has(name)) return () => 'had no free seat at that turn';
+  for (const it of chosen) {
+    const other = walk.menu.places[it], clash = clashOf(section, other.section);
+    if (clash) return () => `${clash} ${other.shown}`;
+  }
+  if (price > left.b) {
+    return () => `has the price ${grouped(price)}, and ${plural(left.b, 'token is', 'tokens are')} left`;
+  }
+  if (section.credits > left.c) {
+    return () =>
+      `has ${plural(section.credits, 'credit')}, and ${plural(left.c, 'credit is', 'credits are')} left`;
+  }
+  if (left.m < 1) return () => `would be one section more than the ${walk.courses} that the roll allows`;
+  return null;
+}
+
+/**
  * Why a place is not open, in words; null where it is.
  * @param {Walk} walk @param {number[]} chosen @param {number} place
  */
-export function closedBy(walk, chosen, place) {
-  const { section, name, price } = walk.menu.places[place], left = leftOf(walk, chosen);
-  if (walk.allowed && !walk.allowed.has(name)) return 'had no free seat at that turn';
-  for (const it of chosen) {
-    const clash = clashOf(section, walk.menu.places[it].section);
-    if (clash) return `${clash} ${walk.menu.places[it].shown}`;
-  }
-  if (price > left.b) return `has the price ${grouped(price)}, and ${plural(left.b, 'token is', 'tokens are')} left`;
-  if (section.credits > left.c) {
-    return `has ${plural(section.credits, 'credit')}, and ${plural(left.c, 'credit is', 'credits are')} left`;
-  }
-  if (left.m < 1) return `would be one section more than the ${walk.courses} that the roll allows`;
-  return null;
-}
+export const closedBy = (walk, chosen, place) => closingOf(walk, chosen, place, leftOf(walk, chosen))?.() ?? null;
 
 /**
  * The open places from `from` on, each with its worth: its rating, its adjustments with the chosen ones, and the
@@ -162,13 +173,13 @@ export function closedBy(walk, chosen, place) {
  * @param {Walk} walk @param {number[]} chosen @param {number} from
  */
 export function openPlaces(walk, chosen, from) {
-  const later = walk.menu.places.map(it => it.place).filter(it => it >= from);
-  const open = later.filter(it => closedBy(walk, chosen, it) === null);
-  return open.map(place => {
+  const left = leftOf(walk, chosen), open = new Set();
+  for (let it = from; it < walk.menu.places.length; it++) if (!closingOf(walk, chosen, it, left)) open.add(it);
+  return [...open].map(place => {
     const together = walk.menu.together[place];
-    const beside = chosen.reduce((sum, it) => sum + (together.get(it) ?? 0), 0);
-    const hoped = open.filter(it => it > place).reduce((sum, it) => sum + Math.max(0, together.get(it) ?? 0), 0);
-    return { place, worth: Math.max(0, walk.menu.places[place].rating + beside + hoped) };
+    let worth = chosen.reduce((sum, it) => sum + (together.get(it) ?? 0), walk.menu.places[place].rating);
+    for (const [it, more] of together) if (it > place && more > 0 && open.has(it)) worth += more;
+    return { place, worth: Math.max(0, worth) };
   });
 }
 
@@ -182,9 +193,10 @@ export const TAKES = { b: it => it.price, c: it => it.section.credits, m: () => 
  * The bound of a leaf, in thousandths of a point: what is chosen, what is left at the rate of the leaf's place, and
  * what each course may bring above that. Of the plain bound the rate is 0.
  * @param {Walk} walk @param {number[]} chosen @param {number} from @param {TreeNode} node
+ * @param {ReturnType<typeof openPlaces>} [open] the open places, which all bounds of a node share
  */
-export function boundOf(walk, chosen, from, node) {
-  const open = openPlaces(walk, chosen, from), takes = TAKES[node.symbol] ?? (() => 0);
+export function boundOf(walk, chosen, from, node, open = openPlaces(walk, chosen, from)) {
+  const takes = TAKES[node.symbol] ?? (() => 0);
   const by = open.find(it => it.place === node.number);
   const rate = by ? Math.floor(1000 * by.worth / takes(walk.menu.places[by.place])) : 0;
   const best = new Map();

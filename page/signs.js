@@ -32,11 +32,11 @@ export function dueSign(walk, chosen, place) {
  * @param {Walk} walk @param {number[]} chosen @param {number} place
  */
 function closingBound(walk, chosen, place) {
-  const closed = 1000 * (walk.worth + (losesTies(walk, chosen, place) ? 1 : 0));
+  const closed = 1000 * (walk.worth + (losesTies(walk, chosen, place) ? 1 : 0)), all = openPlaces(walk, chosen, place);
   const closes = (/** @type {string} */ symbol, /** @type {number} */ number) =>
-    boundOf(walk, chosen, place, /** @type {any} */ ({ symbol, number })).bound < closed;
+    boundOf(walk, chosen, place, /** @type {any} */ ({ symbol, number }), all).bound < closed;
   if (closes('n', -1)) return 'n';
-  const open = openPlaces(walk, chosen, place).filter(it => it.worth > 0);
+  const open = all.filter(it => it.worth > 0);
   for (const [symbol] of BOUNDS) {
     const takes = TAKES[symbol];
     const by = open.find(it => takes(walk.menu.places[it.place]) > 0 && closes(symbol, it.place));
