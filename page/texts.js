@@ -44,18 +44,34 @@ export function publishedOf(bytes, catalogue, roll) {
   const numbers = (/** @type {number} */ from, /** @type {number} */ count, place = 2) =>
     each(from, count, place + 1).map(it => Number(it.words[place]));
   const places = new Map(roll.map(it => [it.name, it.at]));
+  const bundles = each(at.bundles, students, 3).map(({ words, from, to }) => ({ names: namesOf(words[2]), from, to }));
+  const shared = sharedWith(bundles.map(it => it.names));
+  const turned = each(at.turns, turns, 4).map(({ words, from, to }, number) => {
+    const student = places.get(words[2]);
+    return { number, pass: Number(words[1]), student, names: shared(student, namesOf(words[3])), from, to };
+  });
   return {
     order: lines.at(at.order).split(' ').slice(1).map(Number),
     budgets: numbers(at.budgets, students),
     starts: numbers(at.starts, sections),
     error: lines.at(at.error).split(' ')[1],
     prices: numbers(at.prices, sections),
-    bundles: each(at.bundles, students, 3).map(({ words, from, to }) => ({ names: namesOf(words[2]), from, to })),
-    turns: each(at.turns, turns, 4).map(({ words, from, to }, number) =>
-      ({ number, pass: Number(words[1]), student: places.get(words[2]), names: namesOf(words[3]), from, to })),
-    finals: each(at.finals, students, 3).map(it => namesOf(it.words[2])),
+    bundles, turns: turned,
+    finals: each(at.finals, students, 3).map((it, student) => shared(student, namesOf(it.words[2]))),
     used: numbers(at.used, sections),
     seats: numbers(at.used, sections, 3),
+  };
+}
+
+/**
+ * Where a student holds what it held before, that has one list: most turns change nothing, so the page is handed little
+ * of them, and sees at once which ones changed something.
+ * @param {string[][]} held by the place of each student; it is kept up with
+ */
+function sharedWith(held) {
+  return (/** @type {number} */ student, /** @type {string[]} */ names) => {
+    const before = held[student], isAsLong = before?.length === names.length;
+    return isAsLong && before.every((it, at) => it === names[at]) ? before : held[student] = names;
   };
 }
 
@@ -83,14 +99,16 @@ export function countsOf(bundles, catalogue) {
  * @returns {TurnAsItStood[]}
  */
 export function turnsOf(market, student) {
-  const held = market.text.bundles.map(it => it.names), counts = countsOf(held, market.catalogue), found = [];
-  for (const turn of market.text.turns) {
+  const { text, catalogue } = market, held = text.bundles.map(it => it.names), counts = new Map(market.counts);
+  const found = [];
+  for (const turn of text.turns) {
     const before = held[turn.student];
     if (turn.student === student) {
-      const free = new Map(market.catalogue.map(it => [it.name, it.seats - counts.get(it.name)]));
+      const free = new Map(catalogue.map(it => [it.name, it.seats - counts.get(it.name)]));
       const allowed = new Set([...free.keys()].filter(it => before.includes(it) || free.get(it) > 0));
       found.push({ ...turn, before, free, allowed });
     }
+    if (turn.names === before) continue;
     for (const it of before) counts.set(it, counts.get(it) - 1);
     for (const it of turn.names) counts.set(it, counts.get(it) + 1);
     held[turn.student] = turn.names;
@@ -107,6 +125,7 @@ export function changesOf(market) {
   const held = market.text.bundles.map(it => it.names), found = [];
   for (const turn of market.text.turns) {
     const before = held[turn.student];
+    if (turn.names === before) continue;
     const gave = before.filter(it => !turn.names.includes(it)), took = turn.names.filter(it => !before.includes(it));
     if (gave.length || took.length) found.push({ ...turn, gave, took });
     held[turn.student] = turn.names;

@@ -6,7 +6,7 @@ import { explainedIn, explanationOf, judgedStages, linesInText, stagesOf, unjudg
 import { menuOf } from '../../reckoning.js';
 import { AS_NAMED } from '../../spelling.js';
 import { briefReason, briefWorth, longReason, shortReason, stagesName } from '../../stage_words.js';
-import { countsOf } from '../../texts.js';
+import { changesOf, countsOf, turnsOf } from '../../texts.js';
 import { heldSince, signRuns } from '../../signs_view.js';
 import { triedOf } from '../../what_if_view.js';
 import { briefAnswer, firstAnswer, laterAnswer, missedSections, missedWords, turnWords } from '../../why_view.js';
@@ -31,6 +31,25 @@ test('stages are the second one and each turn as it stood', () => {
   assert.ok(stages[2].allowed.has('MGMT-691-B') && !stages[1].allowed.has('MGMT-691-B'));
   assert.deepEqual([stagesName(stages[0], stages[0]), stagesName(stages[3], stages[5])],
     ['Second stage', 'Aftermarket, passes 3 to 5']);
+});
+
+test('what is held on is one list, and at each turn that was free which the others had left', () => {
+  const { text, catalogue, roll } = market, held = text.bundles.map((/** @type {Bundle} */ it) => it.names);
+  const changed = [], stood = roll.map(() => []);
+  for (const it of text.turns) {
+    const counts = countsOf(held, catalogue), before = held[it.student], isSame = before.join() === it.names.join();
+    const free = new Map(catalogue.map((/** @type {Section} */ { name, seats }) => [name, seats - counts.get(name)]));
+    stood[it.student].push({ before, free });
+    assert.equal(before === it.names, isSame);
+    if (!isSame) changed.push(it.number);
+    held[it.student] = it.names;
+  }
+  const own = (/** @type {Student} */ it) => turnsOf(market, it.at).map(({ before, free }) => ({ before, free }));
+  for (const it of roll) assert.deepEqual(own(it), stood[it.at]);
+  assert.deepEqual(changesOf(market).map(it => it.number), changed);
+  assert.ok(changed.length && changed.length < text.turns.length);
+  assert.deepEqual(text.finals, held);
+  assert.ok(text.finals.every((/** @type {string[]} */ it, /** @type {number} */ at) => it === held[at]));
 });
 
 test('the signs of each bundle can be chosen, equal ones that follow each other once', () => {

@@ -7,7 +7,7 @@ import { dirname, join } from 'node:path';
 
 import { commandLines, saidByAll } from '../../alone.js';
 import { catalogueOf, rollOf } from '../../tables.js';
-import { publishedOf } from '../../texts.js';
+import { countsOf, publishedOf } from '../../texts.js';
 
 export const TOP = join(dirname(fileURLToPath(import.meta.url)), '../../..');
 
@@ -60,6 +60,7 @@ export function marketIn({ catalogue, roll, settings, text, sessions }) {
     catalogue: sections, roll: students, text: published, said, parts: { text: { bytes: text } },
     settings: JSON.parse(plain(settings)),
     wishes: wishesAfter(lines), sectionOf: new Map(sections.map(it => [it.name, it])),
+    counts: countsOf(published.bundles.map(it => it.names), sections),
   };
 }
 
