@@ -226,7 +226,7 @@ function listenToPrints() {
   /** @type {Opening[]} */
   const closed = [];
   addEventListener('beforeprint', () => {
-    /** @type {any} */ (shownView()).fill?.();
+    for (const it of [shownView(), ...shownView().querySelectorAll('.below')]) /** @type {any} */ (it).fill?.();
     for (const it of shownView().querySelectorAll('tbody')) it.fill?.();
     const folded = 'details.question:not([open]):has(.answer), details.paper:not([open])';
     for (const it of /** @type {NodeListOf<Opening>} */ (document.querySelectorAll(folded))) {

@@ -6,6 +6,7 @@ import { drawingOf } from './drawing.js';
 import { button, el, opening, p, part } from './elements.js';
 import { envyOfOne, envyPart, isSmall } from './envy.js';
 import { tableOf } from './grid.js';
+import { drawInTurn, oncePainted } from './in_turn.js';
 import { knownNodes } from './known_view.js';
 import { judgedStages, stagesOf, unjudgedWords, unratedIn } from './one_student.js';
 import { menuOf, priceOf, raisedBudget, walkOf, worthOf } from './reckoning.js';
@@ -155,26 +156,19 @@ function answerPart(market, student, stages, ended) {
 }
 
 /**
- * All of one student: what it holds stands at once, the answer above it as soon as the program has judged, and the
- * parts below, with a line that leads to each, once the answer is drawn, which would else wait for them. On a phone the
+ * All of one student: what it holds stands at once, with a line that leads to each part below; the answer above it as
+ * soon as the program has judged; and the parts once the answer is seen, which would else wait for them. On a phone the
  * parts are screens long, so the line stands above what else is told.
  * @param {Market} market @param {number} student
  * @returns {any[]}
  */
 export function studentView(market, student) {
   const stages = stagesOf(market, student), name = market.roll[student].name, shown = studentName(market, student);
-  const below = el('div'), ways = el('nav', { class: 'ways on-screen', 'aria-label': 'Parts below' });
-  const drawBelow = () => {
-    if (!below.isConnected) return;
-    const parts = partsBelow(market, student, stages);
-    ways.append(...parts.map(([words, it]) => button(words, () => goTo(it))));
-    below.append(...parts.map(([, it]) => it));
-    for (const [, it] of parts) it.append(wayUp(head));
-  };
   const head = el('h2', { tabindex: '-1' }, shown, shown === name ? '' : el('span', { class: 'quiet' }, ` ${name}`));
+  const { ways, below, draw } = waysBelow(partsBelow(market, student, stages), head);
   return [
     head,
-    answerPart(market, student, stages, () => setTimeout(drawBelow)),
+    answerPart(market, student, stages, () => oncePainted(draw)),
     heldWeek(market, student, stages),
     ways,
     ...knownNodes(market),
@@ -183,20 +177,39 @@ export function studentView(market, student) {
 }
 
 /**
+ * The line that leads to each part, and where the parts are drawn: one after another when that is begun, and all at
+ * once when one of them is asked for, or the page is printed.
+ * @param {[string, () => HTMLElement][]} parts @param {HTMLElement} head to which each leads back
+ */
+function waysBelow(parts, head) {
+  const below = el('div', { class: 'below' });
+  const made = parts.map(([, make]) => () => {
+    const it = make();
+    it.append(wayUp(head));
+    return it;
+  });
+  const draw = () => { if (!below.childElementCount) drawInTurn(below, made); };
+  below.fill = () => { draw(); below.fill?.(); };
+  const ways = el('nav', { class: 'ways on-screen', 'aria-label': 'Parts below' },
+    parts.map(([words], at) => button(words, () => { below.fill?.(); goTo(below.children[at]); })));
+  return { ways, below, draw };
+}
+
+/**
  * The parts below the answer, each with the words that lead to it.
  * @param {Market} market @param {number} student @param {Stage[]} stages
- * @returns {[string, HTMLElement][]}
+ * @returns {[string, () => HTMLElement][]}
  */
 function partsBelow(market, student, stages) {
   const envy = () => part('What others have', envyPart(market, () => envyOfOne(market, student), isSmall(market)));
   return [
-    ['Stages', part('Stage by stage', ...stageNodes(market, student, stages))],
-    ['Why not?', part('Why not?', ...whyNodes(market, student, stages))],
-    ['What if?', onScreen('What if?', ...whatIfNodes(market, student))],
-    ['Signs', onScreen('What the signs mean', ...signsNodes(market, student, stages))],
-    ['Prices', part('Ratings and prices', ratedTable(market, student), adjustmentWords(market, student))],
-    ...market.isOwn ? [] : /** @type {[string, HTMLElement][]} */ ([['Others', envy()]]),
-    ['Print', part('On paper', ...sheetNodes(market))],
+    ['Stages', () => part('Stage by stage', ...stageNodes(market, student, stages))],
+    ['Why not?', () => part('Why not?', ...whyNodes(market, student, stages))],
+    ['What if?', () => onScreen('What if?', ...whatIfNodes(market, student))],
+    ['Signs', () => onScreen('What the signs mean', ...signsNodes(market, student, stages))],
+    ['Prices', () => part('Ratings and prices', ratedTable(market, student), adjustmentWords(market, student))],
+    ...market.isOwn ? [] : /** @type {[string, () => HTMLElement][]} */ ([['Others', envy]]),
+    ['Print', () => part('On paper', ...sheetNodes(market))],
   ];
 }
 

@@ -30,6 +30,9 @@ WORK = """(() => {
 # The milliseconds of processor time of that work on the machine on which the marks by time were set.
 WORK_TAKES = 100
 
+# Whether all of what is looked at stands there: nothing is still to be drawn, and the program has answered.
+DRAWN = "!document.querySelector('.below')?.fill && !isWorking()"
+
 HERE = Path(__file__).resolve().parent
 TOP = HERE.parents[1]
 TERM, MARKET = TOP / "examples/term", TOP / "examples/market"

@@ -27,7 +27,7 @@ ANSWER = """(async name => {
   while (!/^Yes|^No/.test(document.querySelector('#answer .lead').textContent)) await next();
   performance.mark(`${name} answered`);
   const answered = performance.now() - begun;
-  while (!document.querySelector('.question') || isWorking()) await next();
+  while (!document.querySelector('.question') || document.querySelector('.below')?.fill || isWorking()) await next();
   return [answered, performance.now() - begun];
 })"""
 # Waits till what was drawn is laid out, and seen.

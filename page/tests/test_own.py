@@ -8,7 +8,7 @@ from collections.abc import Mapping
 from pathlib import Path
 
 from browser import Browser, browser, chromium
-from common import PAGE, PICTURES, TERM, open_page
+from common import DRAWN, PAGE, PICTURES, TERM, open_page
 
 PUBLISHED = ["catalogue.csv", "roll.csv", "settings.json", "published.txt"]
 HEAD = "# What n.jones said, in the order in which the desk took it.\n"
@@ -65,9 +65,9 @@ class Own(unittest.TestCase):
         self.tab.choose("#choose", [self.room / it for it in given])
 
     def answer(self, begins: str) -> str:
-        """Waits for the first line of the answer; answers all words of the answer."""
+        """Waits for the first line of the answer, and for all below it; answers all words of the answer."""
         self.tab.wait(
-            f"document.querySelector('#answer .lead')?.textContent.startsWith({json.dumps(begins)}) && !isWorking()"
+            f"document.querySelector('#answer .lead')?.textContent.startsWith({json.dumps(begins)}) && {DRAWN}"
         )
         return self.words("#answer")
 
@@ -184,6 +184,51 @@ class Own(unittest.TestCase):
                 self.click(words)
                 self.assertEqual(title, self.tab.evaluate("document.activeElement.textContent"))
                 self.assertTrue(-1 < self.tab.evaluate("document.activeElement.getBoundingClientRect().top") < 60)
+
+    def test_answer_is_seen_before_the_parts_are_drawn_and_each_is_there_when_it_is_asked_for(self) -> None:
+        """The frames of the browser are held back here: what was drawn is not seen before one comes."""
+        hold = "globalThis.frames = []; globalThis.requestAnimationFrame = it => frames.push(it)"
+        titles = "[...document.querySelectorAll('.below > section > h3')].map(it => it.textContent)"
+        six = ["Stage by stage", "Why not?", "What if?", "What the signs mean", "Ratings and prices", "On paper"]
+        anew = "show('student'); showNobody(); frames.splice(0); showStudent('n.jones')"
+        seen = "document.querySelector('#answer .lead')?.textContent.startsWith('Yes') && frames.length === 1"
+        self.tab.evaluate(hold)
+        self.give()
+        self.tab.wait(seen)
+        self.assertEqual([], self.tab.evaluate(titles))
+        self.assertEqual(6, self.tab.evaluate("document.querySelectorAll('.ways button').length"))
+        self.tab.evaluate("frames.pop()()")
+        self.tab.wait(DRAWN)
+        self.assertEqual(six, self.tab.evaluate(titles))
+        for what, go in (
+            ("a part is asked for", "[...document.querySelectorAll('.ways button')][4].click()"),
+            ("the page is printed", "dispatchEvent(new Event('beforeprint'))"),
+        ):
+            with self.subTest(what=what):
+                self.tab.evaluate(anew)
+                self.tab.wait(seen)
+                self.tab.evaluate(go)
+                self.assertEqual(six, self.tab.evaluate(titles))
+                self.assertFalse(self.tab.evaluate("!!document.querySelector('.below').fill"))
+                if what == "a part is asked for":
+                    self.assertEqual("Ratings and prices", self.tab.evaluate("document.activeElement.textContent"))
+                rated = "document.querySelectorAll('[aria-label^=\"What n.jones rated\"] tbody tr').length"
+                self.assertLess(3, self.tab.evaluate(rated))
+                self.tab.evaluate("frames.pop()()")
+                self.tab.wait(DRAWN)
+                self.assertEqual(six, self.tab.evaluate(titles))
+        with self.subTest(what="nobody looks at the page"):
+            self.tab.evaluate("Object.defineProperty(document, 'hidden', { value: true, configurable: true })")
+            self.tab.evaluate(anew)
+            self.tab.wait(f"{titles}.length === 6 && {DRAWN}")
+            self.assertEqual(0, self.tab.evaluate("frames.length"))
+        with self.subTest(what="another student is shown meanwhile"):
+            self.tab.evaluate("delete document.hidden")
+            self.tab.evaluate(anew)
+            self.tab.wait(seen)
+            self.tab.evaluate("globalThis.gone = document.querySelector('.below'); showNobody(); frames.pop()()")
+            self.tab.evaluate("new Promise(done => setTimeout(done, 50))")
+            self.assertEqual(0, self.tab.evaluate("gone.childElementCount"))
 
     def test_each_part_leads_back_to_the_top(self) -> None:
         self.give()

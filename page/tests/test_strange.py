@@ -7,7 +7,7 @@ import unittest
 from pathlib import Path
 
 from browser import Browser, browser, chromium
-from common import PAGE, TERM, open_page
+from common import DRAWN, PAGE, TERM, open_page
 
 STUDENTS = ["total", "__proto__", "constructor", "toString", "hasOwnProperty", "end"]
 SECTIONS = ["__proto__", "constructor", "valueOf", "total", "bundle"]
@@ -74,7 +74,7 @@ class Strange(unittest.TestCase):
             with self.subTest(name=name):
                 self.tab.evaluate(f"showStudent({json.dumps(name)})")
                 self.tab.wait("/^Yes|rated nothing/.test(document.querySelector('#answer .lead').textContent)")
-                self.tab.wait("document.querySelector('#student-answer table') && !isWorking()")
+                self.tab.wait(f"document.querySelector('#student-answer table') && {DRAWN}")
                 final = next(it for it in text.splitlines() if it.startswith(f"final {name} "))
                 held = [it for it in final.split(" ")[2].strip("[]").split(",") if it]
                 told = self.tab.evaluate("document.querySelector('.holds').textContent")
@@ -119,7 +119,7 @@ class Strange(unittest.TestCase):
                 self.tab.evaluate("list.set([])")
                 self.give({**files, "published.txt": text, f"{name}.session": own, "names.csv": names})
                 lead = "document.querySelector('#answer .lead')?.textContent"
-                self.tab.wait(f"{lead}?.startsWith('Yes') && !isWorking()")
+                self.tab.wait(f"{lead}?.startsWith('Yes') && {DRAWN}")
                 heading = self.tab.evaluate("document.querySelector('#student-answer h2').textContent")
                 self.assertEqual(f"{HOSTILE} {name}", heading)
 

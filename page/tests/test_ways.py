@@ -10,7 +10,7 @@ from collections.abc import Mapping
 from pathlib import Path
 
 from browser import Browser, browser, chromium
-from common import PAGE, PICTURES, TERM, open_page
+from common import DRAWN, PAGE, PICTURES, TERM, open_page
 
 FILES = ["catalogue.csv", "roll.csv", "settings.json", "published.txt", "desk.session", "web.session"]
 BESIDE = ["dropadd.txt", "envy.txt", "reason.txt", "desk.requests"]
@@ -116,7 +116,7 @@ class Ways(unittest.TestCase):
         self.tab.evaluate("$('student-name').select()")
         self.tab.type(name)
         self.tab.press("Enter", "\r")
-        self.tab.wait(f"$('student-answer').querySelector('h2')?.textContent === {json.dumps(name)} && !isWorking()")
+        self.tab.wait(f"$('student-answer').querySelector('h2')?.textContent === {json.dumps(name)} && {DRAWN}")
 
     def test_files_and_folders_are_dropped(self) -> None:
         self.tab.drop([TERM / it for it in FILES])
