@@ -13,12 +13,14 @@ import { $, el, p } from './elements.js';
 const NAMES_OF = { module: 'module', example: 'example term', worker: 'worker\'s script' };
 
 /**
- * Bytes that were packed into the page: compressed, and written in base64.
+ * Bytes that were packed into the page: compressed, and written in base64. (A loop reads them in a third of the time of
+ * `Uint8Array.from`, which holds the page up as it opens.)
  * @param {string} id
  * @returns {Promise<Uint8Array>}
  */
 async function unpacked(id) {
-  const bytes = Uint8Array.from(atob($(id).textContent.trim()), it => it.charCodeAt(0));
+  const signs = atob($(id).textContent.trim()), bytes = new Uint8Array(signs.length);
+  for (let at = 0; at < bytes.length; at++) bytes[at] = signs.charCodeAt(at);
   const stream = new Blob([bytes]).stream().pipeThrough(new DecompressionStream('gzip'));
   return new Uint8Array(await new Response(stream).arrayBuffer());
 }
