@@ -1,6 +1,7 @@
 import assert from 'node:assert/strict';
 import { test } from 'node:test';
 
+import { dayWords } from '../../sheet.js';
 import { halfWords, weekOf } from '../../timetable.js';
 
 /** @param {string} name @param {string[]} times @param {string} [parts] @returns {any} */
@@ -28,4 +29,11 @@ test('halves of the term share a cell, and are told', () => {
   const one = section('A', ['M0900-1020'], '1'), other = section('B', ['M0900-1020'], '2');
   assert.deepEqual(weekOf([one, other]).rows[0].cells[0], [one, other]);
   assert.deepEqual([one, other, section('C', [])].map(halfWords), ['first half', 'second half', '']);
+});
+
+test('a sheet says its day and time as the browser would', () => {
+  for (const month of Array(12).keys()) {
+    const time = new Date(2025, month, 1 + 2 * month, 2 * month, 5 * month);
+    assert.equal(dayWords(time), time.toLocaleString('en-GB', { dateStyle: 'long', timeStyle: 'short' }));
+  }
 });
