@@ -59,6 +59,7 @@ export class Program {
    */
   async read(reading, given) {
     const answer = await this.told({ reading, given });
+    await pause(); // (what was read may be long: taking it out of its message, and what is done with it, are two tasks)
     if (answer.fault) throw new Error(answer.fault);
     return answer.status === 'stopped' ? null : answer.value;
   }
