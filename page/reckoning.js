@@ -1,7 +1,7 @@
 // What the page works out by itself, to draw a tree that the program has checked: which sections clash, what a bundle
 // is worth, what is left, and the bound that closes a node (FORMATS, "Best bundles" and "Trees").
 
-import { grouped, plural } from './wording.js';
+import { grouped, listed, plural } from './wording.js';
 
 /** @param {Meeting} one @param {Meeting} other */
 function overlaps(one, other) {
@@ -138,6 +138,13 @@ export function leftOf(walk, chosen) {
 }
 
 /**
+ * Beside what something is taken, or left, in words; nothing where nothing is taken yet.
+ * @param {{ menu: Menu }} walk @param {number[]} chosen
+ */
+export const besideWords = ({ menu }, chosen) =>
+  chosen.length ? ` beside ${listed(chosen.map(it => menu.places[it].shown))}` : '';
+
+/**
  * What closes a place, which tells itself in words; null where it is open. (Trees have thousands of places, and few are
  * told.)
  * @param {Walk} walk @param {number[]} chosen @param {number} place @param {Left} left beside what is chosen
@@ -151,11 +158,13 @@ function closingOf(walk, chosen, place, left) {
     if (clash) return () => `${clash} ${other.shown}`;
   }
   if (price > left.b) {
-    return () => `has the price ${grouped(price)}, and ${plural(left.b, 'token is', 'tokens are')} left`;
+    return () => `has the price ${grouped(price)}, and ${plural(left.b, 'token is', 'tokens are')} left`
+      + besideWords(walk, chosen);
   }
   if (section.credits > left.c) {
     return () =>
-      `has ${plural(section.credits, 'credit')}, and ${plural(left.c, 'credit is', 'credits are')} left`;
+      `has ${plural(section.credits, 'credit')}, and ${plural(left.c, 'credit is', 'credits are')} left`
+      + besideWords(walk, chosen);
   }
   if (left.m < 1) return () => `would be one section more than the ${walk.courses} that the roll allows`;
   return null;

@@ -1,7 +1,7 @@
 // Explains the signs of a tree one after another, and stops at the first that does not fit (FORMATS, "Trees").
 
 import {
-  TAKES, boundOf, closedBy, firstDifference, leftOf, losesTies, openPlaces, worthOf,
+  TAKES, besideWords, boundOf, closedBy, firstDifference, leftOf, losesTies, openPlaces, worthOf,
 } from './reckoning.js';
 import { grouped, listed, plural, visible } from './wording.js';
 
@@ -134,7 +134,7 @@ function signWords(node, sign) {
   if (sign === '-') return { section: it.shown, words: `is left out: it ${closedBy(walk, chosen, place)}.` };
   const asked = sign === '!' ? ', as the section that is asked for has to be' : '';
   const costs = `(rating ${it.rating}, price ${grouped(it.price)})`, left = leftWords(walk, [...chosen, place]);
-  return { section: it.shown, words: `is taken${asked} ${costs}: ${left}.` };
+  return { section: it.shown, words: `is taken${besideWords(walk, chosen)}${asked} ${costs}: ${left}.` };
 }
 
 /**

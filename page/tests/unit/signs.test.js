@@ -82,7 +82,9 @@ test('the signs of n.jones are read as the guide reads them', () => {
   assert.equal(told[0], 'ACCT-611-B is taken (rating 88, price 851): left are 3,691 of 4,542 tokens, 6 of 8 credits '
     + 'and 4 of 5 sections.');
   assert.deepEqual(told.slice(2, 4), ['FNCE-601-B is left out: it is of the same course as FNCE-601-A.',
-    'FNCE-717-A is left out: it has the price 3,252, and 1,749 tokens are left.']);
+    'FNCE-717-A is left out: it has the price 3,252, and 1,749 tokens are left beside ACCT-611-B and FNCE-601-A.']);
+  assert.equal(told[1], 'FNCE-601-A is taken beside ACCT-611-B (rating 100, price 1,942): left are 1,749 of 4,542 '
+    + 'tokens, 4 of 8 credits and 3 of 5 sections.');
   assert.equal(told[11], 'This is the bundle: ACCT-611-B, FNCE-601-A and HCMG-841-A, worth 260. Nothing is left to '
     + 'decide.');
   assert.deepEqual(steps.map(it => it.back).slice(11), ['', 'Back at HCMG-841-A, now without it:',
