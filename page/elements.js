@@ -113,6 +113,15 @@ export function opening(summary, make, isOpen = false, properties = {}) {
 }
 
 /**
+ * Brings an answer into sight, where it does not stand in the upper half of the screen.
+ * @param {HTMLElement} answer
+ */
+export function toAnswer(answer) {
+  const { top } = answer.getBoundingClientRect();
+  if (top < 0 || top > innerHeight / 2) answer.scrollIntoView();
+}
+
+/**
  * Saves bytes or a text as a file.
  * @param {string} name
  * @param {Uint8Array | string} content

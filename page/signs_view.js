@@ -1,6 +1,6 @@
 // The signs behind a student's bundles, and signs that are pasted, explained one after another.
 
-import { button, code, el, namesCell, opening, p } from './elements.js';
+import { button, code, el, namesCell, opening, p, toAnswer } from './elements.js';
 import { unratedIn } from './one_student.js';
 import { menuOf, walkOf } from './reckoning.js';
 import { keyOf, placeNames, sign } from './sign_key.js';
@@ -87,15 +87,6 @@ function pasteForm(paste) {
     el('form', { class: 'signs', onsubmit }, el('label', { for: 'signs' }, 'The signs'), field,
       el('button', { class: 'main' }, 'Explain')),
   ];
-}
-
-/**
- * Brings an answer into sight, where it does not stand in the upper half of the screen.
- * @param {HTMLElement} answer
- */
-function toAnswer(answer) {
-  const { top } = answer.getBoundingClientRect();
-  if (top < 0 || top > innerHeight / 2) answer.scrollIntoView();
 }
 
 /**

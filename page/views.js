@@ -1,7 +1,7 @@
 // The views, of which each has a tab, and what is looked at in them.
 
 import { auditorParts } from './auditor.js';
-import { $, button, el, p, suggestions } from './elements.js';
+import { $, button, el, p, suggestions, toAnswer } from './elements.js';
 import { drawInTurn } from './in_turn.js';
 import { knownNodes } from './known_view.js';
 import { studentView } from './student.js';
@@ -120,7 +120,10 @@ function showStudent(typed, focuses = true) {
   $('student-said').textContent = focuses ? '' : 'shown below';
   drawStudent(found);
   remember(!focuses);
-  if (focuses) $('student-answer').querySelector('h2').focus({ preventScroll: false });
+  if (!focuses) return;
+  const head = $('student-answer').querySelector('h2');
+  head.focus({ preventScroll: true });
+  toAnswer(head);
 }
 
 /** @param {Market} market */

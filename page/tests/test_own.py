@@ -230,6 +230,28 @@ class Own(unittest.TestCase):
             self.tab.evaluate("new Promise(done => setTimeout(done, 50))")
             self.assertEqual(0, self.tab.evaluate("gone.childElementCount"))
 
+    def test_who_asks_for_a_student_of_the_whole_text_sees_its_answer_with_the_line_to_the_parts(self) -> None:
+        """Below the verdict it would begin in the lower half of a phone's screen; on a high screen there is room for both.
+        While a name is typed nothing moves."""
+        self.give({it: (TERM / it).read_bytes() for it in ("desk.session", "web.session")})
+        self.verdict("This text holds")
+        self.tab.evaluate("document.querySelector('.unproved')?.remove()")
+        self.fill("student-name", "n.jones")
+        self.answer("Yes")
+        self.assertEqual(0, self.tab.evaluate("scrollY"))
+        self.tab.evaluate("document.querySelector('.chooser').requestSubmit()")
+        ends = self.tab.evaluate(
+            "['#student-answer h2', '.ways'].map(it => (({ top, bottom }) => [top, bottom])"
+            "(document.querySelector(it).getBoundingClientRect())).flat()"
+        )
+        self.assertEqual(sorted(ends), ends)
+        self.assertTrue(-1 < ends[0] < 422 and ends[-1] < 844, ends)
+        self.assertEqual("H2", self.tab.evaluate("document.activeElement.tagName"))
+        self.tab.look(1200, 1200)
+        self.tab.evaluate("scrollTo(0, 0); document.querySelector('.chooser').requestSubmit()")
+        self.assertEqual(0, self.tab.evaluate("scrollY"))
+        self.tab.look(390, 844)
+
     def test_each_part_leads_back_to_the_top(self) -> None:
         self.give()
         self.answer("Yes")
