@@ -464,7 +464,7 @@ class Own(unittest.TestCase):
         ):
             self.assertIn(words, told)
         self.give({"n.jones.session": own_lines() + b"rate n.jones HCMG-841-A 0\n"})
-        self.tab.wait("$('answer')?.textContent.includes('a section is not rated')")
+        self.tab.wait(f"$('answer')?.textContent.includes('a section is not rated') && {DRAWN}")
         self.assertIn(
             "Its signs cannot be drawn, since not rated above 0: HCMG-841-A",
             self.tab.evaluate(
