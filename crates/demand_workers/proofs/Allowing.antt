@@ -13,9 +13,9 @@ pub spent_both : (first second left left_first left_then before now after : ℕ)
 spent_both first second left left_first left_then before now after one other = record { kept = omega arith; paid = omega arith; less = omega arith }
 
 -- and then a part that is not taken from those who may be asked
-pub spent_besides : (rise left left_then before now after : ℕ) → HasSpent 0 left left_then before now → RoseAtMost rise now after
-    → HasSpent rise left left_then before after
-spent_besides rise left left_then before now after one other = record { kept = omega arith; paid = omega arith; less = one.less }
+pub spent_besides : (first rise most left left_then before now after : ℕ) → HasSpent first left left_then before now → RoseAtMost rise now after
+    → first + rise ≤ most → HasSpent most left left_then before after
+spent_besides first rise most left left_then before now after one other within = record { kept = omega arith; paid = omega arith; less = one.less }
 
 -- more may be asked besides
 pub spent_within : (first more left left_then before now : ℕ) → HasSpent first left left_then before now → first ≤ more

@@ -26,11 +26,10 @@ halving_from crowd prices trial s limit from high are copied at_top low capped l
       omega (arith, none);
 }
 
--- more take the section where the same is asked of the same crowd
-pub asked_as : (crowd known : CrowdData) (trial asked : List Tokens) (limit s : ℕ) → known ≡ crowd → asked ≡ trial
-    → limit < count known (price_in asked) s → limit < count crowd (price_in trial) s
-asked_as crowd known trial asked limit s same copied more =
-    subst (λ (w : CrowdData). limit < count w (price_in trial) s) same (subst (λ (l : List Tokens). limit < count known (price_in l) s) copied more)
+-- more take the section where the same is asked
+pub asked_as : (crowd : CrowdData) (trial asked : List Tokens) (limit s : ℕ) → asked ≡ trial → limit < count crowd (price_in asked) s
+    → limit < count crowd (price_in trial) s
+asked_as crowd trial asked limit s copied more = subst (λ (l : List Tokens). limit < count crowd (price_in l) s) copied more
 
 -- all its rounds
 pub halvings_rose : (each n low high before now digits : ℕ) → AreHalvings each n low high before now → n < 2 ^ digits → RoseAtMost (digits * each) before now

@@ -8,23 +8,23 @@ ghost use Rattle.demand_workers.specs.Answering.{answer_to};
 ghost use Rattle.demand_workers.specs.Leaving.{leaves, takes, AreLeft, AreListed};
 ghost use Rattle.demand_workers.specs.Views.{crowd_of, price_before};
 
+use crate::notes::Notes;
 use crate::question::Question;
 use crate::remembered::Remembered;
 use bundle_rules::{Bundle, price_of};
 use market_units::{MAX_PRICE, NoMemory, SectionNo, StudentNo, Tokens};
 use std::alloc::Global;
-use std::sync::Arc;
 
-// Where a walk ended: a price of its section from the remembered one up, at most the top, the others
-// as remembered. `least_price` makes it with the least price.
-#[derive(Drop)]
-pub(crate) struct WalkEnd {
-    pub remembered: Arc<Remembered>,
+// Where a walk ended, which went by these notes: a price of its section from the remembered one up,
+// at most the top, the others as remembered.
+#[derive(Clone, Copy)]
+pub(crate) struct WalkEnd<'a> {
+    pub notes: &'a Notes,
     pub section: SectionNo,
     pub least: Tokens,
-    pub ghost within: { section.0 < (arc_value (arc_value remembered).crowd).sections },
-    pub ghost low: { price_before (arc_value remembered) section.0 ≤ least.0 },
-    pub ghost high: { least.0 ≤ top (crowd_of (arc_value remembered)) },
+    pub ghost within: { section.0 < (arc_value (arc_value notes.now.remembered).crowd).sections },
+    pub ghost low: { price_before (arc_value notes.now.remembered) section.0 ≤ least.0 },
+    pub ghost high: { least.0 ≤ top (crowd_of (arc_value notes.now.remembered)) },
 }
 
 // A holder of a section: `MAX_PRICE` less the price at which it leaves, and its number. The

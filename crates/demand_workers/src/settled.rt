@@ -7,7 +7,6 @@ ghost use Rattle.demand_workers.specs.Views.{crowd_of};
 
 use crate::cheaper::Cheaper;
 use crate::leaving::WalkEnd;
-use crate::notes::Notes;
 use crate::question::Question;
 use crate::remembered::Remembered;
 use bundle_rules::Bundle;
@@ -16,23 +15,17 @@ use market_units::{StudentNo, Tokens};
 /// What the student takes at these prices: the remembered ones, with the section at the least price
 /// of the walk. Who can still pay takes what is remembered, since no section became cheaper. Of
 /// another it is what is noted; `None` where nothing serves.
-pub(crate) fn settled(
-    notes: &Notes,
-    walk: &WalkEnd,
-    prices: &[Tokens],
-    student: StudentNo,
-) -> Option<Bundle>
-    requires same { arc_value notes.now.remembered ≡ arc_value walk.now.remembered }
+pub(crate) fn settled(walk: &WalkEnd, prices: &[Tokens], student: StudentNo) -> Option<Bundle>
     requires raised { prices.now
-        ≡ slice_set (arc_value walk.now.remembered).prices.items walk.now.section.0
+        ≡ slice_set (arc_value walk.now.notes.now.remembered).prices.items walk.now.section.0
         walk.now.least }
     requires student { student.0
-        < length (arc_value (arc_value walk.now.remembered).crowd).menus.items }
+        < length (arc_value (arc_value walk.now.notes.now.remembered).crowd).menus.items }
     ensures { IfSome result
         (λ bundle. sections_of bundle
-        ≡ demand_of (crowd_of (arc_value walk.now.remembered)) (price_in prices.now) student.0) }
+        ≡ demand_of (crowd_of (arc_value walk.now.notes.now.remembered)) (price_in prices.now) student.0) }
 {
-    let remembered: &Remembered = &walk.remembered;
+    let remembered: &Remembered = &walk.notes.remembered;
     let question = Question {
         remembered,
         prices,
@@ -41,5 +34,5 @@ pub(crate) fn settled(
     if question.stays(Cheaper::nowhere(&remembered.prices, prices)) {
         return Some(*question.earlier());
     }
-    notes.told(&question)
+    walk.notes.told(&question)
 }

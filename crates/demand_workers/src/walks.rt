@@ -1,9 +1,9 @@
 // Walks to least prices, by what is noted or asked.
-ghost use Rattle.std.specs.Prelude.{◌≡◌, ◌<◌, ◌≤◌, ◌*◌, ◌^◌, ℕ, [], ◌∷◌, All, IfOk};
+ghost use Rattle.std.specs.Prelude.{◌≡◌, ◌<◌, ◌≤◌, ◌+◌, ◌*◌, ◌^◌, ℕ, [], ◌∷◌, All, IfOk};
 ghost use Rattle.std.specs.Prelude.{IfSome, Some, length, slice_set};
 ghost use Rattle.std.specs.Arc.{arc_value};
 ghost use Rattle.bundle_rules.specs.Bundles.{sections_of};
-ghost use Rattle.demand_api.specs.{Asking.RoseAtMost, Crowds.count, Crowds.top, Views.data_of};
+ghost use Rattle.demand_api.specs.{Asking.RoseAtMost, Crowds.count, Crowds.top};
 ghost use Rattle.demand_api.specs.Prices.{AreLeastPrices, IsLeastFrom, with_price};
 ghost use Rattle.demand_workers.specs.Allowances.{HasSpent};
 ghost use Rattle.price_board.specs.Tasks.{IsTask, taken_at};
@@ -12,10 +12,11 @@ ghost use Rattle.demand_workers.specs.{Remembered.AreTaken, Rounds.prices_of};
 ghost use Rattle.demand_workers.specs.{Surveys.AreOthersKept, Found.tasks_of};
 ghost use Rattle.demand_workers.specs.Views.{crowd_of, price_before};
 
-use crate::PooledDemands;
+use crate::asker::Asker;
 use crate::inquiry::Inquiries;
-use crate::leaving::{Holder, WalkEnd, holder_of, holders_by_section};
+use crate::leaving::{Holder, WalkEnd, holder_of, holders_by_section, holders_of};
 use crate::notes::Notes;
+use crate::pooled_demands::InquiryCount;
 use crate::question::Question;
 use crate::remembered::Remembered;
 use crate::settled::settled;
@@ -53,91 +54,84 @@ fn at_remembered(
     Ok(inquiries)
 }
 
-impl PooledDemands<AnyGate<'_>> {
+impl Asker<'_, AnyGate<'_>> {
     /// For each pair of a section and a limit the least price of the section from its remembered
     /// one up at which at most so many students take it, the other prices as remembered. Walks ask
     /// those who are left, each pair's walk no more than its share; where nobody is, a round asks
     /// all, for each digit of the top at most. The only error is that memory was not given.
     pub(crate) fn least_for_each<R: Threads + Wait + Sync>(
-        &mut self,
+        &self,
         rt: &R,
-        alloc: Global,
+        inquiries: &mut InquiryCount,
         notes: &mut Notes,
         pairs: &[(SectionNo, u32)],
         left: &mut u64,
     ) -> Result<Vec<Tokens>, NoMemory>
-        requires crowd { crowd_of (arc_value notes.old.remembered)
-            ≡ data_of (arc_value self.old.crowd) }
         requires sections { All
             (λ pair. pair.0.0 < (arc_value (arc_value notes.old.remembered).crowd).sections)
             pairs.now }
-        ensures kept { (self.new.crowd ≡ self.old.crowd) × (self.new.asked ≡ self.old.asked) }
         ensures inquiries { (digits : ℕ)
             → top (crowd_of (arc_value notes.old.remembered)) < 2 ^ digits
             → HasSpent
             (length pairs.now
             * (digits * length (crowd_of (arc_value notes.old.remembered)).students))
-            left.old left.new self.old.inquiries self.new.inquiries }
+            left.old left.new inquiries.old inquiries.new }
         ensures same { IfOk result (λ found. notes.new.remembered ≡ notes.old.remembered) }
         ensures least { IfOk result
             (λ found. AreLeastPrices (crowd_of (arc_value notes.old.remembered))
             (price_before (arc_value notes.old.remembered)) pairs.now found.items) }
     {
-        let lists = holders_by_section(alloc, &notes.remembered)?;
-        let mut found = Vec::new(alloc);
+        let lists = holders_by_section(self.alloc, &notes.remembered)?;
+        let mut found = Vec::new(self.alloc);
         for place in 0..pairs.len() {
             let pair = pairs[place];
             let list = &lists[usize::from(pair.0.0)];
             let mut share = *left / (pairs.len() - place) as u64;
             *left -= share;
-            let walk = self.least_price(rt, alloc, notes, pair, list, &mut share)?;
+            let least = self.least_price(rt, inquiries, notes, pair, list, &mut share)?;
             *left += share;
-            found.push(walk.least)?;
+            found.push(least)?;
         }
         Ok(found)
     }
 
-    /// The walk to the least price of a section for one limit, from all who hold it. As long as
-    /// these are too many, the first of them to leave is asked at the price from which it does not
-    /// keep what it holds: it holds the section from then on up to another price, or leaves. Where
-    /// nobody may be asked any more, the rest is found by halving, so that no crowd makes a walk
-    /// long.
-    pub(crate) fn least_price<R: Threads + Wait + Sync>(
-        &mut self,
+    // The walk to the least price of a section for one limit, from all who hold it. As long as
+    // these are too many, the first of them to leave is asked at the price from which it does not
+    // keep what it holds: it holds the section from then on up to another price, or leaves. Where
+    // nobody may be asked any more, the rest is found by halving, so that no crowd makes a walk
+    // long.
+    fn least_price<R: Threads + Wait + Sync>(
+        &self,
         rt: &R,
-        alloc: Global,
+        inquiries: &mut InquiryCount,
         notes: &mut Notes,
         pair: (SectionNo, u32),
         list: &[Holder],
         left: &mut u64,
-    ) -> Result<WalkEnd, NoMemory>
-        requires crowd { crowd_of (arc_value notes.old.remembered)
-            ≡ data_of (arc_value self.old.crowd) }
+    ) -> Result<Tokens, NoMemory>
         requires section { pair.0.0
             < (arc_value (arc_value notes.old.remembered).crowd).sections }
         requires list { AreLeft (crowd_of (arc_value notes.old.remembered))
             (price_before (arc_value notes.old.remembered)) pair.0.0
             (price_before (arc_value notes.old.remembered) pair.0.0) list.now }
-        ensures kept { (self.new.crowd ≡ self.old.crowd) × (self.new.asked ≡ self.old.asked) }
         ensures inquiries { (digits : ℕ)
             → top (crowd_of (arc_value notes.old.remembered)) < 2 ^ digits
             → HasSpent (digits * length (crowd_of (arc_value notes.old.remembered)).students)
-            left.old left.new self.old.inquiries self.new.inquiries }
-        ensures same { IfOk result (λ walk. notes.new.remembered ≡ notes.old.remembered) }
-        ensures remembered { IfOk result
-            (λ walk. arc_value walk.remembered ≡ arc_value notes.old.remembered) }
-        ensures section { IfOk result (λ walk. walk.section ≡ pair.0) }
+            left.old left.new inquiries.old inquiries.new }
+        ensures same { IfOk result (λ least. notes.new.remembered ≡ notes.old.remembered) }
+        ensures high { IfOk result
+            (λ least. least.0 ≤ top (crowd_of (arc_value notes.old.remembered))) }
         ensures least { IfOk result
-            (λ walk. IsLeastFrom (price_before (arc_value notes.old.remembered) pair.0.0)
+            (λ least. IsLeastFrom (price_before (arc_value notes.old.remembered) pair.0.0)
             (crowd_of (arc_value notes.old.remembered))
-            (price_before (arc_value notes.old.remembered)) pair.0.0 pair.1 walk.least.0) }
+            (price_before (arc_value notes.old.remembered)) pair.0.0 pair.1 least.0) }
     {
         let (section, limit) = pair;
         let remembered = Arc::try_clone(&notes.remembered)?;
         let known: &Remembered = &remembered;
         let mut least = known.prices[usize::from(section.0)];
         let mut room = [Tokens(0); ROOM];
-        let mut holders = BinaryHeap::from(list.to_vec(alloc)?);
+        let mut holders = BinaryHeap::from(list.to_vec(self.alloc)?);
         while holders.len() > limit as usize {
             let Some(first) = holders.pop() else {
                 unreachable!();
@@ -149,9 +143,9 @@ impl PooledDemands<AnyGate<'_>> {
                 version: 0,
                 raised: Some((section, least)),
             };
-            let told = self.told_or_asked(rt, alloc, notes, inquiry, left)?;
+            let told = self.told_or_asked(rt, inquiries, notes, inquiry, left)?;
             let Some(bundle) = told else {
-                return self.halved(rt, alloc, remembered, section, limit, least);
+                return self.halved(rt, inquiries, known, pair, least);
             };
             if !bundle.has(section) {
                 continue;
@@ -165,76 +159,70 @@ impl PooledDemands<AnyGate<'_>> {
             let holder = holder_of(&question, section, &bundle);
             holders.push(holder)?;
         }
-        Ok(WalkEnd {
-            remembered,
-            section,
-            least,
-        })
+        Ok(least)
     }
 
     // The walk's least price, where it is known that the section has too many takers below this
     // one: found by halving what is between this price and the top, where nobody takes it.
     fn halved<R: Threads + Wait + Sync>(
-        &mut self,
+        &self,
         rt: &R,
-        alloc: Global,
-        remembered: Arc<Remembered>,
-        section: SectionNo,
-        limit: u32,
+        inquiries: &mut InquiryCount,
+        known: &Remembered,
+        pair: (SectionNo, u32),
         from: Tokens,
-    ) -> Result<WalkEnd, NoMemory>
-        requires crowd { crowd_of (arc_value remembered) ≡ data_of (arc_value self.old.crowd) }
-        requires section { section.0 < (arc_value (arc_value remembered).crowd).sections }
-        requires low { price_before (arc_value remembered) section.0 ≤ from.0 }
-        requires high { from.0 ≤ top (crowd_of (arc_value remembered)) }
-        requires lower { (p : ℕ) → price_before (arc_value remembered) section.0 ≤ p → p < from.0
-            → limit
-            < count (crowd_of (arc_value remembered))
-            (with_price (price_before (arc_value remembered)) section.0 p) section.0 }
-        ensures kept { (self.new.crowd ≡ self.old.crowd) × (self.new.asked ≡ self.old.asked) }
-        ensures inquiries { (digits : ℕ) → top (crowd_of (arc_value remembered)) < 2 ^ digits
-            → RoseAtMost (digits * length (crowd_of (arc_value remembered)).students)
-            self.old.inquiries self.new.inquiries }
-        ensures remembered { IfOk result (λ walk. walk.remembered ≡ remembered) }
-        ensures section { IfOk result (λ walk. walk.section ≡ section) }
+    ) -> Result<Tokens, NoMemory>
+        requires section { pair.0.0 < (arc_value known.now.crowd).sections }
+        requires low { price_before known.now pair.0.0 ≤ from.0 }
+        requires high { from.0 ≤ top (crowd_of known.now) }
+        requires lower { (p : ℕ) → price_before known.now pair.0.0 ≤ p → p < from.0
+            → pair.1
+            < count (crowd_of known.now) (with_price (price_before known.now) pair.0.0 p)
+            pair.0.0 }
+        ensures inquiries { (digits : ℕ) → top (crowd_of known.now) < 2 ^ digits
+            → RoseAtMost (digits * length (crowd_of known.now).students) inquiries.old
+            inquiries.new }
+        ensures high { IfOk result (λ least. least.0 ≤ top (crowd_of known.now)) }
         ensures least { IfOk result
-            (λ walk. IsLeastFrom (price_before (arc_value remembered) section.0)
-            (crowd_of (arc_value remembered)) (price_before (arc_value remembered)) section.0
-            limit walk.least.0) }
+            (λ least. IsLeastFrom (price_before known.now pair.0.0) (crowd_of known.now)
+            (price_before known.now) pair.0.0 pair.1 least.0) }
     {
-        let mut trial = remembered.prices.as_slice().to_vec(alloc)?;
+        let (section, limit) = pair;
+        // Whom this asks is the crowd as it is remembered, which is the same.
+        let asker = Asker {
+            alloc: self.alloc,
+            crowd: &known.crowd,
+            pool: self.pool,
+            gate: self.gate,
+        };
+        let mut trial = known.prices.as_slice().to_vec(self.alloc)?;
         let place = usize::from(section.0);
         let mut low = from.0;
-        let mut high = self.crowd.top().0;
+        let mut high = known.crowd.top().0;
         while low < high {
             let middle = low + (high - low) / 2;
             trial[place] = Tokens(middle);
-            if self.is_exceeded(rt, alloc, &trial, section, limit)? {
+            if asker.is_exceeded(rt, inquiries, Some(known), &trial, section, limit)? {
                 low = middle + 1;
             } else {
                 high = middle;
             }
         }
-        Ok(WalkEnd {
-            remembered,
-            section,
-            least: Tokens(low),
-        })
+        Ok(Tokens(low))
     }
 
     // What the student of an inquiry takes at the remembered prices with the raised one: noted, or
     // asked alone; `None` where it is not noted, and nobody may be asked any more.
     fn told_or_asked<R: Threads + Wait + Sync>(
-        &mut self,
+        &self,
         rt: &R,
-        alloc: Global,
+        inquiries: &mut InquiryCount,
         notes: &mut Notes,
         inquiry: Task,
         left: &mut u64,
     ) -> Result<Option<Bundle>, NoMemory>
         requires inquiry { IsTask (crowd_of (arc_value notes.old.remembered)) 1 inquiry }
-        ensures kept { (self.new.crowd ≡ self.old.crowd) × (self.new.asked ≡ self.old.asked) }
-        ensures inquiries { HasSpent 0 left.old left.new self.old.inquiries self.new.inquiries }
+        ensures inquiries { HasSpent 0 left.old left.new inquiries.old inquiries.new }
         ensures same { IfOk result (λ told. notes.new.remembered ≡ notes.old.remembered) }
         ensures taken { IfOk result (λ told. IfSome told
             (λ bundle. sections_of bundle
@@ -249,67 +237,98 @@ impl PooledDemands<AnyGate<'_>> {
             return Ok(None);
         }
         *left -= 1;
-        let bundle = self.asked_alone(rt, alloc, notes, inquiry)?;
+        let bundle = self.asked_alone(rt, inquiries, notes, inquiry)?;
         Ok(Some(bundle))
     }
 
     // What the student of an inquiry takes there, asked in a round of its own, and noted.
     fn asked_alone<R: Threads + Wait + Sync>(
-        &mut self,
+        &self,
         rt: &R,
-        alloc: Global,
+        inquiries: &mut InquiryCount,
         notes: &mut Notes,
         inquiry: Task,
     ) -> Result<Bundle, NoMemory>
         requires { IsTask (crowd_of (arc_value notes.old.remembered)) 1 inquiry }
-        ensures kept { (self.new.crowd ≡ self.old.crowd) × (self.new.asked ≡ self.old.asked) }
-        ensures inquiries { RoseAtMost 1 self.old.inquiries self.new.inquiries }
+        ensures inquiries { RoseAtMost 1 inquiries.old inquiries.new }
         ensures same { IfOk result (λ bundle. notes.new.remembered ≡ notes.old.remembered) }
         ensures taken { IfOk result
             (λ bundle. sections_of bundle
             ≡ taken_at (crowd_of (arc_value notes.old.remembered))
             ((arc_value notes.old.remembered).prices.items ∷ []) inquiry) }
     {
-        let list = vec![in alloc; inquiry; 1]?;
-        let inquiries = at_remembered(alloc, &notes.remembered, list, notes.kept)?;
-        let found = self.inquire(rt, alloc, inquiries)?;
+        let list = vec![in self.alloc; inquiry; 1]?;
+        let listed = at_remembered(self.alloc, &notes.remembered, list, notes.kept)?;
+        let found = self.inquire(rt, inquiries, listed)?;
         if let Some(note) = found.note {
             notes.add(note)?;
         }
         Ok(found.bundles[0])
     }
 
-    /// What each student takes at the remembered prices with the section at the least price of a
-    /// walk from these holders. Who does not hold the section keeps what it takes, and so does a
-    /// holder that can still pay. A student of whom it is noted is not asked. Whom this does not
-    /// settle is asked. The only error is that memory was not given.
-    pub(crate) fn raised_memory<R: Threads + Wait + Sync>(
-        &mut self,
+    /// The walk of one pair, from all who hold its section, and what is taken at the least price:
+    /// who raises the price asks for that next. The only error is that memory was not given.
+    pub(crate) fn raised<R: Threads + Wait + Sync>(
+        &self,
         rt: &R,
-        alloc: Global,
-        notes: &Notes,
+        inquiries: &mut InquiryCount,
+        notes: &mut Notes,
+        pair: (SectionNo, u32),
+        left: &mut u64,
+    ) -> Result<(Tokens, Remembered), NoMemory>
+        requires { pair.0.0 < (arc_value (arc_value notes.old.remembered).crowd).sections }
+        ensures inquiries { (digits : ℕ)
+            → top (crowd_of (arc_value notes.old.remembered)) < 2 ^ digits
+            → HasSpent
+            ((digits + 1) * length (crowd_of (arc_value notes.old.remembered)).students)
+            left.old left.new inquiries.old inquiries.new }
+        ensures same { IfOk result (λ raised. notes.new.remembered ≡ notes.old.remembered) }
+        ensures least { IfOk result
+            (λ raised. IsLeastFrom (price_before (arc_value notes.old.remembered) pair.0.0)
+            (crowd_of (arc_value notes.old.remembered))
+            (price_before (arc_value notes.old.remembered)) pair.0.0 pair.1 raised.0.0) }
+        ensures crowd { IfOk result
+            (λ raised. crowd_of raised.1 ≡ crowd_of (arc_value notes.old.remembered)) }
+    {
+        let holders = holders_of(self.alloc, &notes.remembered, pair.0)?;
+        let least = self.least_price(rt, inquiries, notes, pair, &holders, left)?;
+        let walk = WalkEnd {
+            notes: &*notes,
+            section: pair.0,
+            least,
+        };
+        let memory = self.raised_memory(rt, inquiries, &walk, &holders)?;
+        Ok((least, memory))
+    }
+
+    // What each student takes at the remembered prices with the section at the least price of a
+    // walk from these holders. Who does not hold the section keeps what it takes, and so does a
+    // holder that can still pay. A student of whom it is noted is not asked. Whom this does not
+    // settle is asked. The only error is that memory was not given.
+    fn raised_memory<R: Threads + Wait + Sync>(
+        &self,
+        rt: &R,
+        inquiries: &mut InquiryCount,
         walk: &WalkEnd,
         holders: &[Holder],
     ) -> Result<Remembered, NoMemory>
-        requires same { arc_value notes.now.remembered ≡ arc_value walk.now.remembered }
-        requires holders { AreLeft (crowd_of (arc_value walk.now.remembered))
-            (price_before (arc_value walk.now.remembered)) walk.now.section.0
-            (price_before (arc_value walk.now.remembered) walk.now.section.0) holders.now }
-        ensures kept { (self.new.crowd ≡ self.old.crowd) × (self.new.asked ≡ self.old.asked) }
+        requires { AreLeft (crowd_of (arc_value walk.now.notes.now.remembered))
+            (price_before (arc_value walk.now.notes.now.remembered)) walk.now.section.0
+            (price_before (arc_value walk.now.notes.now.remembered) walk.now.section.0) holders.now }
         ensures inquiries { RoseAtMost
-            (length (crowd_of (arc_value walk.now.remembered)).students) self.old.inquiries
-            self.new.inquiries }
+            (length (crowd_of (arc_value walk.now.notes.now.remembered)).students) inquiries.old
+            inquiries.new }
         ensures crowd { IfOk result
-            (λ memory. crowd_of memory ≡ crowd_of (arc_value walk.now.remembered)) }
+            (λ memory. crowd_of memory ≡ crowd_of (arc_value walk.now.notes.now.remembered)) }
     {
-        let remembered: &Remembered = &walk.remembered;
-        let mut prices = remembered.prices.as_slice().to_vec(alloc)?;
+        let remembered: &Remembered = &walk.notes.remembered;
+        let mut prices = remembered.prices.as_slice().to_vec(self.alloc)?;
         prices[usize::from(walk.section.0)] = walk.least;
-        let mut bundles = remembered.bundles.as_slice().to_vec(alloc)?;
-        let mut list = Vec::new(alloc);
+        let mut bundles = remembered.bundles.as_slice().to_vec(self.alloc)?;
+        let mut list = Vec::new(self.alloc);
         for place in 0..holders.len() {
             let student = StudentNo(holders[place].1);
-            let Some(bundle) = settled(notes, walk, &prices, student) else {
+            let Some(bundle) = settled(walk, &prices, student) else {
                 list.push(Task {
                     student,
                     version: 0,
@@ -319,7 +338,7 @@ impl PooledDemands<AnyGate<'_>> {
             };
             bundles[usize::from(student.0)] = bundle;
         }
-        self.write_asked(rt, alloc, walk, &prices, list, &mut bundles)?;
+        self.write_asked(rt, inquiries, walk, &prices, list, &mut bundles)?;
         Ok(Remembered {
             crowd: Arc::try_clone(&remembered.crowd)?,
             allowed: remembered.allowed,
@@ -331,36 +350,35 @@ impl PooledDemands<AnyGate<'_>> {
     // Asks these at the raised prices, and writes what they take. Mostly nobody has to be asked, and
     // then no round is started.
     fn write_asked<R: Threads + Wait + Sync>(
-        &mut self,
+        &self,
         rt: &R,
-        alloc: Global,
+        inquiries: &mut InquiryCount,
         walk: &WalkEnd,
         prices: &[Tokens],
         list: Vec<Task>,
         bundles: &mut [Bundle],
     ) -> Result<(), NoMemory>
         requires prices { prices.now
-            ≡ slice_set (arc_value walk.now.remembered).prices.items walk.now.section.0
+            ≡ slice_set (arc_value walk.now.notes.now.remembered).prices.items walk.now.section.0
             walk.now.least }
         requires each { length bundles.old
-            ≡ length (crowd_of (arc_value walk.now.remembered)).students }
-        requires asked { All (IsTask (crowd_of (arc_value walk.now.remembered)) 1) list.items }
+            ≡ length (crowd_of (arc_value walk.now.notes.now.remembered)).students }
+        requires asked { All (IsTask (crowd_of (arc_value walk.now.notes.now.remembered)) 1) list.items }
         requires raised { All
             (λ inquiry. inquiry.raised ≡ Some (walk.now.section, walk.now.least)) list.items }
-        requires others { AreOthersKept (crowd_of (arc_value walk.now.remembered)) bundles.old
+        requires others { AreOthersKept (crowd_of (arc_value walk.now.notes.now.remembered)) bundles.old
             prices.now 0 list.items }
-        ensures kept { (self.new.crowd ≡ self.old.crowd) × (self.new.asked ≡ self.old.asked) }
-        ensures inquiries { RoseAtMost (length list.items) self.old.inquiries self.new.inquiries }
+        ensures inquiries { RoseAtMost (length list.items) inquiries.old inquiries.new }
         ensures len { length bundles.new ≡ length bundles.old }
         ensures taken { IfOk result
-            (λ done. AreTaken (crowd_of (arc_value walk.now.remembered)) prices.now bundles.new) }
+            (λ done. AreTaken (crowd_of (arc_value walk.now.notes.now.remembered)) prices.now bundles.new) }
     {
         if list.is_empty() {
             return Ok(());
         }
-        let inquiries = at_remembered(alloc, &walk.remembered, list, 1)?;
-        let found = self.inquire(rt, alloc, inquiries)?;
-        let crowd = &walk.remembered.crowd;
+        let listed = at_remembered(self.alloc, &walk.notes.remembered, list, 1)?;
+        let found = self.inquire(rt, inquiries, listed)?;
+        let crowd = &walk.notes.remembered.crowd;
         let asked = found.inquiries.list();
         write_found(crowd, prices, asked, &found.bundles, 0, bundles);
         Ok(())

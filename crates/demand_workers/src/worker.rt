@@ -46,7 +46,7 @@ pub(crate) struct Lent<'a> {
 /// lent. What it finds of the last student that is asked at a raised price it leaves behind as a
 /// note: no post tells it.
 #[derive(Clone, Copy)]
-pub(crate) struct Asker<'a> {
+pub(crate) struct Worker<'a> {
     pub board: &'a Board,
     pub workspaces: &'a [Mutex<Workspace>],
     pub lent: &'a Lent<'a>,
@@ -55,10 +55,10 @@ pub(crate) struct Asker<'a> {
     pub ghost noted: { IfSome left (IsNoted (data_of lent.now.crowd.now)) } by { Prim.hlevel props },
 }
 
-impl Answerer<RoundTasks> for Asker<'_> {
-    ghost terms = { λ asker. asker.board.now.base };
+impl Answerer<RoundTasks> for Worker<'_> {
+    ghost terms = { λ worker. worker.board.now.base };
 
-    ghost seats = { λ asker. length asker.workspaces.now };
+    ghost seats = { λ worker. length worker.workspaces.now };
 
     fn answer<R: Wait>(&mut self, rt: &R, seat: u16, number: u32) -> Bundle {
         let task = self.board.task_at(number);

@@ -15,16 +15,16 @@ use Rattle.demand_workers.proofs.Raising.{none_cheaper}
 use Rattle.demand_workers.proofs.settled.settled.Goals as goal
 
 -- the section of a walk has a remembered price
-there : (walk : WalkEnd) → walk.section.0 < length (arc_value walk.remembered).prices.items
-there walk = subst (λ n. walk.section.0 < n) (sym (arc_value walk.remembered).priced.same) walk.within
+there : (walk : WalkEnd) → walk.section.0 < length (arc_value walk.notes.now.remembered).prices.items
+there walk = subst (λ n. walk.section.0 < n) (sym (arc_value walk.notes.now.remembered).priced.same) walk.within
 
 -- the raised prices are prices for the crowd
-priced : (walk : WalkEnd) (prices : List Tokens) → prices ≡ slice_set (arc_value walk.remembered).prices.items walk.section.0 walk.least
-    → ArePricesFor (crowd_of (arc_value walk.remembered)) prices
+priced : (walk : WalkEnd) (prices : List Tokens) → prices ≡ slice_set (arc_value walk.notes.now.remembered).prices.items walk.section.0 walk.least
+    → ArePricesFor (crowd_of (arc_value walk.notes.now.remembered)) prices
 priced walk prices raised =
-    subst (ArePricesFor (crowd_of (arc_value walk.remembered))) (sym raised)
-    (raised_prices (crowd_of (arc_value walk.remembered)) (arc_value walk.remembered).prices.items walk.section.0 walk.least.0
-    (arc_value walk.remembered).priced walk.high)
+    subst (ArePricesFor (crowd_of (arc_value walk.notes.now.remembered))) (sym raised)
+    (raised_prices (crowd_of (arc_value walk.notes.now.remembered)) (arc_value walk.notes.now.remembered).prices.items walk.section.0 walk.least.0
+    (arc_value walk.notes.now.remembered).priced walk.high)
 
 pub invariant_of-question : goal.invariant_of-question
 invariant_of-question c = record {
@@ -40,7 +40,7 @@ nowhere-requires c =
     let walk = c.args.walk.now in
     subst (λ (l : List Tokens). (s : ℕ) → price_in l s ≤ price_in c.args.prices.now s)
     (sym (c.deref.ensures.value ∙ ap (λ (r : Remembered). r.prices.items) c.deref-remembered.ensures))
-    (none_cheaper (arc_value walk.remembered).prices.items c.args.prices.now walk.section.0 walk.least (there walk) walk.low c.requires.raised)
+    (none_cheaper (arc_value walk.notes.now.remembered).prices.items c.args.prices.now walk.section.0 walk.least (there walk) walk.low c.requires.raised)
 
 pub returns-then-stays : goal.returns-then-stays
 returns-then-stays c =
@@ -50,8 +50,8 @@ returns-then-stays c =
 
 pub told-requires : goal.told-requires
 told-requires c =
-    subst (λ (r : Remembered). AreNoted (crowd_of r) c.args.notes.now.list.items) (c.requires.same ∙ sym c.deref-remembered.ensures)
-    c.args.notes.now.noted
+    subst (λ (r : Remembered). AreNoted (crowd_of r) c.args.walk.now.notes.now.list.items) (sym c.deref-remembered.ensures)
+    c.args.walk.now.notes.now.noted
 
 pub returns : goal.returns
 returns c =

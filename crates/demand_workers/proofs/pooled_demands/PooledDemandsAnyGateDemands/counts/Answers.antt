@@ -1,5 +1,6 @@
-use Rattle.std.proofs.Common.{rules, ◌<◌, ◌≤◌, ◌+◌, ◌∙◌, ℕ, List, [], Vec, Global, length, slice_index_or, ap, arith}
+use Rattle.std.proofs.Common.{rules, ◌≡◌, ◌<◌, ◌≤◌, ◌+◌, ◌∙◌, ℕ, List, [], Vec, Global, length, slice_index_or, ap, sym, subst, arith}
 use Rattle.std.specs.Arc.{arc_value}
+use Rattle.std.specs.Prelude.{IfSome}
 use Rattle.std.proofs.lemmas.List.{get_or-map, length-map}
 use Rattle.market_units.specs.declared.units.Tokens.{Tokens}
 use Rattle.bundle_rules.specs.Demand.{price_in}
@@ -7,6 +8,7 @@ use Rattle.demand_api.specs.Crowds.{CrowdData, counts}
 use Rattle.demand_api.specs.Views.{data_of}
 use Rattle.demand_api.proofs.Takers.{listed_all, listed_more}
 use Rattle.demand_workers.specs.Rounds.{prices_of}
+use Rattle.demand_workers.specs.Views.{crowd_of}
 use Rattle.demand_workers.proofs.pooled_demands.PooledDemandsAnyGateDemands.counts.Goals as goal
 
 pub loop-version-preserved : goal.loop-version-preserved
@@ -38,3 +40,13 @@ returns-clause-value g c =
     listed_all (λ (found : Vec ℕ Global). found.items)
     (λ (prices : Vec Tokens Global). counts (data_of (arc_value c.args.self.now.crowd)) (price_in prices.items)) c.args.batch.now c.loop-version.version
     c.loop-version.found.items past c.loop-version.invariant.done
+
+pub invariant_of-self-2 : goal.invariant_of-self-2
+invariant_of-self-2 g c =
+    record {
+      same = c.surveyed.ensures.same;
+      surveyed =
+          subst (λ o. IfSome o (λ ahead. crowd_of (arc_value ahead.survey.found.inquiries.remembered) ≡ data_of (arc_value c.args.self.now.crowd)))
+          (sym c.take-earlier.ensures.after) tt;
+      noted = c.args.self.now.noted;
+    }
