@@ -1,9 +1,10 @@
-// What a worker of a round answers.
+// A worker of a round.
 ghost use Rattle.std.specs.Prelude.{◌≡◌, ◌≤◌, ◌<◌, ℕ, IfSome, length, nat_lt};
 ghost use Rattle.std.specs.FinSet as set;
 ghost use Rattle.bundle_rules.specs.{Bundles.sections_of, Demand.price_in};
 ghost use Rattle.demand_api.specs.{Asking.ArePricesFor, Crowds.demand_of, Views.data_of};
-ghost use Rattle.price_board.specs.{Openings.terms_of, Tasks.IsTask, Tasks.taken_at};
+ghost use Rattle.price_board.specs.{Openings.terms_of, Seats.IsDrawn, Tasks.IsTask};
+ghost use Rattle.price_board.specs.{Tasks.taken_at, Terms.demand_at};
 ghost use Rattle.price_board.specs.contracts.terms.Terms as terms;
 ghost use Rattle.demand_workers.specs.{Answering.answer_to, Notes.IsNoted, Views.crowd_of};
 ghost use Rattle.demand_workers.specs.Rounds.{AreVersionsFor, prices_of};
@@ -21,9 +22,9 @@ use bundle_rules::Bundle;
 use demand_api::Crowd;
 use demand_oracle::{Workspace, demand};
 use market_units::{SectionSet, StudentNo, Tokens};
-use price_board::{Board, Round, RoundTasks, Task};
+use price_board::{Board, BoardSeat, Draw, Drawn, Posted, Round, RoundTasks, Task};
 use std::sync::{Mutex, Wait};
-use task_board::Answerer;
+use task_board::Worker;
 
 /// What the workers of a round are lent: the crowd, the round, and what is remembered of the crowd,
 /// if anything is.
@@ -46,7 +47,7 @@ pub(crate) struct Lent<'a> {
 /// lent. What it finds of the last student that is asked at a raised price it leaves behind as a
 /// note: no post tells it.
 #[derive(Clone, Copy)]
-pub(crate) struct Worker<'a> {
+pub(crate) struct RoundWorker<'a> {
     pub board: &'a Board,
     pub workspaces: &'a [Mutex<Workspace>],
     pub lent: &'a Lent<'a>,
@@ -55,15 +56,32 @@ pub(crate) struct Worker<'a> {
     pub ghost noted: { IfSome left (IsNoted (data_of lent.now.crowd.now)) } by { Prim.hlevel props },
 }
 
-impl Answerer<RoundTasks> for Worker<'_> {
-    ghost terms = { λ worker. worker.board.now.base };
+/// It draws a student at a version of the prices, and posts both with what the student takes there.
+impl Worker<RoundTasks, Drawn> for RoundWorker<'_> {
+    ghost board = { λ worker. worker.board.now };
 
     ghost seats = { λ worker. length worker.workspaces.now };
 
-    fn answer<R: Wait>(&mut self, rt: &R, seat: u16, number: u32) -> Bundle {
-        let task = self.board.task_at(number);
+    ghost is_name = { IsDrawn };
+
+    ghost number = { λ drawn. drawn.number };
+
+    ghost is_right = { λ terms drawn bundle. sections_of bundle ≡ demand_at terms drawn.task };
+
+    fn draw<R: Wait>(&self, rt: &R, seat: &mut BoardSeat) -> Option<Drawn> {
+        match self.board.draw(rt, seat) {
+            Draw::Task(drawn) => Some(drawn),
+            Draw::Done => None,
+        }
+    }
+
+    fn answer<R: Wait>(&mut self, rt: &R, seat: u16, drawn: Drawn) -> Bundle {
         let mut workspace = self.workspaces[usize::from(seat)].lock(rt);
-        taken_at(&mut workspace, self.lent, task, &mut self.left)
+        taken_at(&mut workspace, self.lent, drawn.task, &mut self.left)
+    }
+
+    fn post<R: Wait>(&self, rt: &R, seat: &mut BoardSeat, drawn: Drawn, bundle: Bundle) -> Posted {
+        self.board.post(rt, seat, drawn, bundle)
     }
 }
 

@@ -9,6 +9,7 @@ ghost use Rattle.fairness_audit.specs.Views.{row_of};
 use crate::allocation::Allocated;
 use crate::row::EnvyRow;
 use crate::tasks::AuditTasks;
+use crate::worker::AuditWorker;
 use bundle_rules::Bundle;
 use demand_api::Crowd;
 use market_edge::Gate;
@@ -59,7 +60,7 @@ fn work_and_write<R: Threads + Wait + Sync, G: Gate + Sync>(
     rt: &R,
     board: Board<AuditTasks>,
     mut seats: Vec<BoardSeat<AuditTasks>>,
-    mut allocated: Allocated,
+    allocated: Allocated,
     rows: &mut [EnvyRow],
     gate: &G,
 )
@@ -73,7 +74,11 @@ fn work_and_write<R: Threads + Wait + Sync, G: Gate + Sync>(
     ensures each { (i : ℕ) (d : EnvyRow) → i < length rows.new
         → row_of (slice_index_or rows.new i d) ≡ row board.base.allocation i }
 {
-    work_all(rt, &board, seats.as_mut_slice(), &mut allocated, gate);
+    let mut worker = AuditWorker {
+        board: &board,
+        allocated,
+    };
+    work_all(rt, seats.as_mut_slice(), &mut worker, gate);
     let answers = board.close(seats);
     write_rows(&answers, rows);
 }

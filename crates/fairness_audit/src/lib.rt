@@ -5,7 +5,6 @@
 #![tactic(auto)]
 
 mod allocation;
-mod answering;
 mod auditing;
 mod counting;
 mod counts;
@@ -18,6 +17,7 @@ mod tasks;
 mod terms;
 mod text;
 mod weights;
+mod worker;
 
 pub use allocation::is_allocation;
 pub use auditing::audit;

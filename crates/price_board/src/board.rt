@@ -19,13 +19,11 @@ use crate::round::{Ask, Round, Task};
 use crate::tasks::RoundTasks;
 use bundle_rules::Bundle;
 use demand_api::Crowd;
-use market_edge::Gate;
 use market_units::{MAX_WORKERS, NoMemory, StudentNo};
 use std::alloc::Global;
-use std::marker::{Copy, Model, Sync};
+use std::marker::Model;
 use std::sync::{Arc, Wait};
-use std::thread::Threads;
-use task_board::{Answerer, Board as TaskBoard, BoardSeat as TaskSeat, Posted, work_all};
+use task_board::{Board as TaskBoard, BoardSeat as TaskSeat, Posted};
 
 /// The right to draw and post on a board, which one thread uses at a time.
 pub type BoardSeat = TaskSeat<RoundTasks>;
@@ -104,8 +102,8 @@ impl Board {
         }
     }
 
-    /// The task with this number.
-    pub fn task_at(&self, number: u32) -> Task
+    // The task with this number.
+    fn task_at(&self, number: u32) -> Task
         requires { number < task_count self.now.base }
         ensures task { result ≡ task_at self.now.base number }
         ensures within { IsTask self.now.base.crowd (version_count self.now.base) result }
@@ -139,24 +137,6 @@ impl Board {
         ensures { HasPosted round_rules self.now seat.old drawn.number bundle result seat.new }
     {
         self.board.post(rt, seat, drawn.number, bundle)
-    }
-
-    /// Each worker draws and posts at its seat, as `work_all` of `task_board` says: in a thread of its
-    /// own where one can be started, or in the caller's if it is alone.
-    pub fn work_all<
-        R: Threads + Wait + Sync,
-        A: Answerer<RoundTasks> + Copy + Sync,
-        G: Gate + Sync,
-    >(&self, rt: &R, seats: &mut [BoardSeat], answerer: &mut A, gate: &G)
-        requires terms { A.terms answerer.old ≡ self.now.base }
-        requires begun { HasBegun self.now seats.old (length seats.old) }
-        requires enough { (1 ≤ length seats.old) × (length seats.old ≤ MAX_WORKERS)
-            × (length seats.old ≤ A.seats answerer.old) }
-        ensures terms { A.terms answerer.new ≡ self.now.base }
-        ensures count { length seats.new ≡ length seats.old }
-        ensures back { AreBack self.now seats.new }
-    {
-        work_all(rt, &self.board, seats, answerer, gate);
     }
 
     /// Ends the round: with all seats back, in any order, of which none holds a task and each was

@@ -21,4 +21,4 @@ pub use data::{AnswersData, Progress, StateData};
 pub use mark::Mark;
 pub use state::BoardState;
 pub use tasks::Tasks;
-pub use worker::{Answerer, work_all};
+pub use worker::{Worker, work_all};

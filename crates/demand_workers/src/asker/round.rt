@@ -7,13 +7,14 @@ ghost use Rattle.demand_workers.specs.Notes.{IsNoted};
 
 use crate::note::Note;
 use crate::pooled_demands::InquiryCount;
-use crate::worker::{Lent, Worker};
+use crate::worker::{Lent, RoundWorker};
 use demand_oracle::Workspace;
 use market_edge::{Gate, Passed};
 use market_units::MAX_WORKERS;
 use price_board::{Answers, Board, BoardSeat};
 use std::sync::{Mutex, Wait};
 use std::thread::Threads;
+use task_board::work_all;
 
 /// What all workers find on a board, from the start of the first of them to the answers, and what a
 /// worker that is alone noted. Of several, which mostly ask at no raised price, no note is kept. It
@@ -37,13 +38,13 @@ pub(super) fn work_and_close<R: Threads + Wait + Sync>(
     ensures settled { AreSettled result.0.terms result.0.marks }
     ensures noted { IfSome result.1 (IsNoted (data_of lent.now.crowd.now)) }
 {
-    let mut worker = Worker {
+    let mut worker = RoundWorker {
         board: &board,
         workspaces,
         lent,
         left: None,
     };
-    board.work_all(rt, seats.as_mut_slice(), &mut worker, &Passed { gate });
+    work_all(rt, seats.as_mut_slice(), &mut worker, &Passed { gate });
     let note = worker.left;
     let answers = board.close(seats);
     inquiries.add(&answers);
