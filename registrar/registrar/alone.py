@@ -15,10 +15,10 @@ import os
 from dataclasses import dataclass
 from typing import Dict, List, Sequence
 
-from registrar import program, published, reasons, streams, tables
+from registrar import limits, program, published, reasons, streams, tables
 
 # The greatest base of a roll. A drawn budget may be greater: then the whole market is asked.
-MOST_BASE = 900000
+MOST_BASE = limits.MAX_BASE
 
 SETTINGS = {"seed": 0, "spread": 0, "accept": 0, "turns": 0, "tabu": 1, "patience": 1, "steps": [1], "raise": 0}
 

@@ -7,7 +7,7 @@ import os
 from dataclasses import dataclass
 from typing import Callable, Dict, List, Optional, Tuple
 
-from registrar import figures, manifest, measures, own_names, pages, plots, ranges, register, run_market, tables, tell
+from registrar import figures, limits, manifest, measures, own_names, pages, plots, ranges, register, run_market, tables, tell
 
 NAME = "compare"
 HELP = "put two runs beside each other: who gained and lost by the own ratings, seats, prices, errors, envy, by group"
@@ -64,7 +64,7 @@ def add_groups(parser: argparse.ArgumentParser) -> None:
         "--by", metavar="COLUMN", help="with --mapping: by this column of the register, as the programme or the year"
     )
     parser.add_argument(
-        "--least", type=ranges.whole(1, tables.MAX_STUDENTS), default=5, metavar="N",
+        "--least", type=ranges.whole(1, limits.MAX_STUDENTS), default=5, metavar="N",
         help="groups of fewer than N students are put together, so that nobody stands alone (default: 5)",
     )
 

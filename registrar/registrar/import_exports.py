@@ -9,7 +9,7 @@ import sys
 from dataclasses import dataclass, field
 from typing import Container
 
-from registrar import at_work, guess, own_names, pseudonyms, tables, tell
+from registrar import at_work, guess, limits, own_names, pseudonyms, tables, tell
 from registrar.amounts import AmountFault, in_units, seats, whole
 from registrar.exported import Export, Row
 from registrar.faults import Faults
@@ -23,9 +23,6 @@ from registrar.whole import write_all as write_files
 
 NAME = "import"
 HELP = "make catalogue, roll and sessions from a school's exports, by a mapping of columns"
-
-#: The most tokens of a student.
-MOST_TOKENS = 900_000
 
 #: What a catalogue says of each section.
 OF_SECTIONS = ("seats", "credits", "meetings", "days", "start", "end", "length", "parts")
@@ -328,8 +325,8 @@ class Importer:
             self.result.written += [[own_names.MEETINGS, written, draft.name]] if written else []
             cells = [draft.name, self.course(export, row["course"])]
             cells += [
-                self.number(export, row["seats"], "seats", 9999),
-                self.number(export, row["credits"], "credits", 100),
+                self.number(export, row["seats"], "seats", limits.MAX_SEATS),
+                self.number(export, row["credits"], "credits", limits.MAX_SECTION_CREDITS),
                 meetings,
             ]
             self.result.catalogue.append(cells + ([self.parts(export, row["parts"])] if has_parts else []))
@@ -377,10 +374,11 @@ class Importer:
             if name and name in rows:
                 export.fault(row, "student", text, f"a student once; row {rows[name]} has it already")
             rows.setdefault(name, row.number)
-            budget = self.number(export, row, "budget", MOST_TOKENS)
-            cells = [name, budget, self.number(export, row, "credits", 800), self.number(export, row, "courses", 8)]
+            budget = self.number(export, row, "budget", limits.MAX_BASE)
+            cells = [name, budget, self.number(export, row, "credits", limits.MAX_CREDITS)]
+            cells.append(self.number(export, row, "courses", limits.MAX_COURSES))
             if has_carry:
-                cells.append(self.number(export, row, "carry", MOST_TOKENS - int(budget)))
+                cells.append(self.number(export, row, "carry", limits.MAX_BASE - int(budget)))
             self.result.roll.append(cells)
 
 

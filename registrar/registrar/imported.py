@@ -5,19 +5,12 @@ from __future__ import annotations
 import os
 from dataclasses import dataclass, field, replace
 
-from registrar import own_names, pseudonyms, tables, tell
+from registrar import limits, own_names, pseudonyms, tables, tell
 from registrar.amounts import grouped
 from registrar.faults import Faults, plain, spans
 from registrar.mapping import OF_WISHES, Mapping
 from registrar.surveys import Survey, Wish
 from registrar.tally import Tally
-
-#: The limits of the program.
-MOST_SECTIONS = 400
-MOST_STUDENTS = 2000
-MOST_SESSIONS = 64
-MOST_COMMANDS = 200_000
-MOST_BYTES = 16 * 1024 * 1024
 
 #: So many students are named in a line of several.
 NAMED = 10
@@ -86,10 +79,10 @@ class Made:
         """Adds what passes the limits of the program."""
         source = os.path.basename(self.mapping.path)
         counts = (
-            ("sections", len(self.catalogue) - 1, MOST_SECTIONS),
-            ("students", len(self.roll) - 1, MOST_STUDENTS),
-            ("surveys", len(self.surveys), MOST_SESSIONS),
-            ("wishes", sum(len(survey.wishes) for survey in self.surveys), MOST_COMMANDS),
+            ("sections", len(self.catalogue) - 1, limits.MAX_SECTIONS),
+            ("students", len(self.roll) - 1, limits.MAX_STUDENTS),
+            ("surveys", len(self.surveys), limits.MAX_SESSIONS),
+            ("wishes", sum(len(survey.wishes) for survey in self.surveys), limits.MAX_COMMANDS),
         )
         for what, count, most in counts:
             if count > most:
@@ -98,8 +91,8 @@ class Made:
         if self.mapping.is_read and not self.mapping.kinds & set(OF_WISHES):
             faults.add(source, None, "", "", "there is no section [survey NAME] or [sessions NAME]")
         for name, content in self.files().items():
-            if len(content) > MOST_BYTES and name != own_names.FILE:
-                faults.add(name, None, "", f"{grouped(len(content))} bytes", f"at most {grouped(MOST_BYTES)} bytes")
+            if len(content) > limits.MAX_INPUT_BYTES and name != own_names.FILE:
+                faults.add(name, None, "", f"{grouped(len(content))} bytes", f"at most {grouped(limits.MAX_INPUT_BYTES)} bytes")
 
     def lines(self) -> list[str]:
         """What is told of an import."""

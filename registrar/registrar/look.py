@@ -13,7 +13,7 @@ from collections import Counter
 from dataclasses import dataclass, field
 from typing import Iterable, Sequence
 
-from registrar import own_names, program, table_faults, tables, tell
+from registrar import limits, own_names, program, table_faults, tables, tell
 from registrar.faults import Faults, shown
 from registrar.spelling import Meant
 
@@ -29,8 +29,9 @@ KINDS = {
     "no-student": "a student who is not on the roll",
     "closed": "a command that comes behind a `close`",
     "same-pair": "a pair of a section with itself",
-    "out-of-range": "a rating that is not from 0 to 100, an adjustment that is not from -200 to 200",
-    "too-many": "more than 60 rated sections or 200 pairs of a student",
+    "out-of-range": f"a rating that is not from 0 to {limits.MAX_RATING}, an adjustment that is not from -{limits.MAX_ADJUSTMENT}"
+    f" to {limits.MAX_ADJUSTMENT}",
+    "too-many": f"more than {limits.MAX_RATINGS} rated sections or {limits.MAX_PAIRS} pairs of a student",
     "close": "a `close`: nobody can say anything behind it, in whatever session",
     "twice": "a file that is given twice, or two files with the same content",
     "two-sessions": "a student who is named in two sessions: the end may depend on who is heard first",

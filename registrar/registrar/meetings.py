@@ -11,6 +11,8 @@ import re
 from dataclasses import dataclass, field
 from typing import Iterator, Mapping
 
+from registrar import limits
+
 #: The words for days, in small letters, and the program's letters. The longest one that fits is taken.
 DAYS: Mapping[str, str] = {
     word: letter
@@ -40,9 +42,6 @@ NO_MEETING = ("TBA", "TBD", "ARR", "ARRANGED", "ONLINE", "ASYNC", "NONE", "N/A",
 
 #: What a fault says was expected.
 EXPECTED = "days and times as `MWF 9:00-10:15`, or a word for no meeting"
-
-#: The most meetings that a section has.
-MOST = 10
 
 TIME = r"\d{1,2}(?:[:.h]\d{2}(?::00)?|\d{2})?(?:\s*[ap]\.?m\.?)?"
 MEETING = re.compile(
@@ -282,6 +281,6 @@ def joined(found: list[str]) -> list[str]:
     """The meetings without repeats, by day and time. Raises `MeetingFault` where there are more than ten."""
     order = "MTWRFSU"
     once = sorted(set(found), key=lambda one: (order.index(one[0]), one[1:]))
-    if len(once) > MOST:
-        raise MeetingFault(f"at most {MOST} meetings of a section; there are {len(once)}")
+    if len(once) > limits.MAX_MEETINGS:
+        raise MeetingFault(f"at most {limits.MAX_MEETINGS} meetings of a section; there are {len(once)}")
     return once

@@ -11,15 +11,12 @@ import os
 import sys
 from dataclasses import dataclass
 
-from registrar import after_hall, manifest, own_names, published, ranges, tables, tell, work_log
+from registrar import after_hall, limits, manifest, own_names, published, ranges, tables, tell, work_log
 from registrar.faults import Faults
 from registrar.import_exports import write_all
 
 NAME = "next"
 HELP = "make the roll of the next term, with the tokens that are carried over"
-
-#: The greatest number of tokens that base and carry may come to.
-MOST_TOKENS = 900_000
 
 
 def add_arguments(parser: argparse.ArgumentParser) -> None:
@@ -40,7 +37,7 @@ def add_arguments(parser: argparse.ArgumentParser) -> None:
         help="who is there in the next term, with new bases and caps (default: the roll of the text)",
     )
     parser.add_argument(
-        "--most", type=ranges.whole(0, MOST_TOKENS), default=MOST_TOKENS, metavar="N",
+        "--most", type=ranges.whole(0, limits.MAX_BASE), default=limits.MAX_BASE, metavar="N",
         help="nobody carries over more than so many tokens",
     )
     parser.add_argument(
@@ -174,8 +171,8 @@ def carry_over(
             faults.add(os.path.basename(one.file), one.row, "carry", str(one.carry), expected)
         left = min(arguments.most, term.left_over(one.name)) if one.name in term.held else 0
         new += one.name not in term.held
-        if one.budget + left > MOST_TOKENS:
-            expected = f"at most {MOST_TOKENS - left}, since {left} tokens are carried over; `--most` states how many may be"
+        if one.budget + left > limits.MAX_BASE:
+            expected = f"at most {limits.MAX_BASE - left}, since {left} tokens are carried over; `--most` states how many may be"
             faults.add(os.path.basename(one.file), one.row, "budget", str(one.budget), expected)
         brings += left > 0
         tokens += left

@@ -10,7 +10,7 @@ import os
 import re
 from typing import Iterator, Optional
 
-from registrar import tables
+from registrar import limits, tables
 from registrar.faults import Faults, plain
 from registrar.mapping import Source
 from registrar.spelling import NameFault, UnknownName
@@ -22,10 +22,6 @@ LEFT_BY_SYSTEMS = ("thumbs.db", "desktop.ini", "course-match.lock", "course-matc
 
 #: What a browser puts behind the name of a file that it saves again.
 AGAIN = re.compile(r"(.+?)\s*\(\d+\)")
-
-#: The greatest adjustment of a pair, either way, and the greatest rating.
-MOST_ADJUSTED = 200
-MOST_POINTS = 100
 
 #: What a line of such a file may be.
 EXPECTED = "a line as the form saves it: `rate NAME SECTION POINTS`, `pair NAME SECTION SECTION POINTS` or `clear NAME`"
@@ -163,7 +159,7 @@ class FolderReader:
                 self.fault(name, command.line, word, str(fault))
                 return
         points = int(command.words[-1])
-        least, most = (0, MOST_POINTS) if len(sections) == 1 else (-MOST_ADJUSTED, MOST_ADJUSTED)
+        least, most = (0, limits.MAX_RATING) if len(sections) == 1 else (-limits.MAX_ADJUSTMENT, limits.MAX_ADJUSTMENT)
         if not least <= points <= most:
             self.fault(name, command.line, command.words[-1], f"a whole number from {least} to {most}")
         elif len(set(sections)) != len(sections):

@@ -13,7 +13,7 @@ import time
 from dataclasses import dataclass
 from typing import BinaryIO, Callable, Dict, List, Optional, Sequence, Tuple
 
-from registrar import ending, tables
+from registrar import ending, limits, tables
 from registrar.tell import NO_PROGRAM, USAGE, Life, Trouble
 
 TOP = os.path.dirname(os.path.dirname(os.path.dirname(os.path.abspath(__file__))))
@@ -124,8 +124,8 @@ def call(
 def refuse_many(words: Sequence[str]) -> None:
     """Refuses more sessions than the program takes."""
     sessions = sum(one.role == "session" for one in inputs_of(words))
-    if sessions > tables.MAX_SESSIONS:
-        raise Trouble(f"{sessions} sessions are given; the program takes at most {tables.MAX_SESSIONS}", USAGE)
+    if sessions > limits.MAX_SESSIONS:
+        raise Trouble(f"{sessions} sessions are given; the program takes at most {limits.MAX_SESSIONS}", USAGE)
 
 
 def wait(process: subprocess.Popen[bytes], life: Optional[Life], seconds: Optional[float]) -> int:
@@ -167,13 +167,14 @@ COLUMNS = {
 }
 
 RANGES = {
-    ("catalogue", 3): "no whole number from 0 to 9999",
-    ("catalogue", 4): "no whole number from 0 to 100 (in a unit that the school chooses, half credits for instance)",
-    ("roll", 2): "no whole number from 0 to 900000",
-    ("roll", 3): "no whole number from 0 to 800",
-    ("roll", 4): "no whole number from 0 to 8",
-    ("roll", 5): "no whole number from 0 to 900000 less the budget of column 2",
-    ("prices", 2): "no whole number from 0 to 1000001",
+    ("catalogue", 3): f"no whole number from 0 to {limits.MAX_SEATS}",
+    ("catalogue", 4): f"no whole number from 0 to {limits.MAX_SECTION_CREDITS} (in a unit that the school chooses, half credits"
+    " for instance)",
+    ("roll", 2): f"no whole number from 0 to {limits.MAX_BASE}",
+    ("roll", 3): f"no whole number from 0 to {limits.MAX_CREDITS}",
+    ("roll", 4): f"no whole number from 0 to {limits.MAX_COURSES}",
+    ("roll", 5): f"no whole number from 0 to {limits.MAX_BASE} less the budget of column 2",
+    ("prices", 2): f"no whole number from 0 to {limits.MAX_PRICE}",
 }
 
 REFUSAL = re.compile(r"input (\d+) row (\d+): (.*)\Z")
@@ -241,7 +242,7 @@ def retell_too_long(words: Sequence[str], last: str) -> List[str]:
         size = 0
     if size > limit:
         return [f"The {one.role} {one.path} has {size} bytes; the program takes at most {limit}."]
-    return [f"With {one.path} there are more than {tables.MAX_COMMANDS} commands or requests; the program takes no more."]
+    return [f"With {one.path} there are more than {limits.MAX_COMMANDS} commands or requests; the program takes no more."]
 
 
 def retell_no_prices(last: str) -> List[str]:
@@ -325,7 +326,7 @@ def expected(one: Input, record: Optional[tables.Record], cause: str) -> str:
     if cause.startswith("repeats row "):
         return f"{value} stands in row {cause.split()[-1]} already. Rename one of the two, or remove it"
     if cause == "too many rows":
-        most = tables.MAX_SECTIONS if one.role == "catalogue" else tables.MAX_STUDENTS
+        most = limits.MAX_SECTIONS if one.role == "catalogue" else limits.MAX_STUDENTS
         return f"the table has more than {most} rows behind its header"
     if cause.startswith("name in column"):
         return f"{value} is no name. A name has 1 to 32 letters, digits, '-', '_' and '.', without blanks and accents"
@@ -375,15 +376,20 @@ def retell_settings(one: Input, cause: str) -> str:
     return f"{where}: {cause}"
 
 
+def whole_to(least: int, most: int) -> str:
+    """What a setting has to be that is a whole number in a range."""
+    return f"a whole number from {least} to {most}, without sign, point and exponent"
+
+
 SETTING_RANGES = {
-    "seed": "a whole number from 0 to 18446744073709551615, without sign, point and exponent",
-    "spread": "a whole number from 0 to 49, without sign, point and exponent",
-    "accept": "a whole number from 0 to 1000000000000, without sign, point and exponent",
-    "turns": "a whole number from 0 to 10000, without sign, point and exponent",
-    "tabu": "a whole number from 1 to 1000, without sign, point and exponent",
-    "patience": "a whole number from 1 to 10000, without sign, point and exponent",
-    "steps": "an array of 1 to 16 whole numbers from 1 to 100000",
-    "raise": "a whole number from 0 to 50, without sign, point and exponent",
+    "seed": whole_to(0, 2**64 - 1),
+    "spread": whole_to(0, limits.MAX_SPREAD),
+    "accept": whole_to(0, limits.MAX_ACCEPT),
+    "turns": whole_to(0, limits.MAX_TURNS),
+    "tabu": whole_to(1, limits.MAX_TABU),
+    "patience": whole_to(1, limits.MAX_PATIENCE),
+    "steps": f"an array of 1 to {limits.MAX_STEPS} whole numbers from 1 to {limits.MAX_STEP}",
+    "raise": whole_to(0, limits.MAX_RAISE),
 }
 
 

@@ -7,7 +7,7 @@ import os
 import tempfile
 from typing import Dict, List, Sequence, Tuple
 
-from registrar import at_work, before_run, manifest, program, published, ranges, streams, tables, tell, whole, work_log
+from registrar import at_work, before_run, limits, manifest, program, published, ranges, streams, tables, tell, whole, work_log
 
 NAME = "run"
 HELP = "run the market to a file, which takes its name only where the run succeeds, with a manifest beside it"
@@ -39,14 +39,14 @@ def add_market(parser: argparse.ArgumentParser) -> None:
 def add_workers(parser: argparse.ArgumentParser) -> None:
     """The number of workers."""
     parser.add_argument(
-        "--workers", type=ranges.whole(1, tables.MAX_WORKERS), default=workers(), metavar="N",
+        "--workers", type=ranges.whole(1, limits.MAX_WORKERS), default=workers(), metavar="N",
         help="1 to 16 workers, which change the time and never the text (default: one for each processor)",
     )
 
 
 def workers() -> int:
     """One worker for each processor, at most the program's sixteen."""
-    return max(1, min(tables.MAX_WORKERS, os.cpu_count() or 1))
+    return max(1, min(limits.MAX_WORKERS, os.cpu_count() or 1))
 
 
 def run(arguments: argparse.Namespace) -> int:

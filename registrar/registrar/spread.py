@@ -10,10 +10,7 @@ from __future__ import annotations
 from dataclasses import dataclass
 from typing import Dict, List, Optional, Sequence, Tuple
 
-from registrar import tables
-
-#: The greatest spread that the program takes.
-MOST_SPREAD = 49
+from registrar import limits, tables
 
 
 @dataclass(frozen=True)
@@ -48,7 +45,7 @@ def crossed(students: Sequence[tables.Student], spread: int) -> List[Tuple[Base,
 
 def greatest(students: Sequence[tables.Student]) -> Optional[int]:
     """The greatest spread at which each base stays below the next; nothing where there is none from 1 on."""
-    kept = [spread for spread in range(1, MOST_SPREAD + 1) if not crossed(students, spread)]
+    kept = [spread for spread in range(1, limits.MAX_SPREAD + 1) if not crossed(students, spread)]
     return max(kept, default=None)
 
 

@@ -10,6 +10,7 @@ import re
 from dataclasses import dataclass, field
 from typing import Callable, Iterator, Sequence
 
+from registrar import limits
 from registrar.amounts import AmountFault, whole
 from registrar.exported import Column, Export, Row, plain
 from registrar.faults import Faults
@@ -18,10 +19,6 @@ from registrar.meaning import what_numbers_may_mean
 from registrar.spelling import NameFault, Names, UnknownName, tidy
 from registrar.submissions import Chooser
 from registrar.tally import REPLACED, SILENT, STRANGER, ZERO, Tally
-
-#: How many sections a student rates above 0, and how many pairs it adjusts, at most.
-MOST_RATED = 60
-MOST_PAIRS = 200
 
 ORDINALS = "first second third fourth fifth sixth seventh eighth ninth tenth".split()
 
@@ -401,7 +398,7 @@ def over_limits(wishes: Sequence[Wish]) -> Iterator[tuple[Wish, str]]:
     for wish in wishes:
         key = (wish.student, bool(wish.second))
         counts[key] = counts.get(key, 0) + 1
-        most = MOST_PAIRS if wish.second else MOST_RATED
+        most = limits.MAX_PAIRS if wish.second else limits.MAX_RATINGS
         if counts[key] == most + 1:
             what = "pairs" if wish.second else "rated sections"
             yield wish, f"at most {most} {what} of one student; {wish.student} has more from here on"

@@ -4,17 +4,23 @@ from __future__ import annotations
 
 import os
 
-from registrar import tables
+from registrar import limits, tables
 from registrar.faults import Faults
 
 #: The columns of both tables, with the greatest number of each that has numbers.
 COLUMNS = {
-    "catalogue": (("section", None), ("course", None), ("seats", 9999), ("credits", 100), ("meetings", None), ("parts", None)),
-    "roll": (("student", None), ("budget", 900_000), ("credits", 800), ("courses", 8), ("carry", 900_000)),
+    "catalogue": (
+        ("section", None), ("course", None), ("seats", limits.MAX_SEATS), ("credits", limits.MAX_SECTION_CREDITS), ("meetings", None),
+        ("parts", None),
+    ),
+    "roll": (
+        ("student", None), ("budget", limits.MAX_BASE), ("credits", limits.MAX_CREDITS), ("courses", limits.MAX_COURSES),
+        ("carry", limits.MAX_BASE),
+    ),
 }
 
 HEADERS = {"catalogue": tables.CATALOGUE_HEADERS, "roll": tables.ROLL_HEADERS}
-MOST = {"catalogue": tables.MAX_SECTIONS, "roll": tables.MAX_STUDENTS}
+MOST = {"catalogue": limits.MAX_SECTIONS, "roll": limits.MAX_STUDENTS}
 
 EXPECTED = {
     "name": "a name: 1 to 32 letters, digits, '-', '_' and '.'",
@@ -69,9 +75,9 @@ def add_too_much(file: str, record: tables.Record, faults: Faults) -> None:
     """Adds that base and carry together are above what a student may have."""
     budget, carry = record.fields[1], record.fields[4]
     if (
-        all(tables.NUMBER.match(value) and int(value) <= 900_000 for value in (budget, carry))
-        and int(budget) + int(carry) > 900_000
+        all(tables.NUMBER.match(value) and int(value) <= limits.MAX_BASE for value in (budget, carry))
+        and int(budget) + int(carry) > limits.MAX_BASE
     ):
         faults.add(
-            file, record.row, "carry", carry, f"at most {900_000 - int(budget)}: base and carry together are at most 900000"
+            file, record.row, "carry", carry, f"at most {limits.MAX_BASE - int(budget)}: base and carry together are at most {limits.MAX_BASE}"
         )

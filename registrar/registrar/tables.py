@@ -13,7 +13,7 @@ import re
 from dataclasses import dataclass
 from typing import Dict, Iterable, Iterator, List, Optional, Sequence, Tuple
 
-from registrar import whole
+from registrar import limits, whole
 from registrar.tell import FAULTS, NO_FILE, USAGE, Trouble
 
 NAME = re.compile(r"[A-Za-z0-9._-]{1,32}\Z")
@@ -31,12 +31,6 @@ SIGNED = re.compile(r"[-+][0-9]+([.,][0-9]+)?%?\Z")
 CATALOGUE_HEADERS = ("section,course,seats,credits,meetings", "section,course,seats,credits,meetings,parts")
 ROLL_HEADERS = ("student,budget,credits,courses", "student,budget,credits,courses,carry")
 SETTINGS = ("seed", "spread", "accept", "turns", "tabu", "patience", "steps", "raise")
-
-MAX_SECTIONS = 400
-MAX_STUDENTS = 2000
-MAX_SESSIONS = 64
-MAX_COMMANDS = 200000
-MAX_WORKERS = 16
 
 
 @dataclass(frozen=True)
@@ -208,8 +202,8 @@ def read_catalogue(path: str) -> List[Section]:
         if not are_meetings(record.fields[4]):
             raise fault(path, record, 5, "a list of meetings such as M0900-1020;W0900-1020")
         found[code] = Section(
-            code, name_at(path, record, 2), number_at(path, record, 3, 9999), number_at(path, record, 4, 100),
-            record.fields[4], parts, path, record.row, record.line,
+            code, name_at(path, record, 2), number_at(path, record, 3, limits.MAX_SEATS),
+            number_at(path, record, 4, limits.MAX_SECTION_CREDITS), record.fields[4], parts, path, record.row, record.line,
         )
     return list(found.values())
 
@@ -219,7 +213,7 @@ def are_meetings(text: str) -> bool:
     if not text:
         return True
     meetings = [MEETING.match(one) for one in text.split(";")]
-    return len(meetings) <= 10 and all(one and one.group(2, 3) < one.group(4, 5) for one in meetings)
+    return len(meetings) <= limits.MAX_MEETINGS and all(one and one.group(2, 3) < one.group(4, 5) for one in meetings)
 
 
 def read_roll(path: str) -> List[Student]:
@@ -229,10 +223,11 @@ def read_roll(path: str) -> List[Student]:
         name = name_at(path, record, 1)
         if name in found:
             raise Trouble(f"{place(path, record, 1)}: {name} stands in row {found[name].row} already")
-        budget = number_at(path, record, 2, 900000)
-        carry = number_at(path, record, 5, 900000 - budget) if len(record.fields) == 5 else 0
+        budget = number_at(path, record, 2, limits.MAX_BASE)
+        carry = number_at(path, record, 5, limits.MAX_BASE - budget) if len(record.fields) == 5 else 0
         found[name] = Student(
-            name, budget, number_at(path, record, 3, 800), number_at(path, record, 4, 8), carry, path, record.row, record.line
+            name, budget, number_at(path, record, 3, limits.MAX_CREDITS), number_at(path, record, 4, limits.MAX_COURSES), carry,
+            path, record.row, record.line,
         )
     return list(found.values())
 

@@ -9,17 +9,13 @@ import tempfile
 from dataclasses import dataclass
 from typing import Dict, List, Optional, Sequence, Tuple
 
-from registrar import before_run, program, published, run_market, ranges, spread, tables, tell, work_log
+from registrar import before_run, limits, program, published, ranges, run_market, spread, tables, tell, work_log
 
 NAME = "settings"
 HELP = (
     "say how far a rank reaches, try values of accept and turns, show what each gives, and write the settings that "
     "are chosen"
 )
-
-# The greatest values of both settings (docs/FORMATS.md, "Settings").
-MOST_TURNS = 10_000
-MOST_ACCEPT = 1_000_000_000_000
 
 HEADER = ("row", "turns", "accept", "time", "error", "seats filled", "of", "students without a section")
 
@@ -43,22 +39,22 @@ def add_arguments(parser: argparse.ArgumentParser) -> None:
     run_market.add_market(parser)
     run_market.add_workers(parser)
     parser.add_argument(
-        "--turns", type=ranges.wholes(0, MOST_TURNS), metavar="N,N,..",
+        "--turns", type=ranges.wholes(0, limits.MAX_TURNS), metavar="N,N,..",
         help="the numbers of turns to try (default: that of SETTINGS)",
     )
     parser.add_argument(
-        "--accept", type=ranges.wholes(0, MOST_ACCEPT), default=[], metavar="N,N,..",
+        "--accept", type=ranges.wholes(0, limits.MAX_ACCEPT), default=[], metavar="N,N,..",
         help="errors to try besides the least that a search sees with accept 0",
     )
     parser.add_argument(
-        "--spread", type=ranges.whole(0, spread.MOST_SPREAD), metavar="N",
+        "--spread", type=ranges.whole(0, limits.MAX_SPREAD), metavar="N",
         help="try, and write, with this spread in place of that of SETTINGS",
     )
     parser.add_argument(
         "--write", metavar="FILE", help="write the settings of the row of least error, or those of --take, to FILE"
     )
     parser.add_argument(
-        "--take", nargs=2, type=ranges.whole(0, MOST_ACCEPT), metavar=("TURNS", "ACCEPT"),
+        "--take", nargs=2, type=ranges.whole(0, limits.MAX_ACCEPT), metavar=("TURNS", "ACCEPT"),
         help="try nothing: write these two and the rest of SETTINGS",
     )
 
@@ -78,8 +74,8 @@ def run(arguments: argparse.Namespace) -> int:
     if arguments.take:
         if not arguments.write:
             raise tell.Trouble("--take needs --write FILE", tell.USAGE)
-        if arguments.take[0] > MOST_TURNS:
-            raise tell.Trouble(f"--take: {arguments.take[0]} turns are more than {MOST_TURNS}", tell.USAGE)
+        if arguments.take[0] > limits.MAX_TURNS:
+            raise tell.Trouble(f"--take: {arguments.take[0]} turns are more than {limits.MAX_TURNS}", tell.USAGE)
         tell_spread(arguments.roll, settings["spread"])
         write(arguments.write, settings, *arguments.take)
         return 0
@@ -98,7 +94,7 @@ def run(arguments: argparse.Namespace) -> int:
 
 def tell_spread(roll: str, value: object) -> None:
     """Says what the spread does on this roll, where both can be read; what is wrong with either the program tells."""
-    if isinstance(value, int) and not isinstance(value, bool) and 0 <= value <= spread.MOST_SPREAD:
+    if isinstance(value, int) and not isinstance(value, bool) and 0 <= value <= limits.MAX_SPREAD:
         try:
             students = tables.read_roll(roll)
         except tell.Trouble:

@@ -20,7 +20,7 @@ import itertools
 from dataclasses import dataclass
 from typing import Dict, Iterable, List, Sequence, Tuple
 
-from registrar import own_names, tables
+from registrar import limits, own_names, tables
 from registrar.faults import Faults
 from registrar.mapping import first_fault, parser, split
 from registrar.spelling import tidy
@@ -28,13 +28,11 @@ from registrar.spelling import tidy
 #: The settings that a variant may have, with their ranges (docs/FORMATS.md, "Settings").
 RANGES: Dict[str, Tuple[int, int]] = {
     "seed": (0, 2**64 - 1),
-    "spread": (0, 49),
-    "raise": (0, 50),
-    "turns": (0, 10_000),
-    "accept": (0, 1_000_000_000_000),
+    "spread": (0, limits.MAX_SPREAD),
+    "raise": (0, limits.MAX_RAISE),
+    "turns": (0, limits.MAX_TURNS),
+    "accept": (0, limits.MAX_ACCEPT),
 }
-
-MOST_SEATS = 9999
 
 #: So many trials one file may ask for.
 MOST_TRIALS = 64
@@ -111,10 +109,10 @@ class Reader:
     def seats_of(self, title: str, option: str, text: str, now: int) -> int:
         """A number of seats: as it stands, or `+4` or `-4` of what the catalogue has."""
         if text[:1] in ("+", "-"):
-            least, most = (0, MOST_SEATS - now) if text[0] == "+" else (0, now)
+            least, most = (0, limits.MAX_SEATS - now) if text[0] == "+" else (0, now)
             number = self.number(title, option, text[1:], least, most)
             return now + number if text[0] == "+" else now - number
-        return self.number(title, option, text, 0, MOST_SEATS)
+        return self.number(title, option, text, 0, limits.MAX_SEATS)
 
     def number(self, title: str, option: str, text: str, least: int, most: int) -> int:
         """A whole number of that range; 0, with a fault, where it is none."""

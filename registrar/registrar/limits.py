@@ -1,0 +1,28 @@
+"""The limits of the program, by the names that they have in its source (`crates/market_units/src/limits.rt`), with which the
+tests compare them. docs/FORMATS.md says where each of them holds."""
+
+MAX_STUDENTS = 2_000
+MAX_SECTIONS = 400
+MAX_MEETINGS = 10
+MAX_RATINGS = 60
+MAX_PAIRS = 200
+MAX_COURSES = 8
+MAX_SEATS = 9_999
+MAX_SECTION_CREDITS = 100
+MAX_BASE = 900_000
+MAX_CREDITS = 800
+MAX_RATING = 100
+MAX_ADJUSTMENT = 200
+MAX_PRICE = 1_000_001
+MAX_SPREAD = 49
+MAX_RAISE = 50
+MAX_ACCEPT = 1_000_000_000_000
+MAX_TURNS = 10_000
+MAX_TABU = 1_000
+MAX_PATIENCE = 10_000
+MAX_STEPS = 16
+MAX_STEP = 100_000
+MAX_SESSIONS = 64
+MAX_COMMANDS = 200_000
+MAX_INPUT_BYTES = 16_777_216
+MAX_WORKERS = 16
