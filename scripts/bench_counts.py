@@ -16,7 +16,7 @@ from pathlib import Path
 
 TOP = Path(__file__).resolve().parent.parent
 SEARCH, BELOW = "demand_oracle::oracle::search", "demand_oracle::below::"
-ROUND, WORKER = "::least_prices::", "worker_threads::"
+ROUND, WORKER = "::least_prices::", "task_board::worker::"
 NAMED = re.compile(r"(c?fn)=\((\d+)\)(?: (.*))?$")
 STARTED = re.compile(r"[0-9a-f]+ <(.*)>:$")
 LOOKED = re.compile(r" *([0-9a-f]+):\s+(?:tzcnt|rep bsf|bsf) ")

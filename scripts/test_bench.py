@@ -146,7 +146,7 @@ class Profiles(unittest.TestCase):
 
     def test_the_elimination_is_told_a_round_and_a_question(self):
         lines = ["fn=(1) run", "1 0 1", "cfn=(2) pool::least_prices::<#1a2b>", "calls=10 8 0", "1 0 5000"]
-        lines += ["fn=(3) worker_threads::in_turn", "2 0 1", "cfn=(4) demand_oracle::oracle::search", "calls=24 9 0", "2 0 2400"]
+        lines += ["fn=(3) task_board::worker::work", "2 0 1", "cfn=(4) demand_oracle::oracle::search", "calls=24 9 0", "2 0 2400"]
         lines += ["fn=(1)", "1 0 1", "cfn=(4)", "calls=1 9 0", "1 0 100"]
         lines += ["fn=(4)", "3 0 1", "cfn=(5) demand_oracle::below::below", "calls=25 7 0", "3 0 9", "fn=(5)", "7 0 250"]
         told = bench_counts.elimination(bench_counts.Profile(lines), {("demand_oracle::below::below", 7)}, 4)
