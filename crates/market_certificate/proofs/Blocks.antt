@@ -7,7 +7,6 @@ use Rattle.std.proofs.Math.Seq.{take-length}
 use Rattle.market_units.specs.declared.names.Name.{Name}
 use Rattle.market_units.specs.Name.{name_bytes}
 use Rattle.market_certificate.specs.declared.refusals.TextRefusal.{TextRefusal}
-use Rattle.market_certificate.specs.declared.refusals.LineFault.{LineFault}
 use Rattle.market_certificate.specs.declared.refusals.LineFault.TheVariants as faults
 use Rattle.market_certificate.specs.Lines.{Lacks, joined}
 use Rattle.market_certificate.specs.Tables.{Tables}
@@ -16,7 +15,7 @@ use Rattle.market_certificate.specs.Texts.{each_line, turn_line}
 use Rattle.market_certificate.specs.Due.{Form, Due, One, Turns, HasForm, IsTurnLine, StartsTurn, AreDue, Takes, each_due}
 use Rattle.market_certificate.specs.Finding.{StopsAt, Finds, OnDefect}
 use Rattle.market_certificate.proofs.Joins.{each_last}
-use Rattle.market_certificate.proofs.Steps.{AreRead, bad_turn, behind_each, behind_turns, finds_behind, joined_both, length_both, on_defect, stops_here}
+use Rattle.market_certificate.proofs.Steps.{AreRead, HasPassed, bad_turn, behind_each, behind_turns, finds_behind, joined_both, length_both, on_defect, stops_here}
 
 -- lines behind lines
 pub takes_both : (xs ys : List (List ℕ)) (number : ℕ) (text : List ℕ) (next : ℕ) (rest : List ℕ) (after : ℕ) (behind : List ℕ) → Takes xs number text next rest
@@ -92,13 +91,13 @@ read_defect tables form line P has names values k name number text next rest ref
 -- behind the lines of all names, the first defect is that of the text
 pub passes_each : {V : Type 0} (tables : Tables) (form : List ℕ → Form) (line : List ℕ → V → List ℕ) (P : V → Type 0)
     → ((name : List ℕ) (value : V) → P value → HasForm tables (form name) (line name value))
-    → (names : List (List ℕ)) (values : List V) (number : ℕ) (text : List ℕ) (next : ℕ) (rest : List ℕ) → AreFor names P values
-    → Takes (each_line line names values) number text next rest
-    → (more : List Due) (at : ℕ) (fault : LineFault) → Finds (AreDue tables more) next rest at fault
-    → Finds (AreDue tables (each_due form names ++ more)) number text at fault
-passes_each tables form line P has names values number text next rest range takes more at fault finds =
-    finds_behind (AreDue tables (each_due form names ++ more)) (AreDue tables more) (each_line line names values) number text next rest at fault
-    (behind_each tables form line P has names values more range) takes finds
+    → {names : List (List ℕ)} {values : List V} {number next : ℕ} {text rest : List ℕ} (more : List Due)
+    → AreRead line P names values number text next rest → HasPassed tables (each_due form names ++ more) more number text next rest
+passes_each tables form line P has {names} {values} {number} {next} {text} {rest} more read = record {
+  passed = λ at fault.
+      finds_behind (AreDue tables (each_due form names ++ more)) (AreDue tables more) (each_line line names values) number text next rest at fault
+      (behind_each tables form line P has names values more read.range) read.takes;
+}
 
 -- Turns were read, and their lines stand in front of the rest.
 pub record AreTurnsRead (tables : Tables) (turns : List ProvedTurn) (number : ℕ) (text : List ℕ) (next : ℕ) (rest : List ℕ) : Type 0 where
@@ -134,15 +133,19 @@ turns_defect tables turns number text next rest line after behind read takes who
     (bad_turn tables form more next rest line behind (takes.ahead ∙ append_assoc line (10 ∷ []) behind) whole begun other)
 
 -- the values of names, by another name of the list
-pub of_names : {V : Type 0} (line : List ℕ → V → List ℕ) (P : V → Type 0) (items names : List Name) (values : List V) (number : ℕ) (text : List ℕ) (next : ℕ)
-    (rest : List ℕ)
+pub of_names : {V : Type 0} (line : List ℕ → V → List ℕ) (P : V → Type 0)
+    → {items names : List Name} {values : List V} {number next : ℕ} {text rest : List ℕ}
     → items ≡ names → AreFor (map name_bytes items) P values
-    → Takes (each_line line (map name_bytes items) values) number text next rest
-    → AreFor (map name_bytes names) P values × Takes (each_line line (map name_bytes names) values) number text next rest
-of_names line P items names values number text next rest e range takes = (
-  subst (λ (ns : List Name). AreFor (map name_bytes ns) P values) e range,
-  subst (λ (ns : List Name). Takes (each_line line (map name_bytes ns) values) number text next rest) e takes,
-)
+    → Takes (each_line line (map name_bytes items) values) number text next rest → AreRead line P (map name_bytes names) values number text next rest
+of_names line P {items} {names} {values} {number} {next} {text} {rest} e range takes =
+    subst (λ (ns : List Name). AreRead line P (map name_bytes ns) values number text next rest) e (record { range = range; takes = takes })
+
+-- a defect at the names, by another name of the list
+pub defect_of_names : {items names : List Name} (number : ℕ) (text : List ℕ) (tables : Tables) (form : List ℕ → Form) (more : List Due) (refusal : TextRefusal)
+    → items ≡ names → OnDefect refusal (Finds (AreDue tables (each_due form (map name_bytes items) ++ more)) number text)
+    → OnDefect refusal (Finds (AreDue tables (each_due form (map name_bytes names) ++ more)) number text)
+defect_of_names number text tables form more refusal e =
+    subst (λ (ns : List Name). OnDefect refusal (Finds (AreDue tables (each_due form (map name_bytes ns) ++ more)) number text)) e
 
 -- what stands behind a line is shorter
 pub shorter : (line : List ℕ) (number : ℕ) (text : List ℕ) (next : ℕ) (rest : List ℕ) → Takes (line ∷ []) number text next rest → length rest < length text

@@ -1,91 +1,86 @@
 -- The parts of a text behind its order, put together.
 use Rattle.std.proofs.Common.{ℕ, ◌≡◌, ◌<◌, ◌≤◌, ◌^◌, List, [], ◌∷◌, ◌++◌, length, map, ap, sym, refl, subst, ◌∙◌}
-use Rattle.std.specs.Prelude.{All}
 use Rattle.market_certificate.specs.declared.amounts.Amount.{Amount}
 use Rattle.market_certificate.specs.declared.amounts.Amount.TheVariants as kinds
-use Rattle.market_certificate.specs.declared.refusals.LineFault.{LineFault}
 use Rattle.market_certificate.specs.declared.refusals.LineFault.TheVariants as faults
 use Rattle.market_certificate.specs.Finding.{Finds}
 use Rattle.market_certificate.specs.Lines.{joined}
 use Rattle.market_certificate.specs.Tables.{Tables}
-use Rattle.market_certificate.specs.Publications.{Proved, ProvedTurn, AreFor, IsBundleOf, IsProved, IsTurn, IsUsed}
+use Rattle.market_certificate.specs.Publications.{Proved, ProvedTurn, IsBundleOf, IsProved, IsUsed}
 use Rattle.market_certificate.specs.Texts.{amount_line, bundle_line, each_line, end_line, error_line, final_line, most_of, turn_line, used_line}
 use Rattle.market_certificate.specs.Due.{AmountForm, ArePrices, AreOutcome, AreDue, BundleForm, Due, EndForm, ErrorForm, FinalForm, Form, NoTurnNext, One, Takes, Turns, UsedForm, each_due}
-use Rattle.market_certificate.proofs.Blocks.{passes_each}
+use Rattle.market_certificate.proofs.Blocks.{AreTurnsRead, passes_each}
 use Rattle.market_certificate.proofs.Joins.{joined_append}
-use Rattle.market_certificate.proofs.Steps.{behind_one, behind_turns, finds_behind, finds_behind_turns, rest_behind}
+use Rattle.market_certificate.proofs.Steps.{AreRead, HasPassed, behind_one, behind_turns, finds_behind, finds_behind_turns, passes_one, rest_behind}
+
+-- what is due behind the first prices, and behind the budgets
+abbrev pub error_due : Tables → List Due → List Due
+error_due tables more = One ErrorForm ∷ (each_due (AmountForm kinds.Price) tables.sections ++ more)
+
+abbrev pub start_due : Tables → List Due → List Due
+start_due tables more = each_due (AmountForm kinds.Start) tables.sections ++ error_due tables more
+
+-- what is due behind the final bundles, and behind the turns
+abbrev pub used_due : Tables → List Due
+used_due tables = each_due UsedForm tables.sections ++ One EndForm ∷ []
+
+abbrev pub finals_due : Tables → List Due
+finals_due tables = each_due FinalForm tables.students ++ used_due tables
 
 -- amounts of one kind behind which the first defect is the text's
-pub passes_amounts : (tables : Tables) (kind : Amount) (names : List (List ℕ)) (values : List ℕ) (number : ℕ) (text : List ℕ) (next : ℕ) (rest : List ℕ)
-    → AreFor names (λ tokens. tokens ≤ most_of kind) values
-    → Takes (each_line (amount_line kind) names values) number text next rest → (more : List Due) (at : ℕ) (fault : LineFault)
-    → Finds (AreDue tables more) next rest at fault
-    → Finds (AreDue tables (each_due (AmountForm kind) names ++ more)) number text at fault
-passes_amounts tables kind names values number text next rest range takes =
-    passes_each tables (AmountForm kind) (amount_line kind) (λ tokens. tokens ≤ most_of kind) (λ name value is. (value, is, refl)) names values number text next
-    rest range takes
-
-pub passes_error : (tables : Tables) (error number : ℕ) (text : List ℕ) (next : ℕ) (rest : List ℕ) → error < 2 ^ 64
-    → Takes (error_line error ∷ []) number text next rest → (more : List Due) (at : ℕ) (fault : LineFault)
-    → Finds (AreDue tables more) next rest at fault → Finds (AreDue tables (One ErrorForm ∷ more)) number text at fault
-passes_error tables error number text next rest small takes more at fault finds =
-    finds_behind (AreDue tables (One ErrorForm ∷ more)) (AreDue tables more) (error_line error ∷ []) number text next rest at fault
-    (behind_one tables ErrorForm more (error_line error) (error, small, refl)) takes finds
+pub passes_amounts : {names : List (List ℕ)} {values : List ℕ} {number next : ℕ} {text rest : List ℕ} (tables : Tables) (kind : Amount) (more : List Due)
+    → AreRead (amount_line kind) (λ tokens. tokens ≤ most_of kind) names values number text next rest
+    → HasPassed tables (each_due (AmountForm kind) names ++ more) more number text next rest
+passes_amounts tables kind more read =
+    passes_each tables (AmountForm kind) (amount_line kind) (λ tokens. tokens ≤ most_of kind) (λ name value is. (value, is, refl)) more read
 
 -- the text that lines and a text of lines are
 both_are : (lines more : List (List ℕ)) (text rest : List ℕ) → text ≡ joined lines ++ rest → rest ≡ joined more → text ≡ joined (lines ++ more)
 both_are lines more text rest e e' = e ∙ ap (λ t. joined lines ++ t) e' ∙ sym (joined_append lines more)
 
-pub prices_read : (tables : Tables) (budgets start : List ℕ) (error : ℕ) (prices : List ℕ) (n1 n2 n3 n4 n5 : ℕ) (t1 t2 t3 t4 t5 : List ℕ)
-    → AreFor tables.students (λ tokens. tokens ≤ most_of kinds.Budget) budgets
-    → Takes (each_line (amount_line kinds.Budget) tables.students budgets) n1 t1 n2 t2
-    → AreFor tables.sections (λ tokens. tokens ≤ most_of kinds.Start) start → Takes (each_line (amount_line kinds.Start) tables.sections start) n2 t2 n3 t3
+pub prices_read : {budgets start prices : List ℕ} {n1 n2 n3 n4 n5 : ℕ} {t1 t2 t3 t4 t5 : List ℕ} (tables : Tables) (error : ℕ)
+    → AreRead (amount_line kinds.Budget) (λ tokens. tokens ≤ most_of kinds.Budget) tables.students budgets n1 t1 n2 t2
+    → AreRead (amount_line kinds.Start) (λ tokens. tokens ≤ most_of kinds.Start) tables.sections start n2 t2 n3 t3
     → error < 2 ^ 64 → Takes (error_line error ∷ []) n3 t3 n4 t4
-    → AreFor tables.sections (λ tokens. tokens ≤ most_of kinds.Price) prices → Takes (each_line (amount_line kinds.Price) tables.sections prices) n4 t4 n5 t5
+    → AreRead (amount_line kinds.Price) (λ tokens. tokens ≤ most_of kinds.Price) tables.sections prices n4 t4 n5 t5
     → ArePrices tables budgets start error prices n1 t1 n5 t5
-prices_read tables budgets start error prices n1 n2 n3 n4 n5 t1 t2 t3 t4 t5 r1 k1 r2 k2 small k3 r4 k4 = record {
-  each_budget = r1;
-  each_start = r2;
+prices_read {budgets} {start} {prices} {n1} {n2} {n3} {n4} {n5} {t1} {t2} {t3} {t4} {t5} tables error b s small e p = record {
+  each_budget = b.range;
+  each_start = s.range;
   small_error = small;
-  each_price = r4;
-  whole = λ more e.
-      both_are (each_line (amount_line kinds.Budget) tables.students budgets) _ t1 t2 k1.ahead (
-      both_are (each_line (amount_line kinds.Start) tables.sections start) _ t2 t3 k2.ahead (
-      both_are (error_line error ∷ []) _ t3 t4 k3.ahead (both_are (each_line (amount_line kinds.Price) tables.sections prices) more t4 t5 k4.ahead e)
+  each_price = p.range;
+  whole = λ more is.
+      both_are (each_line (amount_line kinds.Budget) tables.students budgets) _ t1 t2 b.takes.ahead (
+      both_are (each_line (amount_line kinds.Start) tables.sections start) _ t2 t3 s.takes.ahead (
+      both_are (error_line error ∷ []) _ t3 t4 e.ahead (both_are (each_line (amount_line kinds.Price) tables.sections prices) more t4 t5 p.takes.ahead is)
       )
       );
   passed = λ more at fault finds.
-      passes_amounts tables kinds.Budget tables.students budgets n1 t1 n2 t2 r1 k1 _ at fault (
-      passes_amounts tables kinds.Start tables.sections start n2 t2 n3 t3 r2 k2 _ at fault (
-      passes_error tables error n3 t3 n4 t4 small k3 _ at fault (passes_amounts tables kinds.Price tables.sections prices n4 t4 n5 t5 r4 k4 more at fault finds)
+      (passes_amounts tables kinds.Budget (start_due tables more) b).passed at fault (
+      (passes_amounts tables kinds.Start (error_due tables more) s).passed at fault (
+      (passes_one tables ErrorForm _ (error_line error) (error, small, refl) e).passed at fault (
+      (passes_amounts tables kinds.Price more p).passed at fault finds
+      )
       )
       );
 }
 
-pub passes_bundles : (tables : Tables) (values : List Proved) (number : ℕ) (text : List ℕ) (next : ℕ) (rest : List ℕ)
-    → AreFor tables.students (IsProved tables.sections) values
-    → Takes (each_line (bundle_line tables.sections) tables.students values) number text next rest → (more : List Due) (at : ℕ) (fault : LineFault)
-    → Finds (AreDue tables more) next rest at fault
-    → Finds (AreDue tables (each_due BundleForm tables.students ++ more)) number text at fault
-passes_bundles tables values number text next rest range takes =
-    passes_each tables BundleForm (bundle_line tables.sections) (IsProved tables.sections) (λ name value is. (value, is, refl)) tables.students values number
-    text next rest range takes
+pub passes_bundles : {values : List Proved} {number next : ℕ} {text rest : List ℕ} (tables : Tables) (more : List Due)
+    → AreRead (bundle_line tables.sections) (IsProved tables.sections) tables.students values number text next rest
+    → HasPassed tables (each_due BundleForm tables.students ++ more) more number text next rest
+passes_bundles tables more read =
+    passes_each tables BundleForm (bundle_line tables.sections) (IsProved tables.sections) (λ name value is. (value, is, refl)) more read
 
-pub passes_finals : (tables : Tables) (values : List (List ℕ)) (number : ℕ) (text : List ℕ) (next : ℕ) (rest : List ℕ)
-    → AreFor tables.students (IsBundleOf tables.sections) values
-    → Takes (each_line (final_line tables.sections) tables.students values) number text next rest → (more : List Due) (at : ℕ) (fault : LineFault)
-    → Finds (AreDue tables more) next rest at fault
-    → Finds (AreDue tables (each_due FinalForm tables.students ++ more)) number text at fault
-passes_finals tables values number text next rest range takes =
-    passes_each tables FinalForm (final_line tables.sections) (IsBundleOf tables.sections) (λ name value is. (value, is, refl)) tables.students values number
-    text next rest range takes
+pub passes_finals : {values : List (List ℕ)} {number next : ℕ} {text rest : List ℕ} (tables : Tables) (more : List Due)
+    → AreRead (final_line tables.sections) (IsBundleOf tables.sections) tables.students values number text next rest
+    → HasPassed tables (each_due FinalForm tables.students ++ more) more number text next rest
+passes_finals tables more read =
+    passes_each tables FinalForm (final_line tables.sections) (IsBundleOf tables.sections) (λ name value is. (value, is, refl)) more read
 
-pub passes_seats : (tables : Tables) (values : List (ℕ × ℕ)) (number : ℕ) (text : List ℕ) (next : ℕ) (rest : List ℕ) → AreFor tables.sections IsUsed values
-    → Takes (each_line used_line tables.sections values) number text next rest → (more : List Due) (at : ℕ) (fault : LineFault)
-    → Finds (AreDue tables more) next rest at fault
-    → Finds (AreDue tables (each_due UsedForm tables.sections ++ more)) number text at fault
-passes_seats tables values number text next rest range takes =
-    passes_each tables UsedForm used_line IsUsed (λ name value is. (value, is, refl)) tables.sections values number text next rest range takes
+pub passes_seats : {values : List (ℕ × ℕ)} {number next : ℕ} {text rest : List ℕ} (tables : Tables) (more : List Due)
+    → AreRead used_line IsUsed tables.sections values number text next rest
+    → HasPassed tables (each_due UsedForm tables.sections ++ more) more number text next rest
+passes_seats tables more read = passes_each tables UsedForm used_line IsUsed (λ name value is. (value, is, refl)) more read
 
 -- some line is due behind the turns
 record BeginsWith (due : List Due) : Type 0 where
@@ -100,24 +95,24 @@ begins_with (student ∷ students) sections =
     record { form = FinalForm student; more = each_due FinalForm students ++ (each_due UsedForm sections ++ One EndForm ∷ []); is = refl }
 
 -- what is said of a text for each form that may be due behind the turns
-pub at_turns : (tables : Tables) (P : List Due → Type 0) → ((form : Form) (more : List Due) → P (Turns ∷ One form ∷ more))
-    → P (Turns ∷ (each_due FinalForm tables.students ++ (each_due UsedForm tables.sections ++ One EndForm ∷ [])))
+pub at_turns : (tables : Tables) (P : List Due → Type 0) → ((form : Form) (more : List Due) → P (Turns ∷ One form ∷ more)) → P (Turns ∷ finals_due tables)
 at_turns tables P each = let begun = begins_with tables.students tables.sections in subst (λ due. P (Turns ∷ due)) (sym begun.is) (each begun.form begun.more)
 
 -- behind the turns, the first defect is the text's
-pub passes_turns : (tables : Tables) (turns : List ProvedTurn) (number : ℕ) (text : List ℕ) (next : ℕ) (rest : List ℕ)
-    → All (IsTurn tables.students tables.sections) turns
-    → Takes (map (turn_line tables.students tables.sections) turns) number text next rest → NoTurnNext rest → (at : ℕ) (fault : LineFault)
-    → Finds (AreDue tables (each_due FinalForm tables.students ++ (each_due UsedForm tables.sections ++ One EndForm ∷ []))) next rest at fault
-    → Finds (AreDue tables (Turns ∷ (each_due FinalForm tables.students ++ (each_due UsedForm tables.sections ++ One EndForm ∷ [])))) number text at fault
-passes_turns tables turns number text next rest range takes none at fault finds =
+pub passes_turns : {turns : List ProvedTurn} {number next : ℕ} {text rest : List ℕ} (tables : Tables) → AreTurnsRead tables turns number text next rest
+    → NoTurnNext rest → HasPassed tables (Turns ∷ finals_due tables) (finals_due tables) number text next rest
+passes_turns {turns} {number} {next} {text} {rest} tables read none =
     let begun = begins_with tables.students tables.sections in
-    subst (λ due. Finds (AreDue tables (Turns ∷ due)) number text at fault) (sym begun.is) (
-    finds_behind (AreDue tables (Turns ∷ One begun.form ∷ begun.more)) (AreDue tables (Turns ∷ One begun.form ∷ begun.more))
-    (map (turn_line tables.students tables.sections) turns) number text next rest at fault
-    (behind_turns tables turns (One begun.form ∷ begun.more) range) takes
-    (finds_behind_turns tables begun.form begun.more next rest at fault none (subst (λ due. Finds (AreDue tables due) next rest at fault) begun.is finds))
-    )
+    let due = Turns ∷ One begun.form ∷ begun.more in
+    record {
+      passed = λ at fault finds.
+          subst (λ behind. Finds (AreDue tables (Turns ∷ behind)) number text at fault) (sym begun.is) (
+          finds_behind (AreDue tables due) (AreDue tables due) (map (turn_line tables.students tables.sections) turns) number text next rest at fault
+          (behind_turns tables turns (One begun.form ∷ begun.more) read.range) read.takes
+          (finds_behind_turns tables begun.form begun.more next rest at fault none
+          (subst (λ behind. Finds (AreDue tables behind) next rest at fault) begun.is finds))
+          );
+    }
 
 -- bytes behind the last line
 pub behind_end : (tables : Tables) (number : ℕ) (text : List ℕ) (next : ℕ) (rest : List ℕ) → Takes (end_line ∷ []) number text next rest → 0 < length rest
@@ -126,23 +121,23 @@ behind_end tables number text next rest takes some =
     finds_behind (AreDue tables (One EndForm ∷ [])) (AreDue tables []) (end_line ∷ []) number text next rest next faults.Rest
     (behind_one tables EndForm [] end_line refl) takes (rest_behind tables next rest some)
 
-pub outcome_read : (tables : Tables) (bundles : List Proved) (turns : List ProvedTurn) (allocation : List (List ℕ)) (used : List (ℕ × ℕ))
-    (n1 n2 n3 n4 n5 n6 : ℕ) (t1 t2 t3 t4 t5 t6 : List ℕ)
-    → AreFor tables.students (IsProved tables.sections) bundles → Takes (each_line (bundle_line tables.sections) tables.students bundles) n1 t1 n2 t2
-    → All (IsTurn tables.students tables.sections) turns → Takes (map (turn_line tables.students tables.sections) turns) n2 t2 n3 t3
-    → AreFor tables.students (IsBundleOf tables.sections) allocation → Takes (each_line (final_line tables.sections) tables.students allocation) n3 t3 n4 t4
-    → AreFor tables.sections IsUsed used → Takes (each_line used_line tables.sections used) n4 t4 n5 t5 → Takes (end_line ∷ []) n5 t5 n6 t6 → t6 ≡ []
+pub outcome_read : {bundles : List Proved} {turns : List ProvedTurn} {allocation : List (List ℕ)} {used : List (ℕ × ℕ)} {n1 n2 n3 n4 n5 n6 : ℕ}
+    {t1 t2 t3 t4 t5 t6 : List ℕ} (tables : Tables)
+    → AreRead (bundle_line tables.sections) (IsProved tables.sections) tables.students bundles n1 t1 n2 t2
+    → AreTurnsRead tables turns n2 t2 n3 t3
+    → AreRead (final_line tables.sections) (IsBundleOf tables.sections) tables.students allocation n3 t3 n4 t4
+    → AreRead used_line IsUsed tables.sections used n4 t4 n5 t5 → Takes (end_line ∷ []) n5 t5 n6 t6 → t6 ≡ []
     → AreOutcome tables bundles turns allocation used t1
-outcome_read tables bundles turns allocation used n1 n2 n3 n4 n5 n6 t1 t2 t3 t4 t5 t6 r1 k1 r2 k2 r3 k3 r4 k4 k5 none = record {
-  each_bundle = r1;
-  each_turn = r2;
-  each_final = r3;
-  each_seats = r4;
+outcome_read {bundles} {turns} {allocation} {used} {n1} {n2} {n3} {n4} {n5} {n6} {t1} {t2} {t3} {t4} {t5} {t6} tables b t f u e none = record {
+  each_bundle = b.range;
+  each_turn = t.range;
+  each_final = f.range;
+  each_seats = u.range;
   whole =
-      both_are (each_line (bundle_line tables.sections) tables.students bundles) _ t1 t2 k1.ahead (
-      both_are (map (turn_line tables.students tables.sections) turns) _ t2 t3 k2.ahead (
-      both_are (each_line (final_line tables.sections) tables.students allocation) _ t3 t4 k3.ahead (
-      both_are (each_line used_line tables.sections used) _ t4 t5 k4.ahead (both_are (end_line ∷ []) [] t5 t6 k5.ahead none)
+      both_are (each_line (bundle_line tables.sections) tables.students bundles) _ t1 t2 b.takes.ahead (
+      both_are (map (turn_line tables.students tables.sections) turns) _ t2 t3 t.takes.ahead (
+      both_are (each_line (final_line tables.sections) tables.students allocation) _ t3 t4 f.takes.ahead (
+      both_are (each_line used_line tables.sections used) _ t4 t5 u.takes.ahead (both_are (end_line ∷ []) [] t5 t6 e.ahead none)
       )
       )
       );

@@ -211,6 +211,36 @@ pub on_defect : (refusal : TextRefusal) (P Q : ℕ → LineFault → Type 0) →
 on_defect (refusals.Defect at fault) P Q each is = each at fault is
 on_defect refusals.NoMemory P Q each is = tt
 
+-- What is left is due behind what was read: the first defect of the rest is that of the text.
+pub record HasPassed (tables : Tables) (due left : List Due) (number : ℕ) (text : List ℕ) (next : ℕ) (rest : List ℕ) : Type 0 where
+  pub passed : (at : ℕ) (fault : LineFault) → Finds (AreDue tables left) next rest at fault → Finds (AreDue tables due) number text at fault
+
+pub pass_both : {tables : Tables} {due left more : List Due} {number next after : ℕ} {text rest behind : List ℕ}
+    → HasPassed tables due left number text next rest → HasPassed tables left more next rest after behind → HasPassed tables due more number text after behind
+pass_both a b = record { passed = λ at fault finds. a.passed at fault (b.passed at fault finds) }
+
+-- a defect of what is left
+pub defect_passed : {tables : Tables} {due left : List Due} {number next : ℕ} {text rest : List ℕ} (refusal : TextRefusal)
+    → HasPassed tables due left number text next rest → OnDefect refusal (Finds (AreDue tables left) next rest)
+    → OnDefect refusal (Finds (AreDue tables due) number text)
+defect_passed refusal has = on_defect refusal _ _ has.passed
+
+-- no line of the form that is due is next
+pub stop_passed : {tables : Tables} {due : List Due} {number next : ℕ} {text rest : List ℕ} (refusal : TextRefusal) (form : Form) (more : List Due)
+    → HasPassed tables due (One form ∷ more) number text next rest → OnDefect refusal (StopsAt (HasForm tables form) next rest)
+    → OnDefect refusal (Finds (AreDue tables due) number text)
+stop_passed {tables} {due} {number} {next} {text} {rest} refusal form more has =
+    on_defect refusal _ _ (λ at fault stop. has.passed at fault (stops_here tables form more next rest at fault stop))
+
+-- one line of the form that is due
+pub passes_one : {number next : ℕ} {text rest : List ℕ} (tables : Tables) (form : Form) (more : List Due) (line : List ℕ) → HasForm tables form line
+    → Takes (line ∷ []) number text next rest → HasPassed tables (One form ∷ more) more number text next rest
+passes_one {number} {next} {text} {rest} tables form more line has takes = record {
+  passed = λ at fault.
+      finds_behind (AreDue tables (One form ∷ more)) (AreDue tables more) (line ∷ []) number text next rest at fault
+      (behind_one tables form more line has) takes;
+}
+
 -- Values were read for these names, and their lines stand in front of the rest.
 pub record AreRead {V : Type 0} (line : List ℕ → V → List ℕ) (P : V → Type 0) (names : List (List ℕ)) (values : List V) (number : ℕ) (text : List ℕ) (next : ℕ)
     (rest : List ℕ) : Type 0 where
